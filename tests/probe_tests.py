@@ -97,7 +97,7 @@ def lacking(case, found):
         words = case.rows[line - 1].split()
         is_first = stop is None or "reuse" in words and int(stop, 0) == int(words[words.index("reuse") + 1], 0)
         return line if (left == "unchanged") == is_first else None
-    # Settling and a run answer by themselves that they found none.
+    # Settling, a run and a thread that isn't started answer by themselves that they found none.
     answers = output.splitlines()
     if errors or len(answers) != len(case.answers):
         return None
@@ -114,7 +114,7 @@ def is_lacking(verb, usual, answer):
         done, _, stop = answer.rpartition("; stopped at ")
         count = 0 if done == "no answers" else done.count(",") + 1
         return stop == f"{count}: out of memory" and (count == 0 or usual.startswith(f"{done}, "))
-    return (verb, answer) == ("settle", "memory")
+    return (verb, answer) in (("settle", "memory"), ("parallel", "worker not started"))
 
 
 def rates(record):

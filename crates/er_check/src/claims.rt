@@ -1,7 +1,6 @@
 //! What an explanation claims of an access.
-ghost use Rattle.std.specs.Prelude.{◌≡◌, ◌≤◌, ◌==◌, ◌&&◌, ◌↔◌, not, All, IfOk, IsTrue};
+ghost use Rattle.std.specs.Prelude.{◌≡◌, ◌≤◌, ◌↔◌, All, IfOk, IsTrue};
 ghost use Rattle.er_model.specs.Explanations.{times_listed};
-ghost use Rattle.er_model.specs.Words.{counts, thread_of, writes};
 ghost use Rattle.er_check.specs.Access.{access_mark};
 ghost use Rattle.er_check.specs.Claims.{Agrees, FitsPair, IsLeast, ListsOnce};
 
@@ -25,44 +24,24 @@ impl Claims<'_> {
         ensures { IfOk result (λ yes. IsTrue yes
             ↔ Agrees access.now.word self.now.start self.now.first_thread self.now.explanation.now access.now.at (access_mark access.now)) }
     {
-        if !self.agrees_on_first(access)
-            || !self.agrees_on_join(access)
-            || !self.agrees_on_write(access)
+        let explanation = self.explanation;
+        let by_another = access.counts_by_another(self.first_thread);
+        if !is_least(self.start, explanation.first, access.at, access.counts())
+            || !is_least(self.start, explanation.join, access.at, by_another)
+            || !is_least(
+                explanation.join,
+                explanation.write,
+                access.at,
+                access.counts_as_write(),
+            )
         {
             return Ok(false);
         }
-        let explanation = self.explanation;
         if access.at == explanation.join {
             let cover = access.cover(alloc)?;
             return Ok(list_once(explanation, &cover));
         }
         Ok(pairs_fit(explanation, access))
-    }
-
-    fn agrees_on_first(&self, access: &Access<'_>) -> bool
-        ensures { IsTrue result ↔ IsLeast self.now.start self.now.explanation.now.first access.now.at
-            (counts (access_mark access.now) access.now.word) }
-    {
-        let explanation = self.explanation;
-        is_least(self.start, explanation.first, access.at, access.counts())
-    }
-
-    fn agrees_on_join(&self, access: &Access<'_>) -> bool
-        ensures { IsTrue result ↔ IsLeast self.now.start self.now.explanation.now.join access.now.at
-            (counts (access_mark access.now) access.now.word && not (self.now.first_thread == thread_of (access_mark access.now))) }
-    {
-        let explanation = self.explanation;
-        let passes = access.counts_by_another(self.first_thread);
-        is_least(self.start, explanation.join, access.at, passes)
-    }
-
-    fn agrees_on_write(&self, access: &Access<'_>) -> bool
-        ensures { IsTrue result ↔ IsLeast self.now.explanation.now.join self.now.explanation.now.write access.now.at
-            (counts (access_mark access.now) access.now.word && writes (access_mark access.now)) }
-    {
-        let explanation = self.explanation;
-        let passes = access.counts_as_write();
-        is_least(explanation.join, explanation.write, access.at, passes)
     }
 }
 

@@ -1,6 +1,9 @@
--- How many threads clocks have room for: those with the numbers below 65,536. Threads of a trace are numbered as they appear.
-use Rattle.std.specs.Prelude.{ℕ, ◌<◌, nat_le, Bool, false, ◌||◌, IsTrue, List, length, Option, Some, None}
+-- The limits of clocks. Threads of a trace are numbered as they appear, and clocks have room for those with the numbers below 65,536.
+use Rattle.std.specs.Prelude.{ℕ, ◌≡◌, ◌<◌, ◌≤◌, ◌-◌, ◌^◌, nat_le, Bool, false, ◌||◌, IsTrue, List, length, Option, Some, None, IfSome}
+use Rattle.er_clock.specs.declared.clock.Limit.{Limit}
+use Rattle.er_clock.specs.declared.clock.Limit.TheVariants as limit
 use Rattle.er_event.specs.declared.steps.Step.{Step}
+use Rattle.er_order.specs.Clocks.{Clocks, OfThread, flows, clocks_at}
 use Rattle.er_order.specs.Order.{Effect, Started, Joined, Local, Act, acts_of}
 
 -- the thread comes after the first 65,536
@@ -19,8 +22,23 @@ abbrev pub crowds : Option Act → Bool
 crowds None = false
 crowds (Some a) = crowds_by a.thread a.sync
 
--- one of the steps does so
-pub record CrowdsIn (steps : List Step) : Type 0 where
+-- the act makes thread t's clock flow into another one
+abbrev pub act_flows : Option Act → ℕ → Bool
+act_flows None t = false
+act_flows (Some a) t = flows a t
+
+-- the act's thread knows a step of a thread after the first 128
+abbrev pub KnowsLater : Clocks → Option Act → Type 0
+KnowsLater clocks act = IfSome act (λ a. (u : ℕ) × (128 ≤ u) × (0 < clocks (OfThread a.thread) u))
+
+-- the act may be beyond the limit of these clocks: a count that would rise is the greatest, the act crowds, or its thread knows a later one
+abbrev pub IsBeyond : Limit → Clocks → Option Act → Type 0
+IsBeyond limit.Count clocks act = (t : ℕ) × IsTrue (act_flows act t) × (clocks (OfThread t) t ≡ 2 ^ 32 - 1)
+IsBeyond limit.Threads clocks act = IsTrue (crowds act)
+IsBeyond limit.Clocks clocks act = KnowsLater clocks act
+
+-- one of the steps is
+pub record BeyondIn (limit : Limit) (steps : List Step) : Type 0 where
   pub at : ℕ
   pub within : at < length steps
-  pub full : IsTrue (crowds (acts_of steps at))
+  pub beyond : IsBeyond limit (clocks_at (acts_of steps) at) (acts_of steps at)

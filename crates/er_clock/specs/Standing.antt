@@ -4,7 +4,7 @@ use Rattle.er_event.specs.declared.steps.Mode.TheVariants.{Read, Write}
 use Rattle.er_model.specs.Holdings.{refused_by, holdings_at}
 use Rattle.er_event.specs.declared.steps.Step.{Step}
 use Rattle.er_order.specs.Order.{Act, sync_of, acts_of}
-use Rattle.er_order.specs.Clocks.{Keeper, OfThread, OfReleases, OfObject, flows, clocks_after, clocks_at}
+use Rattle.er_order.specs.Clocks.{Keeper, OfThread, OfReleases, OfObject, clocks_after, clocks_at}
 use Rattle.er_clock.specs.Table.{known_by}
 use Rattle.er_clock.specs.Counts.{ClockMap, known_to}
 
@@ -34,11 +34,6 @@ Moves before act after = (k : Keeper) (u : ℕ) → counts after k u ≡ clocks_
 abbrev pub act_if : Bool → Step → Option Act
 act_if true step = Some (record { thread = step.thread; sync = sync_of step.event })
 act_if false step = None
-
--- the act makes thread t's clock flow into another one
-abbrev pub act_flows : Option Act → ℕ → Bool
-act_flows None t = false
-act_flows (Some a) t = flows a t
 
 -- the counts are those of the clocks at the end of the list
 abbrev pub StandsForClocksOf : ClockMaps → List Step → Type 0

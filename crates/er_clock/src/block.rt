@@ -4,6 +4,7 @@ ghost use Rattle.er_order.specs.ClockLists.{merged, ticked};
 ghost use Rattle.er_clock.specs.Clock.{count_in_block};
 ghost use Rattle.er_clock.specs.Inner.Merging.{padded, lengthened};
 
+use crate::room::{Mark, Room};
 use crate::rows::Part;
 use std::alloc::{AllocError, Global};
 use std::marker::Model;
@@ -144,8 +145,7 @@ fn raise(counts: &mut Vec<u32>, others: &Vec<u32>)
 /// A block that clocks share. It never changes.
 #[derive(Drop)]
 pub(crate) struct Shared {
-    block: Rc<Block>,
-    alloc: Global,
+    block: Rc<(Block, Mark)>,
 }
 
 impl Model for Shared {
@@ -153,16 +153,16 @@ impl Model for Shared {
 
     ghost Value = { List ℕ };
 
-    ghost view = { λ s. s.block.value };
+    ghost view = { λ s. s.block.value.0 };
 }
 
 impl Shared {
     // The block, to be shared.
-    fn new(alloc: Global, block: Block) -> Result<Shared, AllocError>
+    fn new(room: &Room, block: Block) -> Result<Shared, AllocError>
         ensures { IfOk result (λ shared. shared ≡ block) }
     {
-        match Rc::new(alloc, block) {
-            Ok(block) => Ok(Shared { block, alloc }),
+        match Rc::new(room.alloc, (block, room.block()?)) {
+            Ok(block) => Ok(Shared { block }),
             Err(_) => Err(AllocError),
         }
     }
@@ -171,7 +171,7 @@ impl Shared {
     fn block(&self) -> &Block
         ensures { result.now ≡ self.now }
     {
-        self.block.as_ref()
+        &self.block.as_ref().0
     }
 }
 
@@ -184,8 +184,8 @@ impl Part for Shared {
 
     const WIDTH: usize = BLOCK;
 
-    fn empty(alloc: Global) -> Result<Self, AllocError> {
-        Shared::new(alloc, Block::new(alloc))
+    fn empty(room: &Room) -> Result<Self, AllocError> {
+        Shared::new(room, Block::new(room.alloc))
     }
 
     fn count(&self, place: usize) -> u32 {
@@ -198,13 +198,10 @@ impl Part for Shared {
 
     fn again(&self) -> Result<Self, AllocError> {
         let block = self.block.clone()?;
-        Ok(Shared {
-            block,
-            alloc: self.alloc,
-        })
+        Ok(Shared { block })
     }
 
-    fn joined(&self, other: &Self) -> Result<Self, AllocError> {
+    fn joined(&self, other: &Self, room: &Room) -> Result<Self, AllocError> {
         let (one, two) = (self.block(), other.block());
         if two.covers(one) {
             return other.again();
@@ -214,13 +211,13 @@ impl Part for Shared {
         }
         let mut block = one.copy()?;
         block.join(two)?;
-        Shared::new(self.alloc, block)
+        Shared::new(room, block)
     }
 
-    fn ticked(&self, place: usize) -> Result<Self, AllocError> {
+    fn ticked(&self, place: usize, room: &Room) -> Result<Self, AllocError> {
         let mut block = self.block().copy()?;
         block.tick(place)?;
-        Shared::new(self.alloc, block)
+        Shared::new(room, block)
     }
 
     ghost is_wide = { Prim.search rules };

@@ -5,9 +5,10 @@ ghost use Rattle.er_event.specs.declared.steps.Step.{Step as Steps};
 ghost use Rattle.er_order.specs.Order.{Effect, sync_of, effect_of};
 ghost use Rattle.er_order.specs.Clocks.{OfThread};
 ghost use Rattle.er_clock.specs.Counts.{count_by};
-ghost use Rattle.er_clock.specs.Crowding.{is_late, crowds, crowds_by};
+ghost use Rattle.er_clock.specs.Crowding.{is_late, crowds, crowds_by, act_flows, IsBeyond};
+ghost use Rattle.er_clock.specs.declared.clock.Limit.{Limit as Limits};
 
-use crate::clock::NoTick;
+use crate::clock::{Limit, NoTick};
 use crate::table::ClockTable;
 use crate::takers::Takers;
 use crate::threads::{ThreadClock, ThreadClocks};
@@ -39,7 +40,7 @@ impl Model for Clocks {
 }
 
 impl Clocks {
-    ghost use Rattle.er_clock.specs.Standing.{counts, SameCounts, Moves, act_if, act_flows, StandsForClocksOf, is_accepted};
+    ghost use Rattle.er_clock.specs.Standing.{counts, SameCounts, Moves, act_if, StandsForClocksOf, is_accepted};
 
     /// The clocks before any step: each thread knows its own count alone, which begins at 1.
     pub fn new(alloc: Global) -> Self
@@ -66,23 +67,27 @@ impl Clocks {
     /// step may be tried again.
     ///
     /// # Errors
-    /// `ThreadsFull`: an accepted step that orders threads is by a thread whose number is 65,536 or more, or starts or joins one. Else
-    /// `CountFull`: a thread's own count would rise, and is the greatest. `OutOfMemory`: memory was refused.
+    /// `Limit::Threads`: an accepted step that orders threads is by a thread whose number is 65,536 or more, or starts or joins one. Else
+    /// `Limit::Clocks`: the clocks are too large, and its thread knows a step of a thread after the first 128. Else `Limit::Count`: a thread's
+    /// own count would rise, and is the greatest. `OutOfMemory`: memory was refused.
     pub fn follow(&mut self, step: &Step, accepted: bool) -> Result<(), NoTick>
         ensures goes_on { (steps : List Steps) → StandsForClocksOf self.old steps → accepted ≡ is_accepted steps step.now
             → OnOk result (StandsForClocksOf self.new (steps ++ step.now ∷ [])) }
         ensures err { OnErr result (SameCounts self.old self.new) }
-        ensures full { IsErrOf result NoTick.CountFull
-            → (t : ℕ) × IsTrue (act_flows (act_if accepted step.now) t) × (counts self.old (OfThread t) t ≡ 2 ^ 32 - 1) }
-        ensures crowded { IsErrOf result NoTick.ThreadsFull ↔ IsTrue (crowds (act_if accepted step.now)) }
+        ensures limit { (limit : Limits) → IsErrOf result (NoTick.Beyond limit) → IsBeyond limit (counts self.old) (act_if accepted step.now) }
+        ensures crowded { IsErrOf result (NoTick.Beyond Limit.Threads) ↔ IsTrue (crowds (act_if accepted step.now)) }
 
         // The same by the clocks' own counts.
         ensures moves { OnOk result (Moves self.old (act_if accepted step.now) self.new) }
     {
         if accepted {
             if crowds(step.thread, step.event) {
-                return Err(NoTick::ThreadsFull);
+                return Err(NoTick::Beyond(Limit::Threads));
             }
+            if self.threads.is_large(step.thread) {
+                return Err(NoTick::Beyond(Limit::Clocks));
+            }
+            self.threads.grow()?;
             self.take(step.thread, step.event)
         } else {
             Ok(())
@@ -93,9 +98,9 @@ impl Clocks {
     fn take(&mut self, thread: ThreadId, event: Event) -> Result<(), NoTick>
         ensures ok { OnOk result (Moves self.old (Some (record { thread = thread; sync = sync_of event })) self.new) }
         ensures err { OnErr result (SameCounts self.old self.new) }
-        ensures full { IsErrOf result NoTick.CountFull
+        ensures full { IsErrOf result (NoTick.Beyond Limit.Count)
             → (t : ℕ) × IsTrue (act_flows (Some (record { thread = thread; sync = sync_of event })) t) × (counts self.old (OfThread t) t ≡ 2 ^ 32 - 1) }
-        ensures threads { IsErrOf result NoTick.ThreadsFull → ⊥ }
+        ensures others { (limit : Limits) → IsErrOf result (NoTick.Beyond limit) → limit ≡ Limit.Count }
     {
         match event {
             Event::Acquire(lock, mode) => {
@@ -117,9 +122,9 @@ impl Clocks {
     fn synchronize(&mut self, thread: ThreadId, sync: Sync) -> Result<(), NoTick>
         ensures ok { OnOk result (Moves self.old (Some (record { thread = thread; sync = effect_of sync })) self.new) }
         ensures err { OnErr result (SameCounts self.old self.new) }
-        ensures full { IsErrOf result NoTick.CountFull
+        ensures full { IsErrOf result (NoTick.Beyond Limit.Count)
             → (t : ℕ) × IsTrue (act_flows (Some (record { thread = thread; sync = effect_of sync })) t) × (counts self.old (OfThread t) t ≡ 2 ^ 32 - 1) }
-        ensures threads { IsErrOf result NoTick.ThreadsFull → ⊥ }
+        ensures others { (limit : Limits) → IsErrOf result (NoTick.Beyond limit) → limit ≡ Limit.Count }
     {
         match sync {
             Sync::Start(started) => self.threads.hand_on(thread, started),
@@ -156,8 +161,8 @@ impl Clocks {
     fn release(&mut self, thread: ThreadId, lock: LockId, mode: Mode) -> Result<(), NoTick>
         ensures ok { OnOk result (Moves self.old (Some (record { thread = thread; sync = Effect.Released lock mode })) self.new) }
         ensures err { OnErr result (SameCounts self.old self.new) }
-        ensures full { IsErrOf result NoTick.CountFull → counts self.old (OfThread thread) thread ≡ 2 ^ 32 - 1 }
-        ensures threads { IsErrOf result NoTick.ThreadsFull → ⊥ }
+        ensures full { IsErrOf result (NoTick.Beyond Limit.Count) → counts self.old (OfThread thread) thread ≡ 2 ^ 32 - 1 }
+        ensures others { (limit : Limits) → IsErrOf result (NoTick.Beyond limit) → limit ≡ Limit.Count }
     {
         match mode {
             Mode::Read => self

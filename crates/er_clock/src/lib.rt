@@ -13,16 +13,16 @@
 //! ```
 #![tactic(auto)]
 
-pub use clock::{Clock, Epoch, NoTick};
+pub use clock::{Epoch, Limit, NoTick};
 pub use clocks::Clocks;
 pub use hints::{Hints, index_of};
-pub use table::ClockTable;
 pub use threads::ThreadClock;
 
 mod block;
 mod clock;
 mod clocks;
 mod hints;
+mod room;
 mod rows;
 mod table;
 mod takers;

@@ -2,7 +2,8 @@
 ghost use Rattle.std.specs.Prelude.{◌≡◌, ◌<◌, ◌≤◌, ◌-◌, ◌+◌, ◌^◌, ◌==◌, ℕ, [], max, cond, length, IsTrue, IfOk};
 ghost use Rattle.er_clock.specs.Clock.{count_in_part, count_in_row};
 
-use std::alloc::{AllocError, Global};
+use crate::room::{Mark, Room};
+use std::alloc::AllocError;
 use std::marker::Model;
 use std::rc::Rc;
 
@@ -16,7 +17,7 @@ pub(crate) trait Part: Drop {
     const WIDTH: usize;
 
     /// All are 0.
-    fn empty(alloc: Global) -> Result<Self, AllocError>
+    fn empty(room: &Room) -> Result<Self, AllocError>
         ensures { IfOk result (λ part. (place : ℕ) → counts part place ≡ 0) };
 
     /// The count at the place.
@@ -32,11 +33,11 @@ pub(crate) trait Part: Drop {
         ensures { IfOk result (λ part. (place : ℕ) → counts part place ≡ counts self.now place) };
 
     /// The greater count at each place.
-    fn joined(&self, other: &Self) -> Result<Self, AllocError>
+    fn joined(&self, other: &Self, room: &Room) -> Result<Self, AllocError>
         ensures { IfOk result (λ part. (place : ℕ) → counts part place ≡ max (counts self.now place) (counts other.now place)) };
 
     /// One more at the place.
-    fn ticked(&self, place: usize) -> Result<Self, AllocError>
+    fn ticked(&self, place: usize, room: &Room) -> Result<Self, AllocError>
         requires low { place < 2 ^ 32 }
         requires room { counts self.now place < 2 ^ 32 - 1 }
         ensures { IfOk result (λ part. (at : ℕ) → counts part at ≡ counts self.now at + cond (place == at) 1 0) };
@@ -47,8 +48,7 @@ pub(crate) trait Part: Drop {
 /// Parts, one behind the other. Clocks share the whole row until one of them changes.
 #[derive(Drop)]
 pub(crate) struct Row<P: Part> {
-    parts: Option<Rc<Vec<P>>>,
-    alloc: Global,
+    parts: Option<Rc<(Vec<P>, Mark)>>,
 }
 
 impl<P: Part> Model for Row<P> {
@@ -57,15 +57,15 @@ impl<P: Part> Model for Row<P> {
 
     ghost Value = { List P };
 
-    ghost view = { λ r. option_map_or (λ parts. parts.value.items) r.parts [] };
+    ghost view = { λ r. option_map_or (λ parts. parts.value.0.items) r.parts [] };
 }
 
 impl<P: Part> Row<P> {
     /// All are 0. It takes no memory.
-    pub(crate) fn new(alloc: Global) -> Self
+    pub(crate) fn new() -> Self
         ensures { result ≡ [] }
     {
-        Row { parts: None, alloc }
+        Row { parts: None }
     }
 
     /// Whether it has no parts.
@@ -76,14 +76,11 @@ impl<P: Part> Row<P> {
     }
 
     // The row of these parts.
-    fn of(alloc: Global, parts: Vec<P>) -> Result<Self, AllocError>
+    fn of(room: &Room, parts: Vec<P>) -> Result<Self, AllocError>
         ensures { IfOk result (λ row. row ≡ parts.items) }
     {
-        match Rc::new(alloc, parts) {
-            Ok(parts) => Ok(Row {
-                parts: Some(parts),
-                alloc,
-            }),
+        match Rc::new(room.alloc, (parts, room.row()?)) {
+            Ok(parts) => Ok(Row { parts: Some(parts) }),
             Err(_) => Err(AllocError),
         }
     }
@@ -93,7 +90,7 @@ impl<P: Part> Row<P> {
         ensures { result.now ≡ self.now }
     {
         match &self.parts {
-            Some(parts) => parts.as_ref().as_slice(),
+            Some(parts) => parts.as_ref().0.as_slice(),
             None => &[],
         }
     }
@@ -108,8 +105,8 @@ impl<P: Part> Part for Row<P> {
 
     const WIDTH: usize = 4096;
 
-    fn empty(alloc: Global) -> Result<Self, AllocError> {
-        Ok(Row::new(alloc))
+    fn empty(_room: &Room) -> Result<Self, AllocError> {
+        Ok(Row::new())
     }
 
     fn count(&self, place: usize) -> u32 {
@@ -128,29 +125,26 @@ impl<P: Part> Part for Row<P> {
             Some(parts) => Some(parts.clone()?),
             None => None,
         };
-        Ok(Row {
-            parts,
-            alloc: self.alloc,
-        })
+        Ok(Row { parts })
     }
 
-    fn joined(&self, other: &Self) -> Result<Self, AllocError> {
+    fn joined(&self, other: &Self, room: &Room) -> Result<Self, AllocError> {
         if other.covers(self) {
             return other.again();
         }
         if self.covers(other) {
             return self.again();
         }
-        let parts = joined_parts(self.alloc, self.parts(), other.parts(), 0)?;
-        Row::of(self.alloc, parts)
+        let parts = joined_parts(room, self.parts(), other.parts(), 0)?;
+        Row::of(room, parts)
     }
 
-    fn ticked(&self, place: usize) -> Result<Self, AllocError> {
+    fn ticked(&self, place: usize, room: &Room) -> Result<Self, AllocError> {
         let at = place / P::WIDTH;
-        let mut parts = joined_parts(self.alloc, self.parts(), &[], at + 1)?;
-        let part = parts[at].ticked(place % P::WIDTH)?;
+        let mut parts = joined_parts(room, self.parts(), &[], at + 1)?;
+        let part = parts[at].ticked(place % P::WIDTH, room)?;
         parts[at] = part;
-        Row::of(self.alloc, parts)
+        Row::of(room, parts)
     }
 
     ghost is_wide = { Prim.search rules };
@@ -171,24 +165,24 @@ fn cover<P: Part>(parts: &[P], others: &[P]) -> bool
     true
 }
 
-// The greater count at each place of each part, in a list with room for so many parts.
+// The greater count at each place of each part, in a list of at least so many parts.
 fn joined_parts<P: Part>(
-    alloc: Global,
+    room: &Room,
     parts: &[P],
     others: &[P],
-    room: usize,
+    least: usize,
 ) -> Result<Vec<P>, AllocError>
-    requires { room ≤ 2 ^ 33 }
+    requires { least ≤ 2 ^ 33 }
     ensures all { IfOk result (λ all. (part place : ℕ) → count_in_part P.counts all.items part place ≡ max (count_in_part P.counts parts.now part place) (count_in_part P.counts others.now part place)) }
-    ensures room { IfOk result (λ all. room ≤ length all.items) }
+    ensures least { IfOk result (λ all. least ≤ length all.items) }
 {
-    let empty = P::empty(alloc)?;
-    let len = room.max(parts.len()).max(others.len());
-    let mut all = Vec::with_capacity(alloc, len)?;
+    let empty = P::empty(room)?;
+    let len = least.max(parts.len()).max(others.len());
+    let mut all = Vec::with_capacity(room.alloc, len)?;
     for at in 0..len {
         let one = parts.get(at).unwrap_or(&empty);
         let other = others.get(at).unwrap_or(&empty);
-        let joined = one.joined(other)?;
+        let joined = one.joined(other, room)?;
         all.push(joined)?;
     }
     Ok(all)

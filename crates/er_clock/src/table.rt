@@ -3,8 +3,9 @@ ghost use Rattle.std.specs.Prelude.{◌≡◌, ◌↔◌, ◌≤◌, ◌<◌, �
 ghost use Rattle.er_clock.specs.Clock.{count_in, Joins, Stays};
 ghost use Rattle.er_clock.specs.Table.{known_by};
 
-use crate::clock::{Clock, NoTick};
+use crate::clock::{Clock, Limit, NoTick};
 use crate::hints::{Hints, index_of};
+use crate::room::Room;
 use er_event::ThreadId;
 use indexmap::IndexMap;
 use std::alloc::{AllocError, Global};
@@ -13,12 +14,11 @@ use std::mem;
 
 /// The clocks of what is in use (threads, locks or objects), by its number. Any other clock is empty and takes no memory.
 #[derive(Drop)]
-pub struct ClockTable {
+pub(crate) struct ClockTable {
     clocks: IndexMap<u32, Clock>,
     // Where the clock of a number stands.
     places: Hints,
     empty: Clock,
-    alloc: Global,
 }
 
 impl Model for ClockTable {
@@ -33,21 +33,22 @@ impl Model for ClockTable {
 }
 
 impl ClockTable {
+    ghost use Rattle.er_clock.specs.declared.clock.Limit.{Limit as Limits};
+
     /// All are empty.
-    pub fn new(alloc: Global) -> Self
+    pub(crate) fn new(alloc: Global) -> Self
         ensures { (n u : ℕ) → known_by result n u ≡ 0 }
     {
         ClockTable {
             clocks: IndexMap::new(alloc),
             places: Hints::new(alloc),
             empty: Clock::new(alloc),
-            alloc,
         }
     }
 
     /// The clock of this number.
     #[inline]
-    pub fn get(&self, number: u32) -> &Clock
+    pub(crate) fn get(&self, number: u32) -> &Clock
         ensures { (u : ℕ) → count_in result.now u ≡ known_by self.now number u }
     {
         match index_of(&self.clocks, self.places.hint(number), number) {
@@ -58,7 +59,13 @@ impl ClockTable {
 
     /// Takes of each thread the greater count into the clock of this number. `AllocError`: memory was refused, and all clocks are as
     /// they were. `is_covered` may say that the other clock has as great a count of each thread: then no block is compared.
-    pub fn join(&mut self, number: u32, other: &Clock, is_covered: bool) -> Result<(), AllocError>
+    pub(crate) fn join(
+        &mut self,
+        number: u32,
+        other: &Clock,
+        is_covered: bool,
+        room: &Room,
+    ) -> Result<(), AllocError>
         requires { IsTrue is_covered → (u : ℕ) → known_by self.old number u ≤ count_in other.now u }
         ensures ok { OnOk result ((n u : ℕ) → known_by self.new n u ≡ cond (number == n) (max (known_by self.old n u) (count_in other.now u)) (known_by self.old n u)) }
         ensures err { OnErr result ((n u : ℕ) → known_by self.new n u ≡ known_by self.old n u) }
@@ -67,11 +74,11 @@ impl ClockTable {
             Some(index) => {
                 self.places.note(number, index);
                 let clock = &mut self.clocks[index];
-                take(clock, other, is_covered)
+                take(clock, other, is_covered, room)
             }
             None => {
-                let mut clock = Clock::new(self.alloc);
-                clock.join(other)?;
+                let mut clock = Clock::new(room.alloc);
+                clock.join(other, room)?;
                 self.places.make_room()?;
                 self.places.note(number, self.clocks.len());
                 self.clocks.insert(number, clock)?;
@@ -80,23 +87,23 @@ impl ClockTable {
         }
     }
 
-    /// Adds one to the count of the thread in the clock of this number. `CountFull`: the count is 2^32 - 1. After an error all clocks are as
+    /// Adds one to the count of the thread in the clock of this number. `Limit::Count`: the count is 2^32 - 1. After an error all clocks are as
     /// they were.
-    pub fn tick(&mut self, number: u32, thread: ThreadId) -> Result<(), NoTick>
+    pub(crate) fn tick(&mut self, number: u32, thread: ThreadId, room: &Room) -> Result<(), NoTick>
         ensures ok { OnOk result ((n u : ℕ) → known_by self.new n u ≡ cond (number == n) (known_by self.old n u + cond (thread == u) 1 0) (known_by self.old n u)) }
         ensures err { OnErr result ((n u : ℕ) → known_by self.new n u ≡ known_by self.old n u) }
-        ensures full { IsErrOf result NoTick.CountFull → known_by self.old number thread ≡ 2 ^ 32 - 1 }
-        ensures threads { IsErrOf result NoTick.ThreadsFull → ⊥ }
+        ensures full { IsErrOf result (NoTick.Beyond Limit.Count) → known_by self.old number thread ≡ 2 ^ 32 - 1 }
+        ensures others { (limit : Limits) → IsErrOf result (NoTick.Beyond limit) → limit ≡ Limit.Count }
     {
         match index_of(&self.clocks, self.places.hint(number), number) {
             Some(index) => {
                 self.places.note(number, index);
                 let known = &mut self.clocks[index];
-                known.tick(thread)
+                known.tick(thread, room)
             }
             None => {
-                let mut clock = Clock::new(self.alloc);
-                clock.tick(thread)?;
+                let mut clock = Clock::new(room.alloc);
+                clock.tick(thread, room)?;
                 self.places.make_room()?;
                 self.places.note(number, self.clocks.len());
                 match self.clocks.insert(number, clock) {
@@ -108,7 +115,7 @@ impl ClockTable {
     }
 
     /// The clock of this number, which counts something, and the other clock change places.
-    pub fn swap(&mut self, number: u32, other: &mut Clock)
+    pub(crate) fn swap(&mut self, number: u32, other: &mut Clock)
         requires { (u : ℕ) × (0 < known_by self.old number u) }
         ensures { (n u : ℕ) → known_by self.new n u ≡ cond (number == n) (count_in other.old u) (known_by self.old n u) }
     {
@@ -120,7 +127,12 @@ impl ClockTable {
 }
 
 // Takes of each thread the greater count.
-fn take(clock: &mut Clock, other: &Clock, is_covered: bool) -> Result<(), AllocError>
+fn take(
+    clock: &mut Clock,
+    other: &Clock,
+    is_covered: bool,
+    room: &Room,
+) -> Result<(), AllocError>
     requires { IsTrue is_covered → (u : ℕ) → count_in clock.old u ≤ count_in other.now u }
     ensures ok { OnOk result (Joins clock.old other.now clock.new) }
     ensures err { OnErr result (Stays clock.old clock.new) }
@@ -128,6 +140,6 @@ fn take(clock: &mut Clock, other: &Clock, is_covered: bool) -> Result<(), AllocE
     if is_covered {
         clock.catch_up(other)
     } else {
-        clock.join(other)
+        clock.join(other, room)
     }
 }

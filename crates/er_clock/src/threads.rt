@@ -4,8 +4,10 @@ ghost use Rattle.er_order.specs.Clocks.{covers};
 ghost use Rattle.er_clock.specs.Clock.{count_in};
 ghost use Rattle.er_clock.specs.Table.{known_by};
 ghost use Rattle.er_clock.specs.Counts.{own_begun, known_to, count_by};
+ghost use Rattle.er_clock.specs.declared.clock.Limit.{Limit as Limits};
 
-use crate::clock::{Clock, Epoch, NoTick};
+use crate::clock::{Clock, Epoch, Limit, NoTick};
+use crate::room::Room;
 use crate::table::ClockTable;
 use er_event::ThreadId;
 use std::alloc::{AllocError, Global};
@@ -68,6 +70,7 @@ pub(crate) struct ThreadClocks {
     carried: Clock,
     // What becomes of the clock of the thread that hands on what it knows.
     next: Clock,
+    room: Room,
 }
 
 impl Model for ThreadClocks {
@@ -87,7 +90,22 @@ impl ThreadClocks {
             table: ClockTable::new(alloc),
             carried: Clock::new(alloc),
             next: Clock::new(alloc),
+            room: Room::new(alloc),
         }
+    }
+
+    /// Makes room for what one step more may add to the clocks.
+    pub(crate) fn grow(&mut self) -> Result<(), AllocError>
+        ensures { self.new ≡ self.old }
+    {
+        self.room.grow()
+    }
+
+    /// Whether there is no room, and the thread knows a step of one after the first 128. A thread that knows none adds little.
+    pub(crate) fn is_large(&self, thread: ThreadId) -> bool
+        ensures { IsTrue result → (u : ℕ) × (128 ≤ u) × (0 < known_to self.now thread u) }
+    {
+        self.room.is_full() && self.table.get(thread.number()).later().is_some()
     }
 
     /// The clock of the thread, to look at.
@@ -106,7 +124,7 @@ impl ThreadClocks {
         ensures ok { OnOk result ((t u : ℕ) → known_to self.new t u ≡ cond (t == thread) (max (known_to self.old t u) (count_in found.now u)) (known_to self.old t u)) }
         ensures err { OnErr result ((t u : ℕ) → known_to self.new t u ≡ known_to self.old t u) }
     {
-        join(&mut self.table, thread, found)
+        join(&mut self.table, thread, found, &self.room)
     }
 
     /// Takes what two clocks know into the thread's. An error changes no count.
@@ -124,28 +142,29 @@ impl ThreadClocks {
             return self.take(thread, one);
         }
         self.carried.clear();
-        self.carried.join(one)?;
-        self.carried.join(other)?;
-        join(&mut self.table, thread, &self.carried)
+        self.carried.join(one, &self.room)?;
+        self.carried.join(other, &self.room)?;
+        join(&mut self.table, thread, &self.carried, &self.room)
     }
 
-    /// Puts what a thread knows into another one's clock, and then its own count rises. `CountFull`: its own count is the greatest. An error
+    /// Puts what a thread knows into another one's clock, and then its own count rises. `Limit::Count`: its own count is the greatest. An error
     /// changes no count.
     pub(crate) fn hand_on(&mut self, from: ThreadId, to: ThreadId) -> Result<(), NoTick>
         ensures ok { OnOk result ((t u : ℕ) → known_to self.new t u ≡ cond (t == to) (max (known_to self.old t u) (known_to self.old from u)) (known_to self.old t u) + cond (t == from && from == u) 1 0) }
         ensures err { OnErr result ((t u : ℕ) → known_to self.new t u ≡ known_to self.old t u) }
-        ensures full { IsErrOf result NoTick.CountFull → known_to self.old from from ≡ 2 ^ 32 - 1 }
-        ensures threads { IsErrOf result NoTick.ThreadsFull → ⊥ }
+        ensures full { IsErrOf result (NoTick.Beyond Limit.Count) → known_to self.old from from ≡ 2 ^ 32 - 1 }
+        ensures others { (limit : Limits) → IsErrOf result (NoTick.Beyond limit) → limit ≡ Limit.Count }
     {
-        prepare(&mut self.table, &mut self.next, from)?;
+        prepare(&mut self.table, &mut self.next, from, &self.room)?;
         self.carried.clear();
-        self.carried.join(self.table.get(from.number()))?;
-        join(&mut self.table, to, &self.carried)?;
+        self.carried
+            .join(self.table.get(from.number()), &self.room)?;
+        join(&mut self.table, to, &self.carried, &self.room)?;
         self.table.swap(from.number(), &mut self.next);
         Ok(())
     }
 
-    /// Puts what a thread knows into the clock of this number, and then its own count rises. `CountFull`: its own count is the greatest. An
+    /// Puts what a thread knows into the clock of this number, and then its own count rises. `Limit::Count`: its own count is the greatest. An
     /// error changes no count. `is_covered` may say that the thread knows all that the clock has: then no counts are compared.
     pub(crate) fn give(
         &mut self,
@@ -159,49 +178,64 @@ impl ThreadClocks {
         ensures given { OnOk result ((n u : ℕ) → known_by clocks.new n u ≡ cond (number == n) (max (known_by clocks.old n u) (known_to self.old thread u)) (known_by clocks.old n u)) }
         ensures err { OnErr result ((t u : ℕ) → known_to self.new t u ≡ known_to self.old t u) }
         ensures kept { OnErr result ((n u : ℕ) → known_by clocks.new n u ≡ known_by clocks.old n u) }
-        ensures full { IsErrOf result NoTick.CountFull → known_to self.old thread thread ≡ 2 ^ 32 - 1 }
-        ensures threads { IsErrOf result NoTick.ThreadsFull → ⊥ }
+        ensures full { IsErrOf result (NoTick.Beyond Limit.Count) → known_to self.old thread thread ≡ 2 ^ 32 - 1 }
+        ensures others { (limit : Limits) → IsErrOf result (NoTick.Beyond limit) → limit ≡ Limit.Count }
     {
-        prepare(&mut self.table, &mut self.next, thread)?;
-        clocks.join(number, self.table.get(thread.number()), is_covered)?;
+        prepare(&mut self.table, &mut self.next, thread, &self.room)?;
+        clocks.join(
+            number,
+            self.table.get(thread.number()),
+            is_covered,
+            &self.room,
+        )?;
         self.table.swap(thread.number(), &mut self.next);
         Ok(())
     }
 }
 
 // Takes what a clock knows into the thread's.
-fn join(table: &mut ClockTable, thread: ThreadId, found: &Clock) -> Result<(), AllocError>
+fn join(
+    table: &mut ClockTable,
+    thread: ThreadId,
+    found: &Clock,
+    room: &Room,
+) -> Result<(), AllocError>
     ensures ok { OnOk result ((t u : ℕ) → known_by table.new t u ≡ cond (t == thread) (max (known_by table.old t u) (count_in found.now u)) (known_by table.old t u)) }
     ensures err { OnErr result ((t u : ℕ) → known_by table.new t u ≡ known_by table.old t u) }
 {
-    table.join(thread.number(), found, false)
+    table.join(thread.number(), found, false, room)
 }
 
 // Makes the thread ready to hand on what it knows, with no change of what it knows, and `next` its clock with its own count risen.
-fn prepare(table: &mut ClockTable, next: &mut Clock, thread: ThreadId) -> Result<(), NoTick>
+fn prepare(
+    table: &mut ClockTable,
+    next: &mut Clock,
+    thread: ThreadId,
+    room: &Room,
+) -> Result<(), NoTick>
     ensures same { (t u : ℕ) → known_to table.new t u ≡ known_to table.old t u }
     ensures begun { OnOk result (0 < known_by table.new thread thread) }
     ensures risen { OnOk result ((u : ℕ) → count_in next.new u ≡ known_by table.new thread u + cond (thread == u) 1 0) }
-    ensures full { IsErrOf result NoTick.CountFull → known_to table.old thread thread ≡ 2 ^ 32 - 1 }
-    ensures threads { IsErrOf result NoTick.ThreadsFull → ⊥ }
+    ensures full { IsErrOf result (NoTick.Beyond Limit.Count) → known_to table.old thread thread ≡ 2 ^ 32 - 1 }
+    ensures others { (limit : Limits) → IsErrOf result (NoTick.Beyond limit) → limit ≡ Limit.Count }
 {
-    begin(table, thread)?;
+    begin(table, thread, room)?;
     next.clear();
-    next.join(table.get(thread.number()))?;
-    next.tick(thread)
+    next.join(table.get(thread.number()), room)?;
+    next.tick(thread, room)
 }
 
 // Puts the thread's own count into its clock, where it isn't yet.
-fn begin(table: &mut ClockTable, thread: ThreadId) -> Result<(), NoTick>
+fn begin(table: &mut ClockTable, thread: ThreadId, room: &Room) -> Result<(), NoTick>
     ensures same { (t u : ℕ) → known_to table.new t u ≡ known_to table.old t u }
     ensures begun { OnOk result (0 < known_by table.new thread thread) }
-    ensures full { IsErrOf result NoTick.CountFull → known_to table.old thread thread ≡ 2 ^ 32 - 1 }
-    ensures threads { IsErrOf result NoTick.ThreadsFull → ⊥ }
+    ensures full { IsErrOf result (NoTick.Beyond Limit.Count) → known_to table.old thread thread ≡ 2 ^ 32 - 1 }
+    ensures others { (limit : Limits) → IsErrOf result (NoTick.Beyond limit) → limit ≡ Limit.Count }
 {
     let number = thread.number();
     let count = table.get(number).count(thread);
     if count == 0 {
-        return table.tick(number, thread);
+        return table.tick(number, thread, room);
     }
     Ok(())
 }

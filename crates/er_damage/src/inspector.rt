@@ -119,20 +119,17 @@ impl Inspector {
         match event {
             Event::Acquire(lock, mode) => {
                 self.holders.add(lock)?;
-                match mode {
-                    Mode::Read => Ok(()),
-                    Mode::Write => self.writers.add(lock),
+                if let Mode::Write = mode {
+                    self.writers.add(lock)?;
                 }
+                Ok(())
             }
             Event::Release(lock, mode) => {
                 self.holders.remove(lock);
-                match mode {
-                    Mode::Read => Ok(()),
-                    Mode::Write => {
-                        self.writers.remove(lock);
-                        Ok(())
-                    }
+                if let Mode::Write = mode {
+                    self.writers.remove(lock);
                 }
+                Ok(())
             }
             _ => Ok(()),
         }

@@ -40,13 +40,6 @@ IsIgnored seat next word kind site = next ≡ with_call seat (ignored (Access ki
 abbrev pub IsReused : SeatList → SeatList → PageRange → ℕ → Type 0
 IsReused seat next part ticket = next ≡ with_call seat (ticketed (Reuse part) ticket Done)
 
--- there is no room for what the call would add
-abbrev pub is_want_of_room : Refusal → Bool
-is_want_of_room OutOfMemory = true
-is_want_of_room JournalFull = true
-is_want_of_room TableFull = true
-is_want_of_room _ = false
-
 -- an access by a thread at this ignore depth may be refused so: one that doesn't count asks for no shard
 abbrev pub may_refuse : ℕ → Refusal → Bool
 may_refuse depth ForeignSeat = true

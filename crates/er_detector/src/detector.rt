@@ -7,7 +7,7 @@ ghost use Rattle.er_journal.specs.Journals.{journal_state};
 ghost use Rattle.er_journal.specs.Merges.{shard_of};
 ghost use Rattle.er_shadow.specs.Shadows.{needs_set};
 ghost use Rattle.er_seat.specs.Seats.{holdings_of};
-ghost use Rattle.er_detector.specs.Calls.{is_seat_of, is_shard_of, IsListed, IsEntered, IsIgnored, IsReused, HasReused, is_want_of_room, may_refuse, may_refuse_reuse};
+ghost use Rattle.er_detector.specs.Calls.{is_seat_of, is_shard_of, IsListed, IsEntered, IsIgnored, IsReused, HasReused, may_refuse, may_refuse_reuse};
 ghost use Rattle.er_detector.specs.Limits.{IsShardCount};
 ghost use Rattle.er_detector.specs.Races.{IsRace};
 
@@ -80,13 +80,8 @@ impl<'t> Detector<'t> {
     {
         let mut shards = Vec::with_capacity(alloc, config.shards as usize)?;
         for number in 0..config.shards {
-            match empty_shard(alloc, table, config, number) {
-                Ok(shard) => shards.push_reserved(CachePadded::new(Mutex::new(shard))),
-                Err(refused) => {
-                    drop(shards);
-                    return Err(refused);
-                }
-            }
+            let shard = empty_shard(alloc, table, config, number)?;
+            shards.push_reserved(CachePadded::new(Mutex::new(shard)));
         }
         Ok(Detector {
             config,
@@ -164,13 +159,14 @@ impl<'t> Detector<'t> {
         ensures table_full { IsErrOf result Refusal.TableFull → IsTrue (needs_set (journal_state shard.old.journal word) seat.old.thread) }
         ensures refusals { IfErr result (λ why. IsTrue (may_refuse (holdings_of seat.old).depth why)) }
     {
-        if !self.has_both(shard, seat, word) {
+        if seat.name() != self.config.name || !self.has(shard, word) {
             return Err(Refusal::ForeignSeat);
         }
         if seat.ignoring() {
             return ignored(seat, word, kind, site);
         }
-        self.record(rt, shard, seat, word, kind, site)
+        let ticket = self.next_ticket();
+        Ok(seat.record_access(rt, shard, ticket, word, kind, site)?)
     }
 
     /// The same under the lock of the word's shard, which isn't taken if the seat ignores (section 2 of the 1997 paper). `ForeignSeat`
@@ -202,10 +198,7 @@ impl<'t> Detector<'t> {
         }
         // A caller of `shard` may have put another shard behind the lock.
         let mut shard = self.shard(rt, self.shard_of(word));
-        if !self.has(&shard, word) {
-            return Err(Refusal::ForeignSeat);
-        }
-        self.record(rt, &mut shard, seat, word, kind, site)
+        self.access_in(rt, &mut shard, seat, word, kind, site)
     }
 
     /// Puts a range of words to a new use, page by page and each page under its shard's lock (section 3.3 of the 1997 paper). If a page
@@ -260,13 +253,7 @@ impl<'t> Detector<'t> {
             opened,
             alloc,
         } = self;
-        let mut shards = match Vec::with_capacity(alloc, locks.len()) {
-            Ok(shards) => shards,
-            Err(refused) => {
-                drop(locks);
-                return Err(refused);
-            }
-        };
+        let mut shards = Vec::with_capacity(alloc, locks.len())?;
         for lock in locks {
             shards.push_reserved(lock.into_inner().into_inner());
         }
@@ -275,30 +262,6 @@ impl<'t> Detector<'t> {
             opened: opened.into_inner().min(u64::from(config.max_threads)),
             shards,
         })
-    }
-
-    // Makes an access that counts, under the next ticket.
-    fn record<R: Wait>(
-        &self,
-        rt: &R,
-        shard: &mut Shard<'t>,
-        seat: &mut Seat,
-        word: Word,
-        kind: Kind,
-        site: Site,
-    ) -> Result<Reply, Refusal>
-        requires { (holdings_of seat.old).depth ≡ 0 }
-        ensures counted { IfOk result (λ reply. (ticket : ℕ) × (IsListed seat.old seat.new word kind site ticket reply × IsEntered seat.old shard.old shard.new word kind site ticket reply)) }
-        ensures race_or_quiet { IfOk result (λ reply. (reply ≡ Reply.Race) ⊎ (reply ≡ Reply.Quiet)) }
-        ensures err { OnErr result (seat.new ≡ seat.old) }
-        ensures err_shard { OnErr result (shard.new ≡ shard.old) }
-        ensures full { shard.old.limit ≤ length shard.old.journal → IsErrAnd result (λ why. (why ≡ Refusal.JournalFull) ⊎ (why ≡ Refusal.OutOfMemory)) }
-        ensures full_only { IsErrOf result Refusal.JournalFull → shard.old.limit ≤ length shard.old.journal }
-        ensures table_full { IsErrOf result Refusal.TableFull → IsTrue (needs_set (journal_state shard.old.journal word) seat.old.thread) }
-        ensures refusals { IfErr result (λ why. IsTrue (is_want_of_room why)) }
-    {
-        let ticket = self.next_ticket();
-        Ok(seat.record_access(rt, shard, ticket, word, kind, site)?)
     }
 
     // One page of a reuse, under its shard's lock.
@@ -318,13 +281,6 @@ impl<'t> Detector<'t> {
         }
         let ticket = self.next_ticket();
         Ok(seat.reuse(&mut shard, ticket, *part)?)
-    }
-
-    // Whether the seat and the shard are the detector's, and the word is the shard's.
-    fn has_both(&self, shard: &Shard<'t>, seat: &Seat, word: Word) -> bool
-        ensures { result ≡ (is_seat_of self.now seat.now && is_shard_of self.now shard.now word) }
-    {
-        seat.name() == self.config.name && self.has(shard, word)
     }
 
     // Whether the shard is the detector's, and the word is one of its words.

@@ -29,12 +29,8 @@ pub fn settle_parts(alloc: Global, parts: Parts<'_>, seats: Vec<Seat>) -> Result
     ensures states { IfOk result (λ run. (w : ℕ) → journal_state (journal_at (journals_of parts.entry.shards.items) (shard_of (length parts.entry.shards.items) w)) w ≡ state_end run.steps.items w) }
     ensures order { IfOk result (λ run. IsInTurn seats.items run.steps.items run.replies.items) }
 {
-    let Ok(views) = seat_views(alloc, seats.as_slice()) else {
-        return Err(Unsettled::Memory);
-    };
-    let Ok(journals) = journal_views(alloc, parts.shards.as_slice()) else {
-        return Err(Unsettled::Memory);
-    };
+    let views = seat_views(alloc, seats.as_slice())?;
+    let journals = journal_views(alloc, parts.shards.as_slice())?;
 
     // All numbers are below 2^30, so where more seats than this were opened, one is missing either way.
     let opened = parts.opened.min(u64::from(u32::MAX)) as u32;
@@ -55,10 +51,8 @@ pub fn settle(alloc: Global, detector: Detector<'_>, seats: Vec<Seat>) -> Result
     ensures replies { IfOk result (λ run. (k : ℕ) (step : StepShown) → slice_get run.steps.items k ≡ Some step → answer run.steps.items k ≡ Ok (reply_at run.replies.items k)) }
     ensures order { IfOk result (λ run. IsInTurn seats.items run.steps.items run.replies.items) }
 {
-    match detector.into_parts() {
-        Ok(parts) => settle_parts(alloc, parts, seats),
-        Err(_) => Err(Unsettled::Memory),
-    }
+    let parts = detector.into_parts()?;
+    settle_parts(alloc, parts, seats)
 }
 
 // The seats, to be settled. A thread's number keeps its limit, and so do those of all seats.

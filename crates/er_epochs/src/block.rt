@@ -6,7 +6,6 @@ ghost use Rattle.er_epochs.specs.Epochs.{is_raced, tag_found, tagged, IsStoredBy
 ghost use Rattle.er_epochs.specs.declared.word.OrderWord.{OrderWord as Stored};
 ghost use Rattle.er_epochs.specs.Words.{IsButForTags, blank, said, word_at, list_of, stored_beside, is_place_in, IsLowest};
 
-use crate::finding::start_of;
 use crate::lists::ReadLists;
 use crate::word::OrderWord;
 use er_clock::ThreadClock;
@@ -238,4 +237,12 @@ fn empty_at<A: Copy>(words: &mut Vec<OrderWord<A>>, place: usize)
     if !word.is_blank() {
         put(words, place, word.emptied());
     }
+}
+
+// Where a pass begins that goes from `lo` to this end, if it goes anywhere.
+fn start_of(lo: usize, end: usize) -> usize
+    ensures ordered { result ≤ end }
+    ensures same { (i : ℕ) → (nat_le result i && nat_lt i end) ≡ (nat_le lo i && nat_lt i end) }
+{
+    if lo <= end { lo } else { end }
 }

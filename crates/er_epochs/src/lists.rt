@@ -5,12 +5,11 @@ ghost use Rattle.er_clock.specs.Counts.{count_by};
 ghost use Rattle.er_epochs.specs.Epochs.{tag_found, tag_of_first, tagged, IsStoredBy};
 ghost use Rattle.er_epochs.specs.Words.{list_of, said, stored_beside};
 
-use crate::finding::index_of;
 use crate::reads::Reads;
 use crate::word::OrderWord;
 use er_clock::ThreadClock;
 use er_event::Kind;
-use er_keys::{HashKeys, NumberHasher};
+use er_keys::{HashKeys, NumberHasher, index_of};
 use indexmap::IndexMap;
 use std::alloc::{AllocError, Global};
 use std::marker::Model;

@@ -8,11 +8,10 @@ ghost use Rattle.er_epochs.specs.Standing.{Follows};
 ghost use Rattle.er_epochs.specs.Words.{stored_among, is_place_in, IsLowest};
 
 use crate::block::Block;
-use crate::finding::{BlockHints, block_of, from_in, index_of, place_of, to_in};
 use crate::lists::ReadLists;
 use er_clock::ThreadClock;
 use er_event::{Kind, PageRange, Word};
-use er_keys::{HashKeys, NumberHasher};
+use er_keys::{HashKeys, Hints, NumberHasher, index_of};
 use indexmap::IndexMap;
 use std::alloc::{AllocError, Global};
 use std::marker::Model;
@@ -23,7 +22,7 @@ use std::marker::Model;
 #[derive(Drop)]
 pub struct OrderWords<A> {
     blocks: IndexMap<u64, Block<A>, NumberHasher>,
-    hints: BlockHints,
+    hints: Hints,
     lists: ReadLists<A>,
     // What `look_ahead` has read. Nobody asks for it.
     ahead: u32,
@@ -46,7 +45,7 @@ impl<A: Copy> OrderWords<A> {
     {
         OrderWords {
             blocks: IndexMap::with_hasher(alloc, NumberHasher::new(keys)),
-            hints: BlockHints::new(alloc),
+            hints: Hints::new(alloc),
             lists: ReadLists::new(alloc, keys),
             ahead: 0,
             alloc,
@@ -68,8 +67,8 @@ impl<A: Copy> OrderWords<A> {
         ensures others { (w : ℕ) → (word == w) ≡ false → stored_among self.new w ≡ stored_among self.old w }
         ensures err { OnErr result ((w : ℕ) → stored_among self.new w ≡ stored_among self.old w) }
     {
-        let number = block_of(word);
-        let place = place_of(word);
+        let number = word.block();
+        let place = word.place_in_block();
         match index_of(&self.blocks, self.hints.hint(number), number) {
             Some(index) => {
                 self.hints.note(number, index);
@@ -80,7 +79,6 @@ impl<A: Copy> OrderWords<A> {
                 let mut block = Block::new(self.alloc, tag)?;
                 let lists = &mut self.lists;
                 let rival = block.access(lists, word.number(), place, clock, kind, tag)?;
-                self.hints.make_room()?;
                 self.hints.note(number, self.blocks.len());
                 self.blocks.insert(number, block)?;
                 Ok(rival)
@@ -94,10 +92,10 @@ impl<A: Copy> OrderWords<A> {
     pub fn look_ahead(&mut self, word: Word)
         ensures { self.new ≡ self.old }
     {
-        let number = block_of(word);
+        let number = word.block();
         if let Some(index) = index_of(&self.blocks, self.hints.hint(number), number) {
             self.hints.note(number, index);
-            self.ahead ^= self.blocks[index].look_ahead(place_of(word));
+            self.ahead ^= self.blocks[index].look_ahead(word.place_in_block());
         }
     }
 
@@ -109,11 +107,11 @@ impl<A: Copy> OrderWords<A> {
         ensures named { IfSome result (λ found. Some found.1 ≡ tag_found (count_by clock.now) (stored_among self.old found.0) Kind.Write) }
     {
         let PageRange { lo, hi } = range;
-        let first = block_of(lo);
-        let last = block_of(hi);
+        let first = lo.block();
+        let last = hi.block();
         let mut found = None;
         for number in first..last + 1 {
-            let next = self.empty(number, from_in(number, lo), to_in(number, hi), clock);
+            let next = self.empty(number, lo.first_in(number), hi.last_in(number), clock);
             found = found.or(next);
         }
         found

@@ -2,7 +2,7 @@
 use Rattle.std.proofs.Common.{◌≡◌, ◌≢◌, ℕ, ◌-◌, ◌<◌, Bool, true, false, cond, nat_eq, List, [], ◌∷◌, ◌++◌, refl, sym, ap, ◌∙◌, append_assoc, arith}
 use Rattle.std.proofs.lemmas.Bool.Decides.{nat_tests}
 use Rattle.std.proofs.lemmas.List.{append-nil}
-use Rattle.er_exit.specs.Excerpts.{line_at, line_with}
+use Rattle.er_exit.specs.Inner.Excerpts.{line_at, line_with}
 
 is : (a b : ℕ) → a ≡ b → nat_eq a b ≡ true
 is a b e = grind (arith, nat_tests)

@@ -1,12 +1,12 @@
 -- What is written is plain: by parts, and byte by byte.
-use Rattle.std.proofs.Common.{◌≡◌, ℕ, zero, suc, ◌+◌, ◌-◌, ◌/◌, ◌%◌, ◌<◌, ◌≤◌, Bool, true, false, ◌&&◌, ◌||◌, cond, nat_le, nat_lt, nat_eq, List, [], ◌∷◌, ◌++◌, length, map, codes, take, drop, Option, Result, Ok, Err, refl, ap, ◌∙◌, arith}
+use Rattle.std.proofs.Common.{◌≡◌, ℕ, zero, suc, ◌+◌, ◌-◌, ◌/◌, ◌%◌, ◌<◌, ◌≤◌, Bool, true, false, ◌&&◌, ◌||◌, cond, nat_le, nat_lt, nat_eq, List, [], ◌∷◌, ◌++◌, length, map, codes, take, drop, Option, refl, ap, ◌∙◌, arith}
 use Rattle.std.proofs.lemmas.Bool.Decides.{nat_tests}
 use Rattle.std.proofs.lemmas.List.Folds.{list_all-append}
 use Rattle.std.specs.Char.{digit_char}
 use Rattle.er_exit.specs.Plain.{escape, fitting, is_plain, is_plain_byte, is_printable, shown, shown_byte}
 use Rattle.er_exit.specs.Quote.{front_mark, quote_from, start_of}
 use Rattle.er_exit.specs.Written.{AddsPlain, line_text, part_text}
-use Rattle.er_device.specs.Device.{WritesPrefix}
+use Rattle.er_exit.specs.Writes.{WritesBytes}
 
 pub plain_append : (front back : List ℕ) → is_plain front ≡ true → is_plain back ≡ true → is_plain (front ++ back) ≡ true
 plain_append front back first second = list_all-append is_plain_byte front back ∙ ap (λ (b : Bool). b && is_plain back) first ∙ second
@@ -105,6 +105,6 @@ plain_take zero text plain = refl
 plain_take (suc n) [] plain = refl
 plain_take (suc n) (byte ∷ bytes) plain = both (is_plain_byte byte) (is_plain bytes) (is_plain (take n bytes)) plain (plain_take n bytes)
 
-pub adds : {X E : Type 0} (old new : Option (List ℕ)) (text : List ℕ) (result : Result X E) → is_plain text ≡ true → WritesPrefix old new text result → AddsPlain old new
-adds old new text (Ok x) plain wrote = (text, plain, wrote)
-adds old new text (Err e) plain wrote = (take wrote.0 text, plain_take wrote.0 text plain, wrote.1)
+pub adds : (old new : Option (List ℕ)) (text : List ℕ) (failed : Bool) → is_plain text ≡ true → WritesBytes old new text failed → AddsPlain old new
+adds old new text false plain wrote = (text, plain, wrote)
+adds old new text true plain wrote = (take wrote.0 text, plain_take wrote.0 text plain, wrote.1)

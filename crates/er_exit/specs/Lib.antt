@@ -1,6 +1,6 @@
 pub mod Demos
-pub mod Excerpts
 pub mod Faults
+pub mod Inner
 pub mod Lines
 pub mod Notes
 pub mod Plain

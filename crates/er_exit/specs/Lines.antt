@@ -1,12 +1,13 @@
 -- The lines that the program writes by itself, to the byte: that of a fault, and that of a demo.
 use Rattle.std.specs.Prelude.{ℕ, ◌++◌, List, [], Option, Some, None, codes, decimal}
+use Rattle.er_clock.specs.NoTick.{limit_text}
 use Rattle.er_damage.specs.declared.damage.Damage.{Damage}
 use Rattle.er_event.specs.Refusal.{text_of as refusal_text}
 use Rattle.er_settle.specs.Texts.{text_of as unsettled_text}
 use Rattle.er_lines.specs.Faults.{text_of as kind_text}
 use Rattle.er_text.specs.declared.endings.Lost.{Lost}
 use Rattle.er_exit.specs.declared.faults.Fault.{Fault}
-use Rattle.er_exit.specs.declared.faults.Fault.TheVariants.{Arguments, Text, Suppressions, Damaged, NoStep, Memory, TableFull, CountFull, ThreadsFull, OpenTrace, OpenSuppressions, Read, ReadSuppressions, Write, WriteRules, Refused, WorkerNotStarted, WorkerLost, Unsettled}
+use Rattle.er_exit.specs.declared.faults.Fault.TheVariants.{Arguments, Text, Suppressions, Damaged, NoStep, Memory, TableFull, Beyond, OpenTrace, OpenSuppressions, Read, ReadSuppressions, Write, WriteRules, Refused, WorkerNotStarted, WorkerLost, Unsettled}
 
 -- a fault in words
 abbrev pub text_of : Fault → List ℕ
@@ -17,8 +18,7 @@ text_of (Damaged damage) = codes "damaged trace"
 text_of (NoStep line) = codes "no step"
 text_of Memory = codes "out of memory"
 text_of TableFull = codes "table full"
-text_of CountFull = codes "count full"
-text_of ThreadsFull = codes "too many threads"
+text_of (Beyond limit) = limit_text limit
 text_of OpenTrace = codes "cannot open trace"
 text_of (OpenSuppressions file) = codes "cannot open suppressions"
 text_of Read = codes "read fault"

@@ -1,7 +1,7 @@
 -- What the exit statuses of demos and faults mean.
 use Rattle.std.specs.Prelude.{ℕ, cond, nat_lt}
 use Rattle.er_exit.specs.declared.faults.Fault.{Fault}
-use Rattle.er_exit.specs.declared.faults.Fault.TheVariants.{Arguments, Text, Suppressions, Damaged, NoStep, Memory, TableFull, CountFull, ThreadsFull, OpenTrace, OpenSuppressions, Read, ReadSuppressions, Write, WriteRules, Refused, WorkerNotStarted, WorkerLost, Unsettled}
+use Rattle.er_exit.specs.declared.faults.Fault.TheVariants.{Arguments, Text, Suppressions, Damaged, NoStep, Memory, TableFull, Beyond, OpenTrace, OpenSuppressions, Read, ReadSuppressions, Write, WriteRules, Refused, WorkerNotStarted, WorkerLost, Unsettled}
 
 -- behind a demo: whether it made a race
 abbrev pub demo_status : ℕ → ℕ
@@ -17,8 +17,7 @@ fault_status (Damaged damage) = 2
 fault_status (NoStep line) = 2
 fault_status Memory = 3
 fault_status TableFull = 3
-fault_status CountFull = 3
-fault_status ThreadsFull = 3
+fault_status (Beyond limit) = 3
 fault_status (Refused why) = 3
 fault_status WorkerNotStarted = 3
 fault_status WorkerLost = 3

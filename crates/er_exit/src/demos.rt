@@ -2,10 +2,10 @@
 ghost use Rattle.std.specs.Prelude.{IfOk, IfErr};
 ghost use Rattle.er_device.specs.Device.{inner_of};
 ghost use Rattle.er_exit.specs.Demos.{IsDemo};
-ghost use Rattle.er_exit.specs.Writes.{LeavesOutput};
+ghost use Rattle.er_exit.specs.Lines.{demo_line};
+ghost use Rattle.er_exit.specs.Writes.{LeavesOutput, WritesLine};
 
 use crate::faults::Fault;
-use crate::lines::write_demo;
 use er_device::Device;
 use er_gate::OpenGate;
 use er_load::{Workload, run_workload};
@@ -16,15 +16,12 @@ use std::thread::Threads;
 
 /// Runs a workload and writes its line: its name, how many steps its threads made, and how many races there were. Returns the exit
 /// status, which is 1 if there was a race and else 0.
-pub fn run_demo<R, O>(
+pub fn run_demo<R: Threads + Wait + Sync, O: Write>(
     rt: &R,
     alloc: Global,
     workload: Workload,
     output: &mut Device<O>,
 ) -> Result<u8, Fault>
-where
-    R: Threads + Wait + Sync,
-    O: Write,
     ensures demo { IfOk result (IsDemo workload (O.contents (inner_of output.old)) (O.contents (inner_of output.new))) }
     ensures nothing { IfErr result (LeavesOutput (O.contents (inner_of output.old)) (O.contents (inner_of output.new))) }
 {
@@ -32,4 +29,21 @@ where
     let races = run.races();
     write_demo(alloc, workload.name(), run.steps.len(), races, output)?;
     Ok(u8::from(races > 0))
+}
+
+// Writes the line of a demo to the output.
+fn write_demo<O: Write>(
+    alloc: Global,
+    name: &str,
+    steps: usize,
+    races: usize,
+    output: &mut Device<O>,
+) -> Result<(), Fault>
+    ensures { WritesLine (O.contents (inner_of output.old)) (O.contents (inner_of output.new)) (demo_line name.now steps races) result }
+{
+    let line = format!(in alloc; "{name}: steps {steps}, races {races}\n")?;
+    match output.write_all(line.as_bytes()) {
+        Ok(()) => Ok(()),
+        Err(_) => Err(Fault::Write),
+    }
 }

@@ -1,9 +1,10 @@
 //! What a person is shown of a file: how it begins, and one of its lines.
 ghost use Rattle.std.specs.Prelude.{◌≡◌, ◌∷◌, ◌++◌, List, ℕ, false, OnOk};
-ghost use Rattle.er_exit.specs.Excerpts.{line_with};
+ghost use Rattle.er_exit.specs.Inner.Excerpts.{line_with};
 
+use crate::plain::Put;
 use er_device::Device;
-use std::alloc::{AllocError, Global};
+use std::alloc::Global;
 use std::io::Read;
 
 /// How a file begins, and one of its lines, as far as its text was read.
@@ -37,59 +38,44 @@ impl Excerpt {
     }
 
     /// Reads up to the line's end, and at most a piece more than `byte_limit` bytes. A failed read ends the text.
-    pub(crate) fn read<D: Read>(
-        &mut self,
-        reader: &mut Device<D>,
-        byte_limit: u64,
-    ) -> Result<(), AllocError> {
+    pub(crate) fn read<D: Read>(&mut self, reader: &mut Device<D>, byte_limit: u64) -> Put {
+        let mut buffer = [0u8; 4096];
         for _ in 0..u64::MAX {
-            if !self.read_piece(reader)? || reader.taken() > byte_limit {
+            let Ok(count) = reader.read(&mut buffer) else {
+                break;
+            };
+            let piece = &buffer[..count];
+            let more = MOST_HEAD.saturating_sub(self.head.len());
+            self.head.extend_from_slice(&piece[..count.min(more)])?;
+            self.take_all(piece)?;
+            let is_shown = self.ended || self.line.len() >= ENOUGH;
+            if count == 0 || is_shown || reader.taken() > byte_limit {
                 break;
             }
         }
         Ok(())
     }
 
-    // Reads a piece, and says whether there may be more to read.
-    fn read_piece<D: Read>(&mut self, reader: &mut Device<D>) -> Result<bool, AllocError> {
-        let mut buffer = [0u8; 4096];
-        let Ok(count) = reader.read(&mut buffer) else {
-            return Ok(false);
-        };
-        let piece = &buffer[..count];
-        let more = MOST_HEAD.saturating_sub(self.head.len());
-        self.head.extend_from_slice(&piece[..count.min(more)])?;
-        self.take_all(piece)?;
-        Ok(count > 0 && !self.ended && self.line.len() < ENOUGH)
-    }
-
-    // Takes the next byte of the text.
-    fn take(&mut self, byte: u8) -> Result<(), AllocError>
-        ensures { OnOk result ((rest : List ℕ) → line_with self.new.before self.new.ended self.new.line.items rest ≡ line_with self.old.before self.old.ended self.old.line.items (byte ∷ rest)) }
-    {
-        if self.ended {
-            return Ok(());
-        }
-        if self.before > 0 {
-            if byte == b'\n' {
-                self.before -= 1;
-            }
-            return Ok(());
-        }
-        if byte == b'\n' {
-            self.ended = true;
-            return Ok(());
-        }
-        self.line.push(byte)?;
-        Ok(())
-    }
-
     // Takes the next piece of the text.
-    fn take_all(&mut self, piece: &[u8]) -> Result<(), AllocError>
+    fn take_all(&mut self, piece: &[u8]) -> Put
         ensures { OnOk result ((rest : List ℕ) → line_with self.new.before self.new.ended self.new.line.items rest ≡ line_with self.old.before self.old.ended self.old.line.items (piece.now ++ rest)) }
     {
         for byte in piece {
             self.take(*byte)?;
+        }
+        Ok(())
+    }
+
+    // Takes the next byte of the text.
+    fn take(&mut self, byte: u8) -> Put
+        ensures { OnOk result ((rest : List ℕ) → line_with self.new.before self.new.ended self.new.line.items rest ≡ line_with self.old.before self.old.ended self.old.line.items (byte ∷ rest)) }
+    {
+        match (self.before, byte) {
+            _ if self.ended => {}
+            (0, b'\n') => self.ended = true,
+            (0, _) => self.line.push(byte)?,
+            (_, b'\n') => self.before -= 1,
+            _ => {}
         }
         Ok(())
     }

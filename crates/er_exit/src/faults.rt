@@ -2,13 +2,16 @@
 ghost use Rattle.std.specs.Prelude.{◌≡◌};
 ghost use Rattle.er_exit.specs.Faults.{demo_fault, rules_fault, trace_fault};
 ghost use Rattle.er_exit.specs.Lines.{text_of};
+ghost use Rattle.er_exit.specs.declared.faults.Fault.TheVariants.{Memory};
 ghost use Rattle.er_exit.specs.Statuses.{fault_status};
 
+use er_clock::Limit;
 use er_damage::Damage;
 use er_event::Refusal;
 use er_load::LoadFault;
 use er_settle::Unsettled;
 use er_text::{ReadFault, TextFault};
+use std::alloc::AllocError;
 
 /// Why a command line ended without its result.
 #[derive(Clone, Copy, Debug, PartialEq, Eq)]
@@ -27,10 +30,8 @@ pub enum Fault {
     Memory,
     /// Several workers, or both analyses, wanted more sets of locks than the table takes.
     TableFull,
-    /// A thread releases, starts, signals and is joined 2^32 - 1 times or more.
-    CountFull,
-    /// By happens-before: a step orders a thread whose number is 65,536 or more.
-    ThreadsFull,
+    /// By happens-before: a step is beyond a limit of the clocks.
+    Beyond(Limit),
     /// The trace can't be opened.
     OpenTrace,
     /// The suppressions can't be opened, of several files the one of that number.
@@ -54,22 +55,8 @@ pub enum Fault {
 }
 
 impl Fault {
-    /// The exit status, from 2 to 4.
-    pub fn status(self) -> u8
-        ensures { result ≡ fault_status self }
-    {
-        self.row().0
-    }
-
-    /// The fault in words.
-    pub fn text(self) -> &'static str
-        ensures { result.now ≡ text_of self }
-    {
-        self.row().1
-    }
-
-    // The exit status, and the fault in words.
-    fn row(self) -> (u8, &'static str)
+    /// The exit status, from 2 to 4, and the fault in words.
+    pub(crate) fn row(self) -> (u8, &'static str)
         ensures status { result.0 ≡ fault_status self }
         ensures text { result.1.now ≡ text_of self }
     {
@@ -80,8 +67,7 @@ impl Fault {
             Fault::NoStep(_) => (2, "no step"),
             Fault::Memory => (3, "out of memory"),
             Fault::TableFull => (3, "table full"),
-            Fault::CountFull => (3, "count full"),
-            Fault::ThreadsFull => (3, "too many threads"),
+            Fault::Beyond(limit) => (3, limit.text()),
             Fault::Refused(refusal) => (3, refusal.text()),
             Fault::WorkerNotStarted => (3, "worker not started"),
             Fault::WorkerLost => (3, "worker lost"),
@@ -111,9 +97,8 @@ impl Fault {
     {
         match (fault, file) {
             (ReadFault::Text(fault), file) => Fault::Suppressions(file, fault),
-            (ReadFault::Memory, _) => Fault::Memory,
-            (ReadFault::Read, None) => Fault::Read,
             (ReadFault::Read, Some(file)) => Fault::ReadSuppressions(file),
+            (fault, _) => Fault::of_trace(fault),
         }
     }
 }
@@ -128,5 +113,13 @@ impl From<LoadFault> for Fault {
             LoadFault::WorkerLost => Fault::WorkerLost,
             LoadFault::Unsettled(unsettled) => Fault::Unsettled(unsettled),
         }
+    }
+}
+
+impl From<AllocError> for Fault {
+    ghost from_gives = { λ _ fault. fault ≡ Memory };
+
+    fn from(_error: AllocError) -> Fault {
+        Fault::Memory
     }
 }

@@ -21,6 +21,6 @@ mod quotes;
 pub use advice::{Trouble, advise};
 pub use demos::run_demo;
 pub use faults::Fault;
-pub use files::size_of;
-pub use lines::{put, report_fault, write_demo};
+pub use files::{is_ordinary, open_ordinary, size_of};
+pub use lines::{put, report_fault};
 pub use notes::{TextNotes, add_notes};

@@ -1,9 +1,9 @@
-//! The lines that the program writes by itself: that of a fault, and that of a demo.
-ghost use Rattle.std.specs.Prelude.{◌≡◌, IfOk, false, string_bytes};
+//! The line of a fault.
+ghost use Rattle.std.specs.Prelude.{◌≡◌, IfOk, string_bytes};
 ghost use Rattle.er_device.specs.Device.{inner_of, has_failed};
-ghost use Rattle.er_exit.specs.Lines.{damage_line, damage_lines, demo_line, fault_line, lost_line};
+ghost use Rattle.er_exit.specs.Lines.{damage_line, damage_lines, fault_line, lost_line};
 ghost use Rattle.er_exit.specs.Statuses.{fault_status};
-ghost use Rattle.er_exit.specs.Writes.{GetsLine, WritesBytes, WritesLine};
+ghost use Rattle.er_exit.specs.Writes.{GetsLine, WritesBytes};
 
 use crate::faults::Fault;
 use er_damage::Damage;
@@ -12,10 +12,12 @@ use er_text::{Lost, TextFault};
 use std::alloc::{AllocError, Global};
 use std::io::Write;
 
-fn line_of(alloc: Global, fault: Fault) -> Result<String, AllocError>
+type Line = Result<String, AllocError>;
+
+fn line_of(alloc: Global, fault: Fault) -> Line
     ensures { IfOk result (λ line. string_bytes line ≡ fault_line fault) }
 {
-    let text = fault.text();
+    let (_, text) = fault.row();
     match fault {
         Fault::Text(TextFault { line, .. }) => format!(in alloc; "line {line}: {text}\n"),
         Fault::Suppressions(None, TextFault { line, .. }) => {
@@ -35,7 +37,7 @@ fn line_of(alloc: Global, fault: Fault) -> Result<String, AllocError>
 }
 
 // A line for each kind of damage that there is.
-fn damage_lines(alloc: Global, damage: &Damage) -> Result<String, AllocError>
+fn damage_lines(alloc: Global, damage: &Damage) -> Line
     ensures { IfOk result (λ lines. string_bytes lines ≡ damage_lines damage.now) }
 {
     let refused = damage_line(alloc, damage.refused, "refused step")?;
@@ -46,7 +48,7 @@ fn damage_lines(alloc: Global, damage: &Damage) -> Result<String, AllocError>
     format!(in alloc; "{refused}{held_twice}{no_line_feed}{no_end}{lost}")
 }
 
-fn lost_line(alloc: Global, lost: Option<Lost>) -> Result<String, AllocError>
+fn lost_line(alloc: Global, lost: Option<Lost>) -> Line
     ensures { IfOk result (λ written. string_bytes written ≡ lost_line lost) }
 {
     match lost {
@@ -55,7 +57,7 @@ fn lost_line(alloc: Global, lost: Option<Lost>) -> Result<String, AllocError>
     }
 }
 
-fn damage_line(alloc: Global, line: Option<u64>, text: &str) -> Result<String, AllocError>
+fn damage_line(alloc: Global, line: Option<u64>, text: &str) -> Line
     ensures { IfOk result (λ written. string_bytes written ≡ damage_line line text.now) }
 {
     match line {
@@ -64,17 +66,18 @@ fn damage_line(alloc: Global, line: Option<u64>, text: &str) -> Result<String, A
     }
 }
 
-/// Writes these bytes to the errors. If a write fails they stay cut off: there is nowhere left to report that.
+/// Writes these bytes to the errors, unless a write has failed. If this one fails they stay cut off: there is nowhere left to report that.
 pub fn put<E: Write>(errors: &mut Device<E>, bytes: &[u8])
-    requires { has_failed errors.old ≡ false }
     ensures { WritesBytes (E.contents (inner_of errors.old)) (E.contents (inner_of errors.new)) bytes.now (has_failed errors.new) }
 {
+    if errors.failed() {
+        return;
+    }
     let _ = errors.write_all(bytes);
 }
 
 /// Writes the fault's line to the errors, and returns its status. Without memory for the line it writes `out of memory`.
 pub fn report_fault<E: Write>(alloc: Global, fault: Fault, errors: &mut Device<E>) -> u8
-    requires { has_failed errors.old ≡ false }
     ensures status { result ≡ fault_status fault }
     ensures line { GetsLine (E.contents (inner_of errors.old)) (E.contents (inner_of errors.new)) (fault_line fault) (has_failed errors.new) }
 {
@@ -82,24 +85,5 @@ pub fn report_fault<E: Write>(alloc: Global, fault: Fault, errors: &mut Device<E
         Ok(line) => put(errors, line.as_bytes()),
         Err(_) => put(errors, b"out of memory\n"),
     }
-    fault.status()
-}
-
-/// Writes the line of a demo to the output.
-pub fn write_demo<O: Write>(
-    alloc: Global,
-    name: &str,
-    steps: usize,
-    races: usize,
-    output: &mut Device<O>,
-) -> Result<(), Fault>
-    ensures { WritesLine (O.contents (inner_of output.old)) (O.contents (inner_of output.new)) (demo_line name.now steps races) result }
-{
-    let Ok(line) = format!(in alloc; "{name}: steps {steps}, races {races}\n") else {
-        return Err(Fault::Memory);
-    };
-    match output.write_all(line.as_bytes()) {
-        Ok(()) => Ok(()),
-        Err(_) => Err(Fault::Write),
-    }
+    fault.row().0
 }

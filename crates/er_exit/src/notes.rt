@@ -15,6 +15,10 @@ pub struct TextNotes {
     pub unordered: u64,
 }
 
+const NO_END: &str = "note: the trace has no end: it may be cut off\n";
+
+const NO_LINE_FEED: &str = "note: the last line has no line feed: it may be cut off\n";
+
 /// Adds the lines of these notes. If there is no memory for them, the lines stay as they are.
 pub fn add_notes(alloc: Global, lines: &mut Vec<u8>, notes: TextNotes)
     ensures { HasAdded lines.old.items lines.new.items notes }
@@ -27,14 +31,8 @@ pub fn add_notes(alloc: Global, lines: &mut Vec<u8>, notes: TextNotes)
 fn notes_text(alloc: Global, notes: TextNotes) -> Result<String, AllocError>
     ensures { IfOk result (λ text. string_bytes text ≡ notes_text notes) }
 {
-    let no_end = line_if(
-        notes.no_end,
-        "note: the trace has no end: it may be cut off\n",
-    );
-    let no_line_feed = line_if(
-        notes.no_line_feed,
-        "note: the last line has no line feed: it may be cut off\n",
-    );
+    let no_end = line_if(notes.no_end, NO_END);
+    let no_line_feed = line_if(notes.no_line_feed, NO_LINE_FEED);
     let unordered = unordered_line(alloc, notes.unordered)?;
     format!(in alloc; "{no_end}{no_line_feed}{unordered}")
 }

@@ -4,16 +4,11 @@ ghost use Rattle.er_exit.specs.Plain.{shown};
 ghost use Rattle.er_exit.specs.Quote.{front_mark, start_of};
 ghost use Rattle.er_exit.specs.Written.{line_text};
 
-use crate::plain::{put_fitting, put_shown, put_spaces};
+use crate::plain::{Put, put_fitting, put_shown, put_spaces};
 use std::alloc::{AllocError, Global};
 
 /// Puts the line, cut to 106 columns, and a mark under the byte at a place. Of an empty line it puts nothing.
-pub(crate) fn put_quote(
-    alloc: Global,
-    out: &mut Vec<u8>,
-    line: &[u8],
-    place: usize,
-) -> Result<(), AllocError>
+pub(crate) fn put_quote(alloc: Global, out: &mut Vec<u8>, line: &[u8], place: usize) -> Put
     requires { place ≤ length line.now }
     ensures { OnOk result (out.new.items ≡ out.old.items ++ line_text line.now place) }
 {
@@ -49,10 +44,9 @@ fn start_of(alloc: Global, line: &[u8], place: usize) -> Result<usize, AllocErro
 fn front_mark(start: usize) -> &'static [u8]
     ensures { result.now ≡ front_mark start }
 {
-    if start == 0 {
-        b"".as_slice()
-    } else {
-        b"..".as_slice()
+    match start {
+        0 => b"".as_slice(),
+        _ => b"..".as_slice(),
     }
 }
 

@@ -108,13 +108,6 @@ fn joining_at<A>(books: &[Book<A>], number: usize) -> Option<&Joint<Access<A>>>
     }
 }
 
-// Keeps the joining of a book that nobody needs, if it has one. Without memory for it, it is dropped.
-fn keep<A: Copy>(book: Book<A>, spare: &mut Vec<Joint<Access<A>>>) {
-    if let Some(joint) = book.into_joining() {
-        let _ = spare.push(joint);
-    }
-}
-
 // Puts a place at a number.
 fn put(places: &mut [u8; 128], number: usize, place: u8)
     requires { number < 128 }
@@ -163,7 +156,7 @@ fn remove<A: Copy>(
     let book = books.swap_remove(number);
     let moved = places[last];
     put(places, number, moved);
-    keep(book, spare);
+    book.keep_joining(spare);
 }
 
 const _: () = prove!(size_of::<Block<u64>>() == 192);

@@ -6,7 +6,7 @@ ghost use Rattle.er_explain.specs.WordBooks.{joining_in};
 ghost use Rattle.er_held.specs.ThreadLocks.{held_by};
 ghost use Rattle.er_model.specs.Following.{locks_for};
 
-use er_event::{Kind, LockId, Lockset, ThreadId};
+use er_event::{Kind, LockId, ThreadId};
 use er_held::ThreadLocks;
 use std::alloc::{AllocError, Global};
 use std::marker::Model;
@@ -128,41 +128,27 @@ impl<A: Copy> Joint<Access<A>> {
         let cover = locks.cover_of(alloc, join.thread, join.kind)?;
         let mut joint = match spare.pop() {
             Some(joint) => joint,
-            None => Joint::blank(alloc, join)?,
+            None => {
+                let pairs = Vec::new(alloc);
+                let parts = Parts {
+                    first,
+                    join,
+                    write: None,
+                    pairs,
+                };
+                Joint {
+                    parts: Box::new(alloc, parts)?,
+                }
+            }
         };
-        joint.restart(first, join, &cover)?;
-        Ok(joint)
-    }
-
-    // One that is to be begun.
-    fn blank(alloc: Global, any: Access<A>) -> Result<Joint<Access<A>>, AllocError> {
-        let parts = Parts {
-            first: any,
-            join: any,
-            write: None,
-            pairs: Vec::new(alloc),
-        };
-        Ok(Joint {
-            parts: Box::new(alloc, parts)?,
-        })
-    }
-
-    // Forgets what it says and begins anew.
-    fn restart(
-        &mut self,
-        first: Access<A>,
-        join: Access<A>,
-        cover: &Lockset,
-    ) -> Result<(), AllocError>
-        ensures { OnOk result (self.new ≡ begun first join join.kind cover.now) }
-    {
-        self.parts.first = first;
-        self.parts.join = join;
-        self.parts.write = match join.kind {
+        joint.parts.first = first;
+        joint.parts.join = join;
+        joint.parts.write = match join.kind {
             Kind::Read => None,
             Kind::Write => Some(join),
         };
-        put_locks(&mut self.parts.pairs, cover.as_slice())
+        put_locks(&mut joint.parts.pairs, cover.as_slice())?;
+        Ok(joint)
     }
 
     // A later access.
@@ -255,11 +241,10 @@ impl<A: Copy> Book<A> {
         Ok(())
     }
 
-    /// The joining of a book that nobody needs, if it has one.
-    pub(crate) fn into_joining(self) -> Option<Joint<Access<A>>> {
-        match self.packed {
-            Packed::Together(joint) => Some(joint),
-            Packed::Alone(..) => None,
+    /// Keeps the joining of a book that nobody needs, if it has one. Without memory for it, it is dropped.
+    pub(crate) fn keep_joining(self, spare: &mut Vec<Joint<Access<A>>>) {
+        if let Packed::Together(joint) = self.packed {
+            let _ = spare.push(joint);
         }
     }
 }

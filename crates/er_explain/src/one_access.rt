@@ -13,6 +13,7 @@ use crate::book::{Access, Joint};
 use crate::{Explanation, Uncovered, WordBooks};
 use er_event::{Event, Reply, Step, Word};
 use er_held::ThreadLocks;
+use er_keys::HashKeys;
 use std::alloc::{AllocError, Global};
 
 /// Why the step at place `k` of the list, from 0, is answered with a race, if it is. Its locks come in rising order. It goes over
@@ -98,7 +99,7 @@ fn books_of(alloc: Global, steps: &[Step], end: usize) -> Result<WordBooks<u64>,
     ensures { IfOk result (λ books. (w : ℕ) → named_book name_of (book_in books w) ≡ book_at (reading_of steps.now) w end) }
 {
     let mut locks = ThreadLocks::new(alloc);
-    let mut books = WordBooks::new(alloc);
+    let mut books = WordBooks::keyed(alloc, HashKeys::KNOWN);
     for (at, step) in steps[..end].iter().enumerate() {
         books.follow(&locks, at as u64, step)?;
         locks.follow(alloc, step)?;

@@ -1,7 +1,7 @@
 -- The reports of a trace in each form.
 use Rattle.std.specs.Prelude.{◌≡◌, ℕ, List}
-use Rattle.er_html.specs.Page.{html_reports}
-use Rattle.er_html.specs.declared.excerpts.Excerpt.{Excerpt}
+use Rattle.er_forms.specs.Page.{html_reports}
+use Rattle.er_forms.specs.declared.excerpts.Excerpt.{Excerpt}
 use Rattle.er_json.specs.Document.{json_reports}
 use Rattle.er_places.specs.Places.{PlaceTable}
 use Rattle.er_print.specs.Printed.{reports_text}

@@ -4,7 +4,8 @@ ghost use Rattle.er_forms.specs.Forms.{IsForm};
 ghost use Rattle.er_report.specs.Reports.{HaveNames};
 ghost use Rattle.er_rules.specs.Rules.{targets_of};
 
-use er_html::{Excerpt, html_text};
+use crate::excerpts::Excerpt;
+use crate::page::html_text;
 use er_json::json_text;
 use er_places::Places;
 use er_print::reports_text;

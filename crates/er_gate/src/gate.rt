@@ -18,14 +18,14 @@ impl Gate for OpenGate {
 }
 
 // How often a piece looks for the other at a gate of `PairGate::new`.
-const LOOKS: u32 = 100_000_000;
+const LOOKS: u64 = 100_000_000;
 
 /// At each of two pieces, shows that it is there and looks for the other a bounded number of times. Other pieces pass at once.
 #[derive(Drop)]
 pub struct PairGate {
     first: Side,
     second: Side,
-    looks: u32,
+    looks: u64,
 }
 
 // One of the two pieces: whether it is there, and whether it saw the other.
@@ -45,7 +45,7 @@ impl PairGate {
     }
 
     /// The same, at which each piece looks this often.
-    pub fn with_looks(first: u32, second: u32, looks: u32) -> PairGate
+    pub fn with_looks(first: u32, second: u32, looks: u64) -> PairGate
         requires { first ≢ second }
     {
         PairGate {
@@ -83,7 +83,7 @@ impl Side {
     }
 
     // Shows that it is there, and looks for the other until it sees it or has looked this often.
-    fn look_for(&self, other: &Side, looks: u32) {
+    fn look_for(&self, other: &Side, looks: u64) {
         self.here.store(true, Ordering::SeqCst);
         for _ in 0..looks {
             if other.here.load(Ordering::SeqCst) {

@@ -2,13 +2,10 @@
 use Rattle.std.specs.Prelude.{ℕ, Bool, true, false, cond, not, ◌&&◌, is_some, List, [], ◌∷◌, ◌++◌, flat_map, filter, Option, Some, None, codes, decimal}
 use Rattle.er_event.specs.Lockset.{has}
 use Rattle.er_event.specs.Refusal.{text_of, refusal_of}
-use Rattle.er_event.specs.declared.addresses.PageRange.{PageRange}
 use Rattle.er_event.specs.declared.refusals.NoRoom.{NoRoom}
 use Rattle.er_event.specs.declared.refusals.Refusal.{Refusal}
 use Rattle.er_event.specs.declared.steps.Event.{Event}
 use Rattle.er_event.specs.declared.steps.Event.TheVariants.{Acquire, Release, Access, Reuse, IgnoreOn, IgnoreOff, Show, Level, Sync}
-use Rattle.er_event.specs.declared.steps.Kind.{Kind}
-use Rattle.er_event.specs.declared.steps.Mode.{Mode}
 use Rattle.er_event.specs.declared.steps.Mode.TheVariants as mode
 use Rattle.er_event.specs.declared.steps.Step.{Step}
 use Rattle.er_event.specs.declared.steps.WordState.{WordState}
@@ -20,9 +17,11 @@ use Rattle.er_print.specs.Printed.{address_text, bytes_between, kind_text, lost_
 use Rattle.er_print.specs.Styles.{lock_in, locks_in, named_site, site_in, thread_in}
 use Rattle.er_print.specs.Values.{values_text}
 use Rattle.er_print.specs.declared.styles.Style.TheVariants as style
-use Rattle.er_report.specs.Lines.{LineView, RaceView, ReusedView, RefusedView, ShownView}
+use Rattle.er_report.specs.Lines.{LineView, RaceView, RacedView, RefusedView, ShownView}
 use Rattle.er_report.specs.Report.{Summary, told}
 use Rattle.er_report.specs.declared.report.Because.{Because}
+use Rattle.er_report.specs.declared.report.Deed.{Deed}
+use Rattle.er_report.specs.declared.report.Deed.TheVariants as deed
 use Rattle.er_report.specs.declared.report.Label.{Label}
 use Rattle.er_report.specs.declared.report.Label.TheVariants as label
 use Rattle.er_report.specs.declared.report.Report.{Report}
@@ -33,12 +32,6 @@ use Rattle.er_trace.specs.Names.{NameTable}
 abbrev pub rows_text : List (List ℕ) → List ℕ
 rows_text [] = []
 rows_text (row ∷ rows) = 10 ∷ row ++ flat_map (λ next. 44 ∷ 10 ∷ next) rows
-
--- who did what; the lines of a trace count from 1
-unfoldable pub access_text : NameTable → Because → List ℕ
-access_text names because =
-    codes "{\"line\":" ++ decimal because.line ++ codes ",\"thread\":" ++ thread_in style.Json names because.thread
-    ++ codes ",\"kind\":\"" ++ kind_text because.kind ++ codes "\",\"label\":\""
 
 -- what it has to do with a race, and the lock that does not cover it
 unfoldable pub label_member : NameTable → Label → List ℕ
@@ -63,107 +56,83 @@ abbrev pub place_if : NameTable → Option Place → List ℕ
 place_if names None = []
 place_if names (Some place) = place_member names place
 
--- one of a race's reasons
+-- one of a race's reasons: who did what, what it has to do with the race, and where; the lines of a trace count from 1
 unfoldable pub reason_text : NameTable → PlaceTable → Because → List ℕ
 reason_text names table because =
-    access_text names because ++ label_member names because.label ++ place_if table.names (reason_place table because) ++ codes "}"
+    codes "{\"line\":" ++ decimal because.line ++ codes ",\"thread\":" ++ thread_in style.Json names because.thread
+    ++ codes ",\"kind\":\"" ++ kind_text because.kind ++ codes "\",\"label\":\"" ++ label_member names because.label ++ place_if table.names (reason_place table because) ++ codes "}"
 
--- who did what to which word, where it stands, and what protected it
-unfoldable pub race_front : NameTable → ℕ → ℕ → Kind → ℕ → ℕ → List ℕ → List ℕ
-race_front names number thread kind word site held =
-    codes "{\"line\":" ++ decimal number ++ codes ",\"thread\":" ++ thread_in style.Json names thread ++ codes ",\"kind\":\"" ++ kind_text kind
-    ++ codes "\",\"address\":\"" ++ address_text word ++ codes "\",\"site\":" ++ site_in style.Json names site
-    ++ codes ",\"held\":" ++ locks_in style.Json names held ++ codes ",\"reasons\":["
-
--- who gave back which bytes, where, if that has a name, and which locks it held
-unfoldable pub reused_front : NameTable → ℕ → ℕ → PageRange → ℕ → List ℕ → List ℕ
-reused_front names number thread range site held =
-    codes "{\"line\":" ++ decimal number ++ codes ",\"thread\":" ++ thread_in style.Json names thread ++ codes ",\"reuse\":\"" ++ address_text range.lo
+-- who did what to which word, or gave back which bytes, where, and which locks it held; the missing site of a reuse is left out
+abbrev pub race_front : NameTable → RaceView → Deed → List ℕ
+race_front names race (deed.Access kind word) =
+    codes "{\"line\":" ++ decimal race.line ++ codes ",\"thread\":" ++ thread_in style.Json names race.thread ++ codes ",\"kind\":\"" ++ kind_text kind
+    ++ codes "\",\"address\":\"" ++ address_text word ++ codes "\",\"site\":" ++ site_in style.Json names race.site
+    ++ codes ",\"held\":" ++ locks_in style.Json names race.held ++ codes ",\"reasons\":["
+race_front names race (deed.Reuse range) =
+    codes "{\"line\":" ++ decimal race.line ++ codes ",\"thread\":" ++ thread_in style.Json names race.thread ++ codes ",\"reuse\":\"" ++ address_text range.lo
     ++ codes "\",\"bytes\":" ++ decimal (bytes_between range.lo range.hi)
-    ++ named_site style.Json names (codes ",\"site\":") site ++ codes ",\"held\":" ++ locks_in style.Json names held ++ codes ",\"reasons\":["
+    ++ named_site style.Json names (codes ",\"site\":") race.site ++ codes ",\"held\":" ++ locks_in style.Json names race.held ++ codes ",\"reasons\":["
 
 -- why it is a race
 abbrev pub reasons_end : NameTable → PlaceTable → List Because → List ℕ
 reasons_end names table explained = values_text (reason_text names table) explained ++ codes "]}"
 
--- a race as an object
-abbrev pub race_text : NameTable → PlaceTable → ℕ → ℕ → Kind → ℕ → ℕ → List ℕ → List Because → List ℕ
-race_text names table number thread kind word site held explained = race_front names number thread kind word site held ++ reasons_end names table explained
+-- what a thread asked for
+abbrev pub event_verb : Event → List ℕ
+event_verb (Acquire lock mode.Write) = codes "lock"
+event_verb (Acquire lock mode.Read) = codes "rlock"
+event_verb (Release lock mode.Write) = codes "unlock"
+event_verb (Release lock mode.Read) = codes "runlock"
+event_verb IgnoreOn = codes "ignore-on"
+event_verb IgnoreOff = codes "ignore-off"
+event_verb (Access kind word site) = kind_text kind
+event_verb (Reuse range) = codes "reuse"
+event_verb (Show word) = codes "show"
+event_verb (Level level) = codes "level"
+event_verb (Sync sync) = order_text sync
 
--- the verb of a lock event
-abbrev pub acquire_verb : Mode → List ℕ
-acquire_verb mode.Write = codes "lock"
-acquire_verb mode.Read = codes "rlock"
+-- the lock of a lock event; any other has none
+abbrev pub event_lock : NameTable → Event → List ℕ
+event_lock names (Acquire lock mode) = lock_in style.Json names lock
+event_lock names (Release lock mode) = lock_in style.Json names lock
+event_lock names event = codes "null"
 
-abbrev pub release_verb : Mode → List ℕ
-release_verb mode.Write = codes "unlock"
-release_verb mode.Read = codes "runlock"
+-- a refused step as an object: who asked for what, and why it was refused
+unfoldable pub refused_text : NameTable → ℕ → Step → Refusal → List ℕ
+refused_text names number step refusal =
+    codes "{\"line\":" ++ decimal number ++ codes ",\"thread\":" ++ thread_in style.Json names step.thread ++ codes ",\"event\":\"" ++ event_verb step.event
+    ++ codes "\",\"lock\":" ++ event_lock names step.event ++ codes ",\"why\":\"" ++ text_of refusal ++ codes "\"}"
 
--- what a thread asked for with a lock, and why it was refused
-unfoldable pub lock_event_member : NameTable → List ℕ → ℕ → Refusal → List ℕ
-lock_event_member names verb lock refusal = verb ++ codes "\",\"lock\":" ++ lock_in style.Json names lock ++ codes ",\"why\":\"" ++ text_of refusal ++ codes "\"}"
+-- a state of several threads, with its candidate set
+abbrev pub candidates_member : NameTable → List ℕ → List ℕ → List ℕ
+candidates_member names word locks = word ++ codes "\",\"owner\":null,\"candidates\":" ++ locks_in style.Json names locks ++ codes "}"
 
--- and with none
-unfoldable pub plain_event_member : List ℕ → Refusal → List ℕ
-plain_event_member verb refusal = verb ++ codes "\",\"lock\":null,\"why\":\"" ++ text_of refusal ++ codes "\"}"
-
-abbrev pub event_member : NameTable → Event → Refusal → List ℕ
-event_member names (Acquire lock mode) = lock_event_member names (acquire_verb mode) lock
-event_member names (Release lock mode) = lock_event_member names (release_verb mode) lock
-event_member names IgnoreOn = plain_event_member (codes "ignore-on")
-event_member names IgnoreOff = plain_event_member (codes "ignore-off")
-event_member names (Access kind word site) = plain_event_member (kind_text kind)
-event_member names (Reuse range) = plain_event_member (codes "reuse")
-event_member names (Show word) = plain_event_member (codes "show")
-event_member names (Level level) = plain_event_member (codes "level")
-event_member names (Sync sync) = plain_event_member (order_text sync)
-
--- which step was refused
-unfoldable pub refused_front : NameTable → ℕ → ℕ → List ℕ
-refused_front names number thread =
-    codes "{\"line\":" ++ decimal number ++ codes ",\"thread\":" ++ thread_in style.Json names thread ++ codes ",\"event\":\""
-
--- a refused step as an object
-abbrev pub refused_text : NameTable → ℕ → Step → Refusal → List ℕ
-refused_text names number step refusal = refused_front names number step.thread ++ event_member names step.event refusal
-
--- the state of a word, and its candidate set if several threads use it
+-- the state of a word
 unfoldable pub state_member : NameTable → WordState → List ℕ
 state_member names Virgin = codes "virgin\",\"owner\":null,\"candidates\":null}"
 state_member names (Exclusive thread) = codes "exclusive\",\"owner\":" ++ thread_in style.Json names thread ++ codes ",\"candidates\":null}"
-state_member names (Shared locks) = codes "shared\",\"owner\":null,\"candidates\":" ++ locks_in style.Json names locks ++ codes "}"
-state_member names (SharedModified locks) = codes "shared-modified\",\"owner\":null,\"candidates\":" ++ locks_in style.Json names locks ++ codes "}"
-
--- which word was shown
-unfoldable pub shown_front : ℕ → ℕ → List ℕ
-shown_front number word = codes "{\"line\":" ++ decimal number ++ codes ",\"address\":\"" ++ address_text word ++ codes "\",\"state\":\""
-
--- and that as an object
-abbrev pub shown_text : NameTable → ℕ → ℕ → WordState → List ℕ
-shown_text names number word state = shown_front number word ++ state_member names state
+state_member names (Shared locks) = candidates_member names (codes "shared") locks
+state_member names (SharedModified locks) = candidates_member names (codes "shared-modified") locks
 
 -- the object of a line
 abbrev pub row_text : NameTable → PlaceTable → LineView → List ℕ
-row_text names table (RaceView number thread kind word site held explained) = race_text names table number thread kind word site held explained
-row_text names table (ReusedView number thread range site held explained) = reused_front names number thread range site held ++ reasons_end names table explained
+row_text names table (RacedView race) = race_front names race race.deed ++ reasons_end names table race.explained
 row_text names table (RefusedView number step refusal) = refused_text names number step refusal
-row_text names table (ShownView number word state) = shown_text names number word state
+row_text names table (ShownView number word state) =
+    codes "{\"line\":" ++ decimal number ++ codes ",\"address\":\"" ++ address_text word ++ codes "\",\"state\":\"" ++ state_member names state
 
 abbrev pub is_race : LineView → Bool
-is_race (RaceView number thread kind word site held explained) = true
-is_race (ReusedView number thread range site held explained) = true
+is_race (RacedView race) = true
 is_race (RefusedView number step refusal) = false
 is_race (ShownView number word state) = false
 
 abbrev pub is_refused : LineView → Bool
-is_refused (RaceView number thread kind word site held explained) = false
-is_refused (ReusedView number thread range site held explained) = false
+is_refused (RacedView race) = false
 is_refused (RefusedView number step refusal) = true
 is_refused (ShownView number word state) = false
 
 abbrev pub is_shown : LineView → Bool
-is_shown (RaceView number thread kind word site held explained) = false
-is_shown (ReusedView number thread range site held explained) = false
+is_shown (RacedView race) = false
 is_shown (RefusedView number step refusal) = false
 is_shown (ShownView number word state) = true
 
@@ -180,26 +149,18 @@ stop_member (Some stop) = codes "],\n\"stop\":{\"line\":" ++ decimal stop.0 ++ c
 unfoldable pub counts_member : List ℕ → List ℕ
 counts_member counts = codes ",\n\"suppressions\":[" ++ values_text decimal counts ++ codes "]"
 
--- the totals
-unfoldable pub totals_front : Summary → List ℕ
-totals_front s =
-    codes ",\n\"totals\":{\"steps\":" ++ decimal s.steps ++ codes ",\"races\":" ++ decimal s.races
-    ++ codes ",\"suppressed\":" ++ decimal s.suppressed ++ codes ",\"refused\":" ++ decimal s.refused
-
--- with the lost events, if some were; this closes the document
+-- the totals, with the lost events, if some were; this closes the document
 unfoldable pub totals_member : Summary → List ℕ
-totals_member s = totals_front s ++ lost_text (codes ",\"lost\":") [] s.lost ++ codes "}}\n"
-
--- the rows of a list, behind its name
-unfoldable pub list_text : List ℕ → List (List ℕ) → List ℕ
-list_text name rows = name ++ rows_text rows
+totals_member s =
+    (codes ",\n\"totals\":{\"steps\":" ++ decimal s.steps ++ codes ",\"races\":" ++ decimal s.races ++ codes ",\"suppressed\":" ++ decimal s.suppressed
+    ++ codes ",\"refused\":" ++ decimal s.refused) ++ lost_text (codes ",\"lost\":") [] s.lost ++ codes "}}\n"
 
 -- the lists of a document, each in the order of the report, and the first behind this heading
 unfoldable pub lists_text : List ℕ → NameTable → PlaceTable → List LineView → List ℕ
 lists_text heading names table lines =
-    list_text heading (flat_map (rows_if is_race names table) lines)
-    ++ list_text (codes "],\n\"refused\":[") (flat_map (rows_if is_refused names table) lines)
-    ++ list_text (codes "],\n\"shown\":[") (flat_map (rows_if is_shown names table) lines)
+    heading ++ rows_text (flat_map (rows_if is_race names table) lines)
+    ++ codes "],\n\"refused\":[" ++ rows_text (flat_map (rows_if is_refused names table) lines)
+    ++ codes "],\n\"shown\":[" ++ rows_text (flat_map (rows_if is_shown names table) lines)
 
 -- the document of a report
 unfoldable pub document_text : List ℕ → NameTable → PlaceTable → Summary → List ℕ

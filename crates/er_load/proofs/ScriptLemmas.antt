@@ -45,13 +45,14 @@ pub from-none : (none script : List Action) (es : List Event) → none ≡ [] �
 unfolding events_in_all
 from-none none script es empty grown = grown ∙ ap (λ (xs : List Action). events_in_all xs ++ es) empty
 
--- and ends with one action
-pub ended : (none mid script : List Action) (x : Action) (es : List Event) → none ≡ [] → events_in_all mid ≡ events_in_all none ++ es → script ≡ mid ++ x ∷ [] → events_in_all script ≡ es ++ events_by x
-ended none mid script x es empty grown is = ap events_in_all is ∙ (events-push mid x ∙ ap (λ (fs : List Event). fs ++ events_by x) (from-none none mid es empty grown))
+-- a script that grows and then ends with one action
+pub and-one : (old mid now : List Action) (x : Action) (es : List Event) → events_in_all mid ≡ events_in_all old ++ es → now ≡ mid ++ x ∷ [] → events_in_all now ≡ events_in_all old ++ (es ++ events_by x)
+and-one old mid now x es grown is =
+    ap events_in_all is ∙ (events-push mid x ∙ (ap (λ (fs : List Event). fs ++ events_by x) grown ∙ append_assoc (events_in_all old) es (events_by x)))
 
--- or stands between two
-pub between : (none one mid script : List Action) (x y : Action) (es : List Event) → none ≡ [] → one ≡ none ++ x ∷ [] → events_in_all mid ≡ events_in_all one ++ es → script ≡ mid ++ y ∷ []
-    → events_in_all script ≡ events_by x ++ (es ++ events_by y)
-between none one mid script x y es empty first grown last =
-    let begun : events_in_all one ≡ events_by x = ap events_in_all (first ∙ ap (λ (xs : List Action). xs ++ x ∷ []) empty) ∙ one-event x in
-    ap events_in_all last ∙ (events-push mid y ∙ (ap (λ (fs : List Event). fs ++ events_by y) (grown ∙ ap (λ (fs : List Event). fs ++ es) begun) ∙ append_assoc (events_by x) es (events_by y)))
+-- or grows between two
+pub around : (old one mid now : List Action) (x y : Action) (es : List Event) → one ≡ old ++ x ∷ [] → events_in_all mid ≡ events_in_all one ++ es → now ≡ mid ++ y ∷ []
+    → events_in_all now ≡ events_in_all old ++ (events_by x ++ (es ++ events_by y))
+around old one mid now x y es first grown last =
+    let begun : events_in_all one ≡ events_in_all old ++ events_by x = ap events_in_all first ∙ events-push old x in
+    and-one one mid now y es grown last ∙ (ap (λ (fs : List Event). fs ++ (es ++ events_by y)) begun ∙ append_assoc (events_in_all old) (events_by x) (es ++ events_by y))

@@ -15,17 +15,16 @@ use er_seat::Seat;
 use std::alloc::Global;
 use std::sync::Wait;
 
+/// A seat that has made the calls of a task, or why a call was refused.
+pub(crate) type Answer = Result<Seat, Refusal>;
+
+type Made = Result<(), Refusal>;
+
 /// Runs a thread's task at a detector. It is a trait and not a closure, because the prover knows nothing of a closure whose captured
 /// value itself holds a borrow, as a `Detector` borrows its table.
 pub(crate) trait Runner: Sync {
     /// The seat, once it has made the calls of the task.
-    fn run_task<R: Wait>(
-        &self,
-        rt: &R,
-        alloc: Global,
-        task: Task,
-        seat: Seat,
-    ) -> Result<Seat, Refusal>
+    fn run_task<R: Wait>(&self, rt: &R, alloc: Global, task: Task, seat: Seat) -> Answer
         requires number { task.thread < thread_count task.workload }
         requires before { IsSeatAt task.thread (done_before task.workload task.stage task.thread) seat }
         ensures seat { IfOk result (λ seat. IsSeatAt task.thread (done_after task.workload task.stage task.thread) seat) }
@@ -40,19 +39,10 @@ pub(crate) struct DetectorRunner<'a, 't, G: Gate> {
 }
 
 impl<'a, 't, G: Gate> Runner for DetectorRunner<'a, 't, G> {
-    fn run_task<R: Wait>(
-        &self,
-        rt: &R,
-        alloc: Global,
-        task: Task,
-        mut seat: Seat,
-    ) -> Result<Seat, Refusal> {
-        let script = match script_of(alloc, task) {
-            Ok(script) => script,
-            Err(_) => {
-                drop(seat);
-                return Err(Refusal::OutOfMemory);
-            }
+    fn run_task<R: Wait>(&self, rt: &R, alloc: Global, task: Task, mut seat: Seat) -> Answer {
+        let Ok(script) = script_of(alloc, task) else {
+            drop(seat);
+            return Err(Refusal::OutOfMemory);
         };
         if seat.calls().is_empty() {
             self.gate.enter(seat.thread().number());
@@ -70,12 +60,7 @@ impl<'a, 't, G: Gate> Runner for DetectorRunner<'a, 't, G> {
 }
 
 // Makes the calls of a script, in order.
-fn run_script<R: Wait>(
-    rt: &R,
-    detector: &Detector<'_>,
-    seat: &mut Seat,
-    script: &[Action],
-) -> Result<(), Refusal>
+fn run_script<R: Wait>(rt: &R, detector: &Detector<'_>, seat: &mut Seat, script: &[Action]) -> Made
     requires { IsTrue (accepts (holdings_of seat.old) (events_in_all script.now)) }
     ensures made { OnOk result (HasMade seat.old seat.new (events_in_all script.now)) }
     ensures refusals { IfErr result (λ why. IsTrue (may_meet why)) }
@@ -87,12 +72,7 @@ fn run_script<R: Wait>(
 }
 
 // Makes the call of one action.
-fn make_calls<R: Wait>(
-    rt: &R,
-    detector: &Detector<'_>,
-    seat: &mut Seat,
-    action: Action,
-) -> Result<(), Refusal>
+fn make_calls<R: Wait>(rt: &R, detector: &Detector<'_>, seat: &mut Seat, action: Action) -> Made
     requires { IsTrue (accepts (holdings_of seat.old) (events_by action)) }
     ensures made { OnOk result (HasMade seat.old seat.new (events_by action)) }
     ensures refusals { IfErr result (λ why. IsTrue (may_meet why)) }

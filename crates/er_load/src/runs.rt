@@ -21,6 +21,8 @@ use std::alloc::Global;
 use std::sync::Wait;
 use std::thread::Threads;
 
+type Opened = Result<(), LoadFault>;
+
 // How many sets of locks a workload's table takes.
 const MAX_SETS: u32 = 1024;
 
@@ -44,25 +46,7 @@ pub fn run_workload<G: Gate, R: Threads + Wait + Sync>(
     ensures faults { IfErr result MayFail }
 {
     let table = LocksetTable::new(alloc, MAX_SETS)?;
-    let run = run_over(rt, alloc, &table, workload, gate);
-    drop(table);
-    run
-}
-
-// The same over this table. Split for the prover.
-fn run_over<G: Gate, R: Threads + Wait + Sync>(
-    rt: &R,
-    alloc: Global,
-    table: &LocksetTable,
-    workload: Workload,
-    gate: &G,
-) -> Result<Run, LoadFault>
-    ensures events { IfOk result (λ run. (t : ℕ) → events_of run.steps.items t (length run.steps.items) ≡ workload_events workload t) }
-    ensures count { IfOk result (λ run. vec_len run.steps ≡ step_count workload) }
-    ensures replies { IfOk result (λ run. (k : ℕ) (step : StepShown) → slice_get run.steps.items k ≡ Some step → answer run.steps.items k ≡ Ok (reply_at run.replies.items k)) }
-    ensures faults { IfErr result MayFail }
-{
-    let detector = Detector::new(alloc, table, config())?;
+    let detector = Detector::new(alloc, &table, config())?;
     match run_stages(rt, alloc, &detector, workload, gate) {
         Ok(seats) => match settle(alloc, detector, seats) {
             Ok(run) => Ok(run),
@@ -109,11 +93,7 @@ fn run_stages<G: Gate, R: Threads + Wait + Sync>(
 }
 
 // Opens a seat for each thread, by its number, and puts them into an empty list.
-fn open_seats(
-    detector: &Detector<'_>,
-    workload: Workload,
-    seats: &mut Vec<Seat>,
-) -> Result<(), LoadFault>
+fn open_seats(detector: &Detector<'_>, workload: Workload, seats: &mut Vec<Seat>) -> Opened
     requires name { detector.now.name ≡ detector_name }
     requires empty { seats.old.items ≡ [] }
     ensures count { OnOk result (vec_len seats.new ≡ thread_count workload) }

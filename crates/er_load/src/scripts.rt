@@ -24,157 +24,106 @@ pub(crate) enum Action {
     IgnoreOff,
 }
 
-// The first word that a workload touches.
-const FIRST_WORD: u64 = 0x400;
+type Put = Result<(), AllocError>;
+
+// The word that is shared, and the first one of several.
+const SHARED: u64 = 0x400;
 
 /// The actions of a task.
-pub(crate) fn script_of(alloc: Global, whose: Task) -> Result<Vec<Action>, AllocError>
-    requires { whose.thread < thread_count whose.workload }
-    ensures { IfOk result (λ script. events_in_all script.items ≡ stage_events whose.workload whose.stage whose.thread) }
+pub(crate) fn script_of(alloc: Global, task: Task) -> Result<Vec<Action>, AllocError>
+    requires { task.thread < thread_count task.workload }
+    ensures { IfOk result (λ script. events_in_all script.items ≡ stage_events task.workload task.stage task.thread) }
 {
-    let Task {
-        workload,
-        stage,
-        thread,
-    } = whose;
-    match stage {
-        Stage::First => first_script_of(alloc, workload, thread.number()),
-        Stage::Second => second_script_of(alloc, workload, thread.number()),
-    }
-}
-
-#[tactic(auto, unfolding(crate::specs::Workloads::stage_events, crate::specs::Inner::Scripts::events_in_all))]
-fn first_script_of(
-    alloc: Global,
-    workload: Workload,
-    thread: u32,
-) -> Result<Vec<Action>, AllocError>
-    requires { thread < thread_count workload }
-    ensures { IfOk result (λ script. events_in_all script.items ≡ stage_events workload Stage.First thread) }
-{
-    match workload {
-        Workload::LockedCounter => locked_counts(alloc),
-        Workload::RacyCounter => rounds(alloc, &[Action::Access(Kind::Write, first_word())], 2),
-        Workload::InitThenRead => {
-            if thread == 0 {
-                words(alloc, Kind::Write)
-            } else {
-                Ok(Vec::new(alloc))
-            }
-        }
-        Workload::RwTable => {
-            let round = table_round(alloc, thread)?;
-            rounds(alloc, round.as_slice(), 10)
-        }
-        Workload::ReusePool => page_use(alloc, 1 + u64::from(thread)),
-        Workload::IgnoredStats => ignored_counts(alloc),
-    }
-}
-
-#[tactic(auto, unfolding(crate::specs::Workloads::stage_events, crate::specs::Inner::Scripts::events_in_all))]
-fn second_script_of(
-    alloc: Global,
-    workload: Workload,
-    thread: u32,
-) -> Result<Vec<Action>, AllocError>
-    requires { thread < thread_count workload }
-    ensures { IfOk result (λ script. events_in_all script.items ≡ stage_events workload Stage.Second thread) }
-{
-    match workload {
-        Workload::InitThenRead => {
-            if thread == 0 {
-                Ok(Vec::new(alloc))
-            } else {
-                words(alloc, Kind::Read)
-            }
-        }
-        Workload::ReusePool => page_use(alloc, 2 - u64::from(thread)),
-        _ => Ok(Vec::new(alloc)),
-    }
-}
-
-// Counts up a word under the lock.
-#[tactic(auto, unfolding(crate::specs::Inner::Scripts::events_in_all))]
-fn locked_counts(alloc: Global) -> Result<Vec<Action>, AllocError>
-    ensures { IfOk result (λ script. events_in_all script.items ≡ times 100 (locked Mode.Write count_events)) }
-{
-    let round = [
-        Action::Acquire(Mode::Write),
-        Action::Access(Kind::Read, first_word()),
-        Action::Access(Kind::Write, first_word()),
-        Action::Release(Mode::Write),
-    ];
-    rounds(alloc, &round, 100)
-}
-
-// Counts up a word in an ignore bracket.
-fn ignored_counts(alloc: Global) -> Result<Vec<Action>, AllocError>
-    ensures { IfOk result (λ script. events_in_all script.items ≡ ignored_events) }
-{
-    let round = [
-        Action::Access(Kind::Read, first_word()),
-        Action::Access(Kind::Write, first_word()),
-    ];
     let mut script = Vec::new(alloc);
-    script.push(Action::IgnoreOn)?;
-    add_rounds(&mut script, &round, 10)?;
-    script.push(Action::IgnoreOff)?;
+    add_task(&mut script, task)?;
     Ok(script)
+}
+
+// Adds the actions of a task.
+#[tactic(auto, unfolding(crate::specs::Workloads::stage_events, crate::specs::Inner::Scripts::events_in_all))]
+fn add_task(script: &mut Vec<Action>, task: Task) -> Put
+    requires { task.thread < thread_count task.workload }
+    ensures { OnOk result (events_in_all script.new.items ≡ events_in_all script.old.items ++ stage_events task.workload task.stage task.thread) }
+{
+    let number = u64::from(task.thread.number());
+    match (task.stage, task.workload, number) {
+        (Stage::First, Workload::LockedCounter, _) => add_rounds(script, &locked_count(), 100),
+        (Stage::First, Workload::RacyCounter, _) => add_rounds(script, &[at(Kind::Write, 0)], 2),
+        (Stage::First, Workload::InitThenRead, 0) => add_words(script, Kind::Write, SHARED, 16),
+        (Stage::Second, Workload::InitThenRead, 1..) => add_words(script, Kind::Read, SHARED, 16),
+        (Stage::First, Workload::RwTable, _) => add_rounds(script, &table_round(number), 10),
+        (Stage::First, Workload::ReusePool, _) => add_page(script, 1 + number),
+        (Stage::Second, Workload::ReusePool, _) => add_page(script, 2 - number),
+        (Stage::First, Workload::IgnoredStats, _) => add_ignored(script),
+        _ => Ok(()),
+    }
+}
+
+// An access to one of the first words.
+fn at(kind: Kind, place: u64) -> Action
+    requires { place < 1024 }
+    ensures { result ≡ Action.Access kind (1024 + place) }
+{
+    Action::Access(kind, Word::new(SHARED + place))
+}
+
+// A word read and written under the lock.
+#[tactic(auto, unfolding(crate::specs::Inner::Scripts::events_in_all))]
+fn locked_count() -> [Action; 4]
+    ensures { events_in_all result ≡ locked Mode.Write count_events }
+{
+    let (read, write) = (at(Kind::Read, 0), at(Kind::Write, 0));
+    [
+        Action::Acquire(Mode::Write),
+        read,
+        write,
+        Action::Release(Mode::Write),
+    ]
 }
 
 // One round at a table, which the first thread writes and the others read.
-fn table_round(alloc: Global, thread: u32) -> Result<Vec<Action>, AllocError>
-    ensures { IfOk result (λ round. events_in_all round.items ≡ table_events thread) }
+#[tactic(auto, unfolding(crate::specs::Inner::Scripts::events_in_all, crate::specs::Workloads::each_word))]
+fn table_round(thread: u64) -> [Action; 6]
+    ensures { events_in_all result ≡ table_events thread }
 {
-    if thread == 0 {
-        locked_words(alloc, Mode::Write, Kind::Write)
+    let (mode, kind) = if thread == 0 {
+        (Mode::Write, Kind::Write)
     } else {
-        locked_words(alloc, Mode::Read, Kind::Read)
-    }
+        (Mode::Read, Kind::Read)
+    };
+    [
+        Action::Acquire(mode),
+        at(kind, 0),
+        at(kind, 1),
+        at(kind, 2),
+        at(kind, 3),
+        Action::Release(mode),
+    ]
 }
 
-// Accesses to 4 words, under the lock.
-fn locked_words(alloc: Global, mode: Mode, kind: Kind) -> Result<Vec<Action>, AllocError>
-    ensures { IfOk result (λ round. events_in_all round.items ≡ locked mode (each_word kind 1024 4)) }
+// Adds counts of a word in an ignore bracket.
+#[tactic(auto, unfolding(crate::specs::Inner::Scripts::events_in_all))]
+fn add_ignored(script: &mut Vec<Action>) -> Put
+    ensures { OnOk result (events_in_all script.new.items ≡ events_in_all script.old.items ++ ignored_events) }
 {
-    let mut round = Vec::new(alloc);
-    round.push(Action::Acquire(mode))?;
-    add_words(&mut round, kind, FIRST_WORD, 4)?;
-    round.push(Action::Release(mode))?;
-    Ok(round)
+    script.push(Action::IgnoreOn)?;
+    add_rounds(script, &[at(Kind::Read, 0), at(Kind::Write, 0)], 10)?;
+    script.push(Action::IgnoreOff)?;
+    Ok(())
 }
 
-// Accesses to 16 words.
-fn words(alloc: Global, kind: Kind) -> Result<Vec<Action>, AllocError>
-    ensures { IfOk result (λ script. events_in_all script.items ≡ each_word kind 1024 16) }
-{
-    let mut script = Vec::new(alloc);
-    add_words(&mut script, kind, FIRST_WORD, 16)?;
-    Ok(script)
-}
-
-// Writes of a page's first words, and the page's reuse.
-fn page_use(alloc: Global, number: u64) -> Result<Vec<Action>, AllocError>
+// Adds writes of a page's first words, and the page's reuse.
+fn add_page(script: &mut Vec<Action>, number: u64) -> Put
     requires { number ≤ 2 }
-    ensures { IfOk result (λ script. events_in_all script.items ≡ page_events number) }
+    ensures { OnOk result (events_in_all script.new.items ≡ events_in_all script.old.items ++ page_events number) }
 {
-    let mut script = Vec::new(alloc);
-    add_words(&mut script, Kind::Write, Word::PER_PAGE * number, 8)?;
+    add_words(script, Kind::Write, Word::PER_PAGE * number, 8)?;
     script.push(Action::Reuse(whole_page(number)))?;
-    Ok(script)
-}
-
-// The same actions again and again.
-fn rounds(alloc: Global, round: &[Action], count: u32) -> Result<Vec<Action>, AllocError>
-    ensures { IfOk result (λ script. events_in_all script.items ≡ times count (events_in_all round.now)) }
-{
-    let mut script = Vec::new(alloc);
-    add_rounds(&mut script, round, count)?;
-    Ok(script)
+    Ok(())
 }
 
 // Adds the same actions again and again.
-fn add_rounds(script: &mut Vec<Action>, round: &[Action], count: u32) -> Result<(), AllocError>
+fn add_rounds(script: &mut Vec<Action>, round: &[Action], count: u32) -> Put
     ensures { OnOk result (events_in_all script.new.items ≡ events_in_all script.old.items ++ times count (events_in_all round.now)) }
 {
     for _ in 0..count {
@@ -184,7 +133,7 @@ fn add_rounds(script: &mut Vec<Action>, round: &[Action], count: u32) -> Result<
 }
 
 // Adds accesses to so many words, from this one on.
-fn add_words(script: &mut Vec<Action>, kind: Kind, first: u64, count: u64) -> Result<(), AllocError>
+fn add_words(script: &mut Vec<Action>, kind: Kind, first: u64, count: u64) -> Put
     requires { first + count < 2 ^ 46 }
     ensures { OnOk result (events_in_all script.new.items ≡ events_in_all script.old.items ++ each_word kind first count) }
 {
@@ -192,13 +141,6 @@ fn add_words(script: &mut Vec<Action>, kind: Kind, first: u64, count: u64) -> Re
         script.push(Action::Access(kind, Word::new(first + at)))?;
     }
     Ok(())
-}
-
-// The word that is shared, and the first one of several.
-fn first_word() -> Word
-    ensures { result ≡ 1024 }
-{
-    Word::new(FIRST_WORD)
 }
 
 // All words of a page.

@@ -7,7 +7,7 @@ ghost use Rattle.er_load.specs.Inner.Progress.{IsSeatAt, AreSeatsAt, EndsAt, Are
 ghost use Rattle.er_load.specs.Workloads.{thread_count};
 
 use crate::LoadFault;
-use crate::runner::Runner;
+use crate::runner::{Answer, Runner};
 use crate::workloads::{Stage, Task, Workload};
 use er_event::Refusal;
 use er_seat::Seat;
@@ -34,7 +34,7 @@ enum Worker {
 
 impl Worker {
     // The seat, once it is done with the stage.
-    fn join<R: Threads>(self, rt: &R) -> Result<Seat, Refusal>
+    fn join<R: Threads>(self, rt: &R) -> Answer
         ensures seat { (workload : WorkloadShown) (stage : StageShown) (t : ℕ) → EndsAt workload stage t self → IfOk result (λ seat. IsSeatAt t (done_after workload stage t) seat) }
         ensures refusals { IfErr result (λ why. IsTrue (may_meet why)) }
     {
@@ -102,11 +102,7 @@ pub(crate) fn run_stage<P: Runner, R: Threads + Wait + Sync>(
 }
 
 // What all workers answer, in their order, put into a list that has the room. All are joined.
-fn join_all<R: Threads>(
-    rt: &R,
-    workers: Vec<Worker>,
-    mut answers: Vec<Result<Seat, Refusal>>,
-) -> Vec<Result<Seat, Refusal>>
+fn join_all<R: Threads>(rt: &R, workers: Vec<Worker>, mut answers: Vec<Answer>) -> Vec<Answer>
     requires empty { answers.items ≡ [] }
     requires room { vec_len workers ≤ vec_capacity answers }
     ensures count { vec_len result ≡ vec_len workers }
@@ -120,7 +116,7 @@ fn join_all<R: Threads>(
 }
 
 // The seats of all workers, or the first refusal among their answers.
-fn all_seats(alloc: Global, answers: Vec<Result<Seat, Refusal>>) -> Result<Vec<Seat>, Refusal>
+fn all_seats(alloc: Global, answers: Vec<Answer>) -> Result<Vec<Seat>, Refusal>
     ensures seats { IfOk result (λ seats. answers.items ≡ map Ok seats.items) }
     ensures first { IfErr result (λ why. (why ≡ Refusal.OutOfMemory) ⊎ (first_refusal answers.items ≡ Some why)) }
 {

@@ -1,25 +1,24 @@
--- A list grows by a step; a shadow word may have numbers of epochs; and the latest reads are of distinct threads.
-use Rattle.std.proofs.Common.{◌≡◌, ℕ, zero, suc, ◌<◌, ◌≤◌, Bool, true, false, ◌&&◌, not, cond, List, [], ◌∷◌, ◌++◌, filter, map, length, Option, refl, ap, sym, ◌∙◌, arith, ⊎_elim, inl, inr, ◌⊎◌}
+-- A list grows by a step, and the latest reads are of distinct threads.
+use Rattle.std.proofs.Common.{◌≡◌, ℕ, zero, suc, ◌<◌, ◌≤◌, Bool, true, false, ◌&&◌, not, cond, List, [], ◌∷◌, ◌++◌, filter, length, refl, ap, sym, ◌∙◌, arith, ⊎_elim, inl, inr, ◌⊎◌}
 use Rattle.std.proofs.lemmas.Bool.{and_parts, both_ways, not-true}
 use Rattle.er_event.specs.Lockset.{has}
 use Rattle.er_event.proofs.LocksetLemmas.{has-filtered}
 use Rattle.er_event.specs.declared.steps.Event.TheVariants.{Access}
 use Rattle.er_event.specs.declared.steps.Kind.{Kind}
-use Rattle.er_event.specs.declared.steps.Kind.TheVariants.{Read as reading, Write as writing}
 use Rattle.er_model.specs.Words.{Reading, writes, counted_from}
 use Rattle.er_event.proofs.Lists.{get_front, get_last}
 use Rattle.er_event.specs.declared.steps.Step.{Step}
 use Rattle.er_model.specs.Answers.{reading_of}
 use Rattle.er_model.specs.Holdings.{holdings_at}
 use Rattle.er_order.specs.Order.{acts_of}
-use Rattle.er_order.specs.Clocks.{Epoch, Keeper, OfThread, clocks_after, clocks_at}
+use Rattle.er_order.specs.Clocks.{Keeper, OfThread, clocks_after, clocks_at}
 use Rattle.er_order.specs.Races.{Order, order_answer, latest_from}
-use Rattle.er_order.specs.Following.{act_by, Kept, Reported, Seen, kept_at, kept_after, access_answered, is_unordered, kept_by, reports_at, Shadow, Numbers, Told, epoch_numbered, kept_of, numbers_race, numbers_by, shadow_by}
+use Rattle.er_order.specs.Following.{act_by, kept_at, kept_after, access_answered}
 use Rattle.er_order.proofs.Order.{next-cases}
 use Rattle.er_order.proofs.ClockSteps.{local}
 use Rattle.er_order.proofs.StepLemmas.{some-at, held-front, clocks-front, clocks-grow}
 use Rattle.er_order.proofs.RaceLemmas.{latest-in}
-use Rattle.er_order.proofs.Following.{kept-none, kept-step, answer-access, any-mapped, filter-mapped}
+use Rattle.er_order.proofs.Following.{kept-none, kept-step, answer-access}
 
 module _ (steps more : List Step) where
   pub kept-front : (w n : ℕ) → n ≤ length steps → kept_at (steps ++ more) w n ≡ kept_at steps w n
@@ -50,27 +49,6 @@ module _ (steps : List Step) (s : Step) where
       clocks-grow steps s c u
       ∙ ap (λ e. clocks_after (clocks_at (acts_of steps) (length steps)) (act_by (holdings_at steps s.thread (length steps)) (record { thread = s.thread; event = e })) c u) event
       ∙ local (clocks_at (acts_of steps) (length steps)) s.thread u c
-
--- numbers of epochs
-module _ (epochs : ℕ → Epoch) (clock : ℕ → ℕ) (y t : ℕ) (is : epochs y ≡ (t, clock t)) where
-  race-numbered : (write : Option ℕ) (reads : List ℕ) (kind : Kind) →
-      numbers_race epochs clock write reads kind ≡ Rattle.er_order.specs.Following.races_with clock (epoch_numbered epochs write) (map epochs reads) kind
-  race-numbered write reads kind = rw (any-mapped (λ x. is_unordered clock (epochs x)) (is_unordered clock) epochs reads (λ j member. refl)) refl
-
-  by_numbered : (write : Option ℕ) (reads : List ℕ) (kind : Kind) →
-      kept_of epochs (numbers_by epochs clock write reads y kind) ≡ Rattle.er_order.specs.Following.seen_by clock (epoch_numbered epochs write) (map epochs reads) t kind
-  by_numbered write reads reading = rw (is, filter-mapped (λ x. is_unordered clock (epochs x)) (is_unordered clock) epochs reads (λ j member. refl)) refl
-  by_numbered write reads writing = rw is refl
-
-  kept_cond : (b : Bool) (s : Shadow) → kept_of epochs (cond b Told s) ≡ cond b Reported (kept_of epochs s)
-  kept_cond true s = refl
-  kept_cond false s = refl
-
-  pub shadow-kept : (s : Shadow) (kind : Kind) → kept_of epochs (shadow_by epochs clock s y kind) ≡ kept_by clock (kept_of epochs s) t kind
-  shadow-kept Told kind = refl
-  shadow-kept (Numbers write reads) kind =
-      kept_cond (numbers_race epochs clock write reads kind) (numbers_by epochs clock write reads y kind)
-      ∙ rw (race-numbered write reads kind, by_numbered write reads kind) refl
 
 -- two of the latest reads aren't in order
 module _ (order : Order) (r : Reading) (w start : ℕ) where

@@ -1,25 +1,15 @@
--- Reads that are alike serve alike: an access is answered the same by them, and they go on to such reads.
-use Rattle.std.proofs.Common.{◌≡◌, ◌∙◌, ℕ, suc, ◌-◌, ◌≤◌, Bool, true, false, ◌||◌, ◌==◌, not, cond, nat_lt, List, [], ◌∷◌, ◌++◌, filter, length, map, is_some, Option, Some, None, refl, sym, ap, subst, append_assoc, arith}
+-- Reads that are alike go on to such reads.
+use Rattle.std.proofs.Common.{◌≡◌, ◌∙◌, ℕ, suc, ◌-◌, ◌≤◌, Bool, true, false, ◌||◌, not, cond, List, [], ◌∷◌, ◌++◌, filter, length, is_some, Some, refl, sym, ap, subst, append_assoc, arith}
 use Rattle.std.proofs.lemmas.Bool.{le-leb, leb-true}
-use Rattle.std.specs.Bool.{MatchBool}
 use Rattle.std.specs.List.{list_any, find}
-use Rattle.std.specs.Option.{option_map}
 use Rattle.er_event.proofs.Lists.{length_push}
-use Rattle.er_event.specs.declared.steps.Event.{Event}
-use Rattle.er_event.specs.declared.steps.Event.TheVariants.{Acquire, Release, Access, Reuse, IgnoreOn, IgnoreOff, Show, Level, Sync}
-use Rattle.er_event.specs.declared.steps.Kind.{Kind}
-use Rattle.er_event.specs.declared.steps.Kind.TheVariants.{Read as reading, Write as writing}
 use Rattle.er_event.specs.declared.steps.Step.{Step}
-use Rattle.er_model.specs.Words.{Counted, Nothing, is_within}
-use Rattle.er_model.specs.Holdings.{Holdings, holdings_at}
-use Rattle.er_model.specs.Following.{locks_for, marked}
 use Rattle.er_order.specs.Order.{acts_of}
 use Rattle.er_order.specs.Clocks.{Epoch, OfThread, clocks_at, own_count, covers}
-use Rattle.er_order.specs.Following.{Kept, Seen, Reported, fresh, is_unordered, write_is_unordered, reports_at, kept_by, kept_moved, kept_at}
-use Rattle.er_order.specs.Keeping.{first_apart, AreAlike, reads_of, with_reads, Serves, IsNoted, IsKeptBy, IsKeptMoved, IsKeptAfter}
+use Rattle.er_order.specs.Following.{is_unordered}
+use Rattle.er_order.specs.Keeping.{first_apart, AreAlike, IsNoted}
 use Rattle.er_order.proofs.ClockFlows.{behind, behind-sum, knows_all}
 use Rattle.er_order.proofs.StepLemmas.{clocks-front}
-use Rattle.er_order.proofs.Growing.{kept-grow}
 
 not_covered : (b : Bool) → not b ≡ false → b ≡ true
 not_covered true e = refl
@@ -31,15 +21,6 @@ any-found test [] = refl
 any-found test (x ∷ xs) = by (test x) refl (any-found test xs)
   where
     by : (b : Bool) → test x ≡ b → list_any test xs ≡ is_some (find test xs) → (test x || list_any test xs) ≡ is_some (cond (test x) (Some x) (find test xs))
-    by true e rest = rw e refl
-    by false e rest = rw e rest
-
--- a search through a map
-pub found-mapped : {X Y : Type 0} (test : Y → Bool) (f : X → Y) (xs : List X) → find test (map f xs) ≡ option_map f (find (λ x. test (f x)) xs)
-found-mapped test f [] = refl
-found-mapped test f (x ∷ xs) = by (test (f x)) refl (found-mapped test f xs)
-  where
-    by : (b : Bool) → test (f x) ≡ b → find test (map f xs) ≡ option_map f (find (λ x. test (f x)) xs) → cond (test (f x)) (Some (f x)) (find test (map f xs)) ≡ option_map f (cond (test (f x)) (Some x) (find (λ x. test (f x)) xs))
     by true e rest = rw e refl
     by false e rest = rw e rest
 
@@ -93,22 +74,6 @@ module _ (steps : List Step) (t : ℕ) where
   abbrev clock : ℕ → ℕ
   clock = clocks_at (acts_of steps) (length steps) (OfThread t)
 
-  -- an access is answered the same
-  reports_same : (stored kept : Kept) (kind : Kind) → Serves steps stored kept → reports_at clock (with_reads kept (reads_of stored)) kind ≡ reports_at clock kept kind
-  reports_same stored Reported kind serves = refl
-  reports_same stored (Seen write reads) reading serves = refl
-  reports_same stored (Seen write reads) writing serves =
-      ap (λ b. write_is_unordered clock write || b)
-      (any-found (is_unordered clock) (reads_of stored) ∙ ap is_some (alike-here (λ e. e) steps (reads_of stored) reads t serves.reads) ∙ sym (any-found (is_unordered clock) reads))
-
-  pub serves-reports : (stored kept : Kept) (kind : Kind) → Serves steps stored kept → reports_at clock stored kind ≡ reports_at clock kept kind
-  serves-reports stored kept kind serves = ap (λ k. reports_at clock k kind) serves.same ∙ reports_same stored kept kind serves
-
--- what is kept serves for itself
-pub serves-itself : (steps : List Step) (kept : Kept) → Serves steps kept kept
-serves-itself steps Reported = record { same = refl; reads = alike-itself (λ e. e) steps [] }
-serves-itself steps (Seen write reads) = record { same = refl; reads = alike-itself (λ e. e) steps reads }
-
 -- the list grows
 module _ (steps : List Step) (s : Step) where
   abbrev grown : List Step
@@ -152,79 +117,3 @@ module _ (steps : List Step) (s : Step) where
           ∙ behind-read epoch later x stored reads (λ covered. (alike-grow stored reads like).alike more n u past)
           ∙ sym ((noted-filter epoch (clock steps t) reads x).noted later knows);
     }
-
-  -- one more access of the word
-  module _ (t : ℕ) where
-    abbrev own : ℕ → ℕ
-    own = clock steps t
-
-    serves_read : (stored kept after : Kept) → Serves steps stored kept → IsKeptBy own (with_reads kept (reads_of stored)) t reading after → Serves grown after (kept_by own kept t reading)
-    serves_read stored Reported after serves (reads, is, noted) = rw is (record { same = refl; reads = alike-itself (λ e. e) grown [] })
-    serves_read stored (Seen write reads) after serves (more, is, noted) = by (write_is_unordered own write) refl
-      where
-        by : (b : Bool) → write_is_unordered own write ≡ b → Serves grown after (kept_by own (Seen write reads) t reading)
-        by true race = rw is (rw race (record { same = refl; reads = alike-itself (λ e. e) grown [] }))
-        by false quiet = rw is (rw quiet (record { same = refl; reads = alike-noted (λ e. e) t (t, own t) refl (reads_of stored) reads more serves.reads noted }))
-
-    serves_write : (stored kept : Kept) → Serves steps stored kept → kept_by own (with_reads kept (reads_of stored)) t writing ≡ kept_by own kept t writing
-    serves_write stored Reported serves = refl
-    serves_write stored (Seen write reads) serves = ap (λ b. cond b Reported (Seen (Some (t, own t)) [])) (reports_same steps t stored (Seen write reads) writing serves)
-
-    serves_access : (kind : Kind) (stored kept after : Kept) → Serves steps stored kept → IsKeptBy own stored t kind after → Serves grown after (kept_by own kept t kind)
-    serves_access reading stored kept after serves is = serves_read stored kept after serves (subst (λ (before : Kept). IsKeptBy own before t reading after) serves.same is)
-    serves_access writing stored kept after serves is =
-        subst (λ (k : Kept). Serves grown k (kept_by own kept t writing)) (sym (is ∙ (ap (λ k. kept_by own k t writing) serves.same ∙ serves_write stored kept serves)))
-        (serves-itself grown (kept_by own kept t writing))
-
-  serves-grow : (stored kept : Kept) → Serves steps stored kept → Serves grown stored kept
-  serves-grow stored kept serves = record { same = serves.same; reads = alike-grow (λ e. e) (reads_of stored) (reads_of kept) serves.reads }
-
-  serves_kept : (stored kept after : Kept) → Serves steps stored kept → after ≡ stored → Serves grown after kept
-  serves_kept stored kept after serves same = rw same (serves-grow stored kept serves)
-
-  module _ (w : ℕ) (stored kept after : Kept) (serves : Serves steps stored kept) where
-    abbrev t : ℕ
-    t = s.thread
-
-    by_word : (kind : Kind) (b : Bool) → MatchBool b (IsKeptBy (own t) stored t kind after) (after ≡ stored) → Serves grown after (cond b (kept_by (own t) kept t kind) kept)
-    by_word kind true is = serves_access t kind stored kept after serves is
-    by_word kind false same = serves_kept stored kept after serves same
-
-    by_range : (b : Bool) → after ≡ cond b fresh stored → Serves grown after (cond b fresh kept)
-    by_range true same = rw same (record { same = refl; reads = alike-itself (λ e. e) grown [] })
-    by_range false same = serves_kept stored kept after serves same
-
-    by_access : (kind : Kind) (word : ℕ) (cover : List ℕ) (b : Bool) → IsKeptMoved (own t) stored w (cond b Nothing (Counted t kind word cover)) after
-        → Serves grown after (kept_moved (own t) kept w (cond b Nothing (Counted t kind word cover)))
-    by_access kind word cover true same = serves_kept stored kept after serves same
-    by_access kind word cover false is = by_word kind (word == w) is
-
-    by_event : (h : Holdings) (e : Event) → IsKeptMoved (own t) stored w (marked h t e) after → Serves grown after (kept_moved (own t) kept w (marked h t e))
-    by_event h (Access kind word site) is = by_access kind word (locks_for h kind) (nat_lt 0 h.depth) is
-    by_event h (Reuse range) is = by_range (is_within w range) is
-    by_event h (Acquire l m) same = serves_kept stored kept after serves same
-    by_event h (Release l m) same = serves_kept stored kept after serves same
-    by_event h IgnoreOn same = serves_kept stored kept after serves same
-    by_event h IgnoreOff same = serves_kept stored kept after serves same
-    by_event h (Show word) same = serves_kept stored kept after serves same
-    by_event h (Level n) same = serves_kept stored kept after serves same
-    by_event h (Sync sync) same = serves_kept stored kept after serves same
-
-  -- what served goes on so
-  pub serves-on : (w : ℕ) (stored after : Kept) → Serves steps stored (kept_at steps w (length steps))
-      → IsKeptAfter (holdings_at steps s.thread (length steps)) (clocks_at (acts_of steps) (length steps) (OfThread s.thread)) stored w s after
-      → Serves grown after (kept_at grown w (suc (length steps)))
-  serves-on w stored after serves is = rw (kept-grow steps s w) (by_event w stored (kept_at steps w (length steps)) after serves (holdings_at steps s.thread (length steps)) s.event is)
-
--- what the definitions keep may be kept
-pub kept-itself : (clock : ℕ → ℕ) (before : Kept) (t : ℕ) (kind : Kind) → IsKeptBy clock before t kind (kept_by clock before t kind)
-kept-itself clock before t writing = refl
-kept-itself clock before t reading = ((t, clock t) ∷ filter (is_unordered clock) (reads_of before), same before, noted-filter (λ e. e) clock (reads_of before) (t, clock t))
-  where
-    by_race : (b : Bool) (write : Option Epoch) (reads : List Epoch) → cond b Reported (Seen write reads) ≡ with_reads (cond b Reported (Seen write reads)) reads
-    by_race true write reads = refl
-    by_race false write reads = refl
-
-    same : (k : Kept) → kept_by clock k t reading ≡ with_reads (kept_by clock k t reading) ((t, clock t) ∷ filter (is_unordered clock) (reads_of k))
-    same Reported = refl
-    same (Seen write reads) = by_race (write_is_unordered clock write || false) write ((t, clock t) ∷ filter (is_unordered clock) reads)

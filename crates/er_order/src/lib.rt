@@ -19,9 +19,9 @@ pub use laws::{
 };
 pub use locks::a_common_lock_orders;
 pub use races::{
-    a_shadow_word_has_numbers, a_word_is_local, an_access_follows_its_word,
-    an_era_is_reported_once, an_ordered_list_grows_by_a_step, more_order_fewer_races,
-    races_are_found, the_latest_reads_are_apart, with_no_order_each_shared_write_races,
+    a_word_is_local, an_access_follows_its_word, an_era_is_reported_once,
+    an_ordered_list_grows_by_a_step, more_order_fewer_races, races_are_found,
+    the_latest_reads_are_apart, with_no_order_each_shared_write_races,
 };
 pub use reasons::{a_race_is_unordered_with_an_access, a_reason_is_found};
 pub use worked::{worked_races, worked_reasons};

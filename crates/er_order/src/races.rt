@@ -10,8 +10,7 @@ ghost use Rattle.er_model.specs.Holdings.{refused_by, holdings_at};
 ghost use Rattle.er_order.specs.Order.{Act, Effect, sync_of, acts_of, happens_before};
 ghost use Rattle.er_order.specs.Clocks.{Epoch, OfThread, clocks_at};
 ghost use Rattle.er_order.specs.Races.{Order, is_apart, latest_from, last_write, latest_reads, is_race, had_race, is_reported, word_in_use, order_answer};
-ghost use Rattle.er_order.specs.Keeping.{Serves, IsKeptBy, IsKeptAfter};
-ghost use Rattle.er_order.specs.Following.{Kept, reports_at, Shadow, shadow_by, kept_by, kept_of, fresh, kept_at, kept_after, access_answered, word_reported, reuse_answered};
+ghost use Rattle.er_order.specs.Following.{reports_at, fresh, kept_at, kept_after, access_answered, word_reported, reuse_answered};
 ghost use Rattle.er_order.specs.Locality.{clocked_on};
 
 use er_event::{Kind, PageRange, Reply};
@@ -45,18 +44,6 @@ pub fn an_access_follows_its_word()
     ensures kept { (steps : List Step) (k w : ℕ) (step : Step) → slice_get steps k ≡ Option.Some step → kept_at steps w (suc k)
         ≡ kept_after (holdings_at steps step.thread k) (clocks_at (acts_of steps) k (OfThread step.thread)) (kept_at steps w k) w step }
     ensures begins { (steps : List Step) (w : ℕ) → kept_at steps w 0 ≡ fresh }
-{}
-
-/// A store may keep other reads of a word than the latest ones. While these serve as well as the latest, accesses get the same answers by
-/// them, and what the store keeps after one more step serves too.
-pub fn what_serves_is_as_good()
-    ensures answer { (steps : List Step) (t : ℕ) (stored kept : Kept) (kind : Kind) → Serves steps stored kept
-        → reports_at (clocks_at (acts_of steps) (length steps) (OfThread t)) stored kind ≡ reports_at (clocks_at (acts_of steps) (length steps) (OfThread t)) kept kind }
-    ensures goes_on { (steps : List Step) (step : Step) (w : ℕ) (stored after : Kept) → Serves steps stored (kept_at steps w (length steps))
-        → IsKeptAfter (holdings_at steps step.thread (length steps)) (clocks_at (acts_of steps) (length steps) (OfThread step.thread)) stored w step after
-        → Serves (steps ++ step ∷ []) after (kept_at (steps ++ step ∷ []) w (suc (length steps))) }
-    ensures itself { (steps : List Step) (kept : Kept) → Serves steps kept kept }
-    ensures by_itself { (clock : ℕ → ℕ) (before : Kept) (t : ℕ) (kind : Kind) → IsKeptBy clock before t kind (kept_by clock before t kind) }
 {}
 
 /// If more steps are in order, no further access is a race.
@@ -108,12 +95,6 @@ pub fn an_ordered_list_grows_by_a_step()
         ≡ kept_after (holdings_at steps step.thread (length steps)) (clocks_at (acts_of steps) (length steps) (OfThread step.thread))
         (kept_at steps w (length steps)) w step }
     ensures earlier { (steps more : List Step) (w n : ℕ) → n ≤ length steps → kept_at (steps ++ more) w n ≡ kept_at steps w n }
-{}
-
-/// A shadow word may have numbers of epochs in the epochs' place.
-pub fn a_shadow_word_has_numbers()
-    ensures access { (epochs : ℕ → Epoch) (clock : ℕ → ℕ) (s : Shadow) (y t : ℕ) (kind : Kind) → epochs y ≡ (t, clock t)
-        → kept_of epochs (shadow_by epochs clock s y kind) ≡ kept_by clock (kept_of epochs s) t kind }
 {}
 
 /// Of two of the latest reads neither comes before the other in order, so they are of two threads.

@@ -4,16 +4,17 @@ ghost use Rattle.er_device.specs.Device.{inner_of, has_failed, taken_of};
 ghost use Rattle.er_event.specs.declared.steps.Step.{Step};
 ghost use Rattle.er_places.specs.Inner.Following.{AreNamed, HasCome, HasEnded, StandsFor};
 ghost use Rattle.er_places.specs.Places.{ArePlaces, IsFaultOf};
-ghost use Rattle.er_places.specs.Wanted.{are_asked, asked_in, is_wanted};
+ghost use Rattle.er_places.specs.Wanted.{are_asked, is_wanted};
 ghost use Rattle.er_lines.specs.Lines.{bytes_past_limit};
 ghost use Rattle.er_lines.specs.Faults.{HasFailedBy};
 ghost use Rattle.er_lines.specs.Lending.{taken_by};
 ghost use Rattle.er_trace.specs.Trace.{IsNamed};
 
+use crate::Places;
 use crate::follower::Follower;
-use crate::{Places, Wanted};
+use crate::wanted::Wanted;
 use er_device::Device;
-use er_report::{Report, Reports};
+use er_report::Reports;
 use er_text::{Batch, ReadFault, TraceReader};
 use er_trace::{NameKeys, Trace};
 use std::alloc::{AllocError, Global};
@@ -63,7 +64,7 @@ impl Finder {
         ensures most { taken_by self.new.lines.place ≤ self.new.lines.place.limit + bytes_past_limit }
     {
         let batch = self.lines.next_batch(reader, &mut self.trace, BATCH_LINES)?;
-        follow_batch(&mut self.follower, wanted, &self.trace)?;
+        self.follower.follow(wanted, &self.trace)?;
         match batch {
             Batch::End => Ok(false),
             Batch::More => {
@@ -89,62 +90,11 @@ impl Finder {
         while self.turn(reader, wanted)? {}
         Ok(())
     }
-
-    /// The places, under the names of the trace.
-    fn finish(self) -> Places
-        requires { AreNamed self.trace.names self.follower.places }
-        ensures places { result.places ≡ self.follower.places }
-        ensures names { result.names ≡ self.trace.names }
-    {
-        let Finder {
-            lines: _,
-            trace,
-            follower,
-        } = self;
-        Places::of(follower.into_places(), trace)
-    }
 }
 
-// Goes on by the steps of a batch.
-fn follow_batch(follower: &mut Follower, wanted: &Wanted, trace: &Trace) -> Result<(), AllocError>
-    ensures level { length trace.now.lines ≡ length trace.now.steps }
-    ensures named { All (IsNamed trace.now.names) trace.now.steps }
-    ensures stands { (past : List Step) (numbers : List ℕ) → length numbers ≡ length past → StandsFor (is_wanted wanted.now) follower.old past numbers
-        → OnOk result (StandsFor (is_wanted wanted.now) follower.new (past ++ trace.now.steps) (numbers ++ trace.now.lines)) }
-{
-    let steps = trace.steps();
-    let lines = trace.lines();
-    follower.follow(wanted, steps, lines)
-}
-
-/// Reads a trace text of at most `byte_limit` bytes once more, whose names are hashed by these keys, and gives the places of the accesses on the wanted lines. The steps of each
-/// batch of lines are forgotten, so that memory goes by the wanted lines, the threads and the names. Behind the batch in which the last
-/// wanted line has its place nothing is read.
-pub fn find_places<D: Read>(
-    alloc: Global,
-    reader: &mut Device<D>,
-    byte_limit: u64,
-    keys: NameKeys,
-    wanted: &Wanted,
-) -> Result<Places, ReadFault>
-    requires open { has_failed reader.old ≡ false }
-    requires limit { byte_limit ≤ 2 ^ 62 }
-    ensures found { IfOk result (λ places. IfSome (D.remaining (inner_of reader.old)) (λ text. ArePlaces (is_wanted wanted.now) text byte_limit places)) }
-    ensures fault { IfErr result (λ why. IsFaultOf (D.remaining (inner_of reader.old)) byte_limit why) }
-    ensures failed { HasFailedBy (has_failed reader.new) result }
-    ensures taken { taken_of reader.new ≤ taken_of reader.old + byte_limit + bytes_past_limit }
-{
-    let mut finder = Finder::new(alloc, byte_limit, keys)?;
-    match finder.run(reader, wanted) {
-        Ok(()) => Ok(finder.finish()),
-        Err(why) => {
-            drop(finder);
-            Err(why)
-        }
-    }
-}
-
-/// The same for the lines that the reasons of each report's first races name. If there is none, nothing is read.
+/// Reads a trace text of at most `byte_limit` bytes once more, whose names are hashed by these keys, and gives the places of the accesses on the lines that the
+/// reasons of each report's first races name. The steps of each batch of lines are forgotten, so that memory goes by the wanted lines, the threads and the names.
+/// Behind the batch in which the last wanted line has its place nothing is read, and nothing at all if no line is wanted.
 pub fn places_of_reports<D: Read>(
     alloc: Global,
     reader: &mut Device<D>,
@@ -159,29 +109,16 @@ pub fn places_of_reports<D: Read>(
     ensures failed { HasFailedBy (has_failed reader.new) result }
     ensures taken { taken_of reader.new ≤ taken_of reader.old + byte_limit + bytes_past_limit }
 {
-    let wanted = asked_lines(alloc, keys, reports)?;
+    let wanted = Wanted::of_reports(alloc, keys, reports)?;
     if wanted.is_empty() {
         return Ok(Places::new(alloc));
     }
-    find_places(alloc, reader, byte_limit, keys, &wanted)
-}
-
-// The lines that the reasons name.
-fn asked_lines(alloc: Global, keys: NameKeys, reports: &Reports) -> Result<Wanted, AllocError>
-    ensures { IfOk result (λ wanted. (line : ℕ) → is_wanted wanted line ≡ are_asked reports.now line) }
-{
-    let mut wanted = Wanted::new(alloc, keys);
-    add_asked(alloc, &mut wanted, &reports.lockset)?;
-    add_asked(alloc, &mut wanted, &reports.unordered)?;
-    Ok(wanted)
-}
-
-// Adds the lines that the reasons of a report name, if there is one.
-fn add_asked(alloc: Global, wanted: &mut Wanted, report: &Option<Report>) -> Result<(), AllocError>
-    ensures { OnOk result ((line : ℕ) → is_wanted wanted.new line ≡ (is_wanted wanted.old line || asked_in report.now line)) }
-{
-    match report {
-        Some(report) => wanted.add_reasons(alloc, &report.lines),
-        None => Ok(()),
+    let mut finder = Finder::new(alloc, byte_limit, keys)?;
+    match finder.run(reader, &wanted) {
+        Ok(()) => Ok(Places::of(finder.follower.into_places(), finder.trace)),
+        Err(why) => {
+            drop(finder);
+            Err(why)
+        }
     }
 }

@@ -1,15 +1,18 @@
 //! `Follower`, which notes places as steps go by.
-ghost use Rattle.std.specs.Prelude.{◌≡◌, ◌++◌, ◌==◌, ◌&&◌, ℕ, List, [], true, cond, nat_eq, length, IfSome, OnOk};
+ghost use Rattle.std.specs.Prelude.{◌≡◌, ◌++◌, ◌==◌, ◌&&◌, ℕ, List, All, [], true, cond, nat_eq, length, IfSome, OnOk};
 ghost use Rattle.er_event.specs.declared.steps.Step.{Step as Steps};
 ghost use Rattle.er_held.specs.ThreadLocks.{held_by};
 ghost use Rattle.er_places.specs.Inner.Following.{Follows, HasAll, StandsFor};
 ghost use Rattle.er_places.specs.Places.{or_else, place_by, place_in};
 ghost use Rattle.er_places.specs.Wanted.{is_wanted};
+ghost use Rattle.er_trace.specs.Trace.{IsNamed};
 
-use crate::{Place, Wanted};
+use crate::Place;
+use crate::wanted::Wanted;
 use er_event::{Event, Kind, Site, Step, ThreadId};
 use er_held::ThreadLocks;
 use er_keys::{HashKeys, NumberHasher};
+use er_trace::Trace;
 use std::alloc::{AllocError, Global};
 use std::collections::HashMap;
 use std::marker::Model;
@@ -42,17 +45,15 @@ impl Follower {
         }
     }
 
-    /// Goes on by these steps, each with its line. `AllocError`: memory was refused, and nothing is known of what it has now.
-    pub(crate) fn follow(
-        &mut self,
-        wanted: &Wanted,
-        steps: &[Step],
-        lines: &[u64],
-    ) -> Result<(), AllocError>
-        requires { length lines.now ≡ length steps.now }
-        ensures { (past : List Steps) (numbers : List ℕ) → length numbers ≡ length past → StandsFor (is_wanted wanted.now) self.old past numbers
-            → OnOk result (StandsFor (is_wanted wanted.now) self.new (past ++ steps.now) (numbers ++ lines.now)) }
+    /// Goes on by the steps of a trace. `AllocError`: memory was refused, and nothing is known of what it has now.
+    pub(crate) fn follow(&mut self, wanted: &Wanted, trace: &Trace) -> Result<(), AllocError>
+        ensures level { length trace.now.lines ≡ length trace.now.steps }
+        ensures named { All (IsNamed trace.now.names) trace.now.steps }
+        ensures stands { (past : List Steps) (numbers : List ℕ) → length numbers ≡ length past → StandsFor (is_wanted wanted.now) self.old past numbers
+            → OnOk result (StandsFor (is_wanted wanted.now) self.new (past ++ trace.now.steps) (numbers ++ trace.now.lines)) }
     {
+        let steps = trace.steps();
+        let lines = trace.lines();
         for (k, step) in steps.iter().enumerate() {
             self.follow_step(wanted, step, lines[k])?;
         }

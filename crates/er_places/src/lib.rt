@@ -1,8 +1,7 @@
 //! Where the accesses on given lines of a trace stood, and which locks their threads held.
 //!
 //! Begin with [`places_of_reports`]. It reads a trace text once more and gives the [`Places`] of the accesses that the reasons of the reports'
-//! first races name. [`find_places`] does so for any [`Wanted`] lines. [`Places::of_reason`] is the place of the access that a reason
-//! names.
+//! first races name. [`Places::of_reason`] is the place of the access that a reason names.
 //!
 //! What it promises, by the names of clauses: of a text that is a trace, the places are those of the accesses on the wanted lines, and
 //! each is what the definitions give of the steps before it (`found`); a fault of the text is the text's first fault (`fault`). A place
@@ -22,14 +21,12 @@
 //! ```
 #![tactic(auto)]
 
-pub use finding::{find_places, places_of_reports};
+pub use finding::places_of_reports;
 pub use place::Place;
 pub use places::Places;
-pub use wanted::Wanted;
 
 mod finding;
 mod follower;
 mod place;
 mod places;
-mod sites;
 mod wanted;

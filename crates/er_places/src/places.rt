@@ -2,7 +2,7 @@
 ghost use Rattle.std.specs.Prelude.{◌≡◌, ℕ, None, Some, option_copied, IfSome};
 ghost use Rattle.er_places.specs.Inner.Following.{AreNamed};
 ghost use Rattle.er_places.specs.Places.{HasPlaceNames, place_at, place_in};
-ghost use Rattle.er_places.specs.Reasons.{access_place, fits, if_fits, reason_place};
+ghost use Rattle.er_places.specs.Reasons.{access_place, fits, reason_place};
 ghost use Rattle.er_places.specs.Wanted.{same_kind};
 ghost use Rattle.er_trace.specs.Names.{no_names};
 
@@ -67,8 +67,8 @@ impl Places {
         ensures named { IfSome (option_copied result) (HasPlaceNames self.now.names) }
     {
         match self.by_line.get(&line) {
-            Some(place) => if_fits(thread, kind, place),
-            None => None,
+            Some(place) if fits(thread, kind, place) => Some(place),
+            _ => None,
         }
     }
 
@@ -81,28 +81,13 @@ impl Places {
     }
 }
 
-// The place, if it is that of an access by this thread and of this kind.
-fn if_fits(thread: ThreadId, kind: Kind, place: &Place) -> Option<&Place>
-    ensures { option_copied result ≡ if_fits thread kind (Some place.now) }
-{
-    if fits(thread, kind, place) {
-        Some(place)
-    } else {
-        None
-    }
-}
-
+// Whether the place is that of an access by this thread and of this kind.
 fn fits(thread: ThreadId, kind: Kind, place: &Place) -> bool
     ensures { result ≡ fits thread kind place.now }
 {
-    place.thread == thread && is_same(place.kind, kind)
-}
-
-fn is_same(kind: Kind, other: Kind) -> bool
-    ensures { result ≡ same_kind kind other }
-{
-    match (kind, other) {
+    let same_kind = match (place.kind, kind) {
         (Kind::Read, Kind::Read) | (Kind::Write, Kind::Write) => true,
         _ => false,
-    }
+    };
+    place.thread == thread && same_kind
 }

@@ -1,22 +1,24 @@
 //! `Wanted`, the lines of a trace that a report asks about.
-ghost use Rattle.std.specs.Prelude.{◌≡◌, ℕ, ◌||◌, nat_eq, false, true, is_some, OnOk};
+ghost use Rattle.std.specs.Prelude.{◌≡◌, ℕ, ◌||◌, false, true, is_some, IfOk, OnOk};
 ghost use Rattle.std.specs.List.{list_all};
-ghost use Rattle.er_event.specs.declared.steps.Kind.{Kind};
-ghost use Rattle.er_places.specs.Inner.Sites.{has_site};
+ghost use Rattle.er_event.specs.declared.steps.Kind.{Kind as Kinds};
+ghost use Rattle.er_places.specs.Inner.Sites.{has_site, site_key};
 ghost use Rattle.er_places.specs.Places.{place_in};
-ghost use Rattle.er_places.specs.Wanted.{asks_unless, is_asked, is_race_at, is_wanted, name_line};
+ghost use Rattle.er_places.specs.Wanted.{are_asked, asked_in, asks_unless, is_asked, is_race_at, is_wanted, name_line};
 
 use crate::Place;
-use crate::sites::Sites;
+use er_event::{Kind, Site};
 use er_keys::{HashKeys, NumberHasher};
-use er_report::{Because, Line};
+use er_report::{Because, Line, Report, Reports};
 use std::alloc::{AllocError, Global};
 use std::collections::{HashMap, HashSet};
 use std::marker::Model;
 
+type Put = Result<(), AllocError>;
+
 /// The lines whose accesses are wanted.
 #[derive(Drop)]
-pub struct Wanted {
+pub(crate) struct Wanted {
     lines: HashSet<u64, NumberHasher>,
 }
 
@@ -29,17 +31,25 @@ impl Model for Wanted {
 }
 
 impl Wanted {
-    /// No line is wanted. Lines and their sites are hashed by these keys.
-    pub fn new(alloc: Global, keys: HashKeys) -> Self
-        ensures { (line : ℕ) → is_wanted result line ≡ false }
+    /// The lines of some races and those that their reasons name: of each site and kind the first race of each report, which is the one that people are shown. Of
+    /// a reuse it has the lines that its reasons name. Lines and sites are hashed by these keys.
+    pub(crate) fn of_reports(
+        alloc: Global,
+        keys: HashKeys,
+        reports: &Reports,
+    ) -> Result<Wanted, AllocError>
+        ensures { IfOk result (λ wanted. (line : ℕ) → is_wanted wanted line ≡ are_asked reports.now line) }
     {
-        Wanted {
+        let mut wanted = Wanted {
             lines: HashSet::with_hasher(alloc, NumberHasher::new(keys)),
-        }
+        };
+        wanted.add_report(alloc, &reports.lockset)?;
+        wanted.add_report(alloc, &reports.unordered)?;
+        Ok(wanted)
     }
 
     /// Whether no line is wanted.
-    pub fn is_empty(&self) -> bool
+    pub(crate) fn is_empty(&self) -> bool
         ensures { result ≡ true → (line : ℕ) → is_wanted self.now line ≡ false }
     {
         self.lines.is_empty()
@@ -59,28 +69,36 @@ impl Wanted {
 
     /// Whether the line is wanted.
     #[inline]
-    pub fn contains(&self, line: u64) -> bool
+    pub(crate) fn contains(&self, line: u64) -> bool
         ensures { result ≡ is_wanted self.now line }
     {
         self.lines.contains(&line)
     }
 
-    /// Adds the lines of some races and those that their reasons name: of each site and kind the first race of a report, which is the one
-    /// that people are shown. Of a reuse it adds the lines that its reasons name. `AllocError`: memory was refused.
-    pub fn add_reasons(&mut self, alloc: Global, lines: &[Line]) -> Result<(), AllocError>
+    // Adds the lines that a report asks about, if there is one.
+    fn add_report(&mut self, alloc: Global, report: &Option<Report>) -> Put
+        ensures { OnOk result ((line : ℕ) → is_wanted self.new line ≡ (is_wanted self.old line || asked_in report.now line)) }
+    {
+        match report {
+            Some(report) => self.add_reasons(alloc, &report.lines),
+            None => Ok(()),
+        }
+    }
+
+    fn add_reasons(&mut self, alloc: Global, lines: &[Line]) -> Put
         ensures { OnOk result ((line : ℕ) → is_wanted self.new line ≡ (is_wanted self.old line || is_asked lines.now line)) }
     {
-        let mut sites = Sites::new(alloc, *self.lines.hasher());
+        let mut sites = HashSet::with_hasher(alloc, *self.lines.hasher());
         for line in lines {
             self.add_line(&mut sites, line)?;
         }
         Ok(())
     }
 
-    // Adds the line of a race and those that its reasons name, if it is the first of its site and kind.
-    fn add_line(&mut self, sites: &mut Sites, line: &Line) -> Result<(), AllocError>
-        ensures sites { OnOk result ((s : ℕ) (k : Kind) → has_site sites.new s k ≡ (has_site sites.old s k || is_race_at s k line.now)) }
-        ensures lines { OnOk result ((number : ℕ) → is_wanted self.new number ≡ (is_wanted self.old number || asks_unless (has_site sites.old) number line.now)) }
+    // Adds the line of a race and those that its reasons name, if it is the first of its site and kind. The sites are those of the races so far.
+    fn add_line(&mut self, sites: &mut HashSet<u64, NumberHasher>, line: &Line) -> Put
+        ensures sites { OnOk result ((s : ℕ) (k : Kinds) → has_site sites.new.keys s k ≡ (has_site sites.old.keys s k || is_race_at s k line.now)) }
+        ensures lines { OnOk result ((number : ℕ) → is_wanted self.new number ≡ (is_wanted self.old number || asks_unless (has_site sites.old.keys) number line.now)) }
     {
         match line {
             Line::Race {
@@ -90,7 +108,7 @@ impl Wanted {
                 explained,
                 ..
             } => {
-                if sites.add(*site, *kind)? {
+                if sites.insert(site_key(*site, *kind))? {
                     self.lines.insert(*line)?;
                     return self.add_lines(explained);
                 }
@@ -102,12 +120,22 @@ impl Wanted {
     }
 
     // Adds the lines that these reasons name.
-    fn add_lines(&mut self, reasons: &[Because]) -> Result<(), AllocError>
+    fn add_lines(&mut self, reasons: &[Because]) -> Put
         ensures { OnOk result ((line : ℕ) → is_wanted self.new line ≡ (is_wanted self.old line || name_line reasons.now line)) }
     {
         for because in reasons {
             self.lines.insert(because.line)?;
         }
         Ok(())
+    }
+}
+
+// The number of the races of a kind at a site.
+fn site_key(site: Site, kind: Kind) -> u64
+    ensures { result ≡ site_key site kind }
+{
+    match kind {
+        Kind::Read => 2 * site.number() as u64,
+        Kind::Write => 2 * site.number() as u64 + 1,
     }
 }

@@ -17,8 +17,10 @@ use Rattle.er_event.specs.declared.steps.WordState.TheVariants.{Virgin, Exclusiv
 use Rattle.er_trace.specs.Trace.{Recording}
 use Rattle.er_journal.specs.declared.answers.Stopped.{Stopped}
 use Rattle.er_report.specs.Report.{Summary, report_of, told}
-use Rattle.er_report.specs.Lines.{LineView, RaceView, ReusedView, RefusedView, ShownView}
+use Rattle.er_report.specs.Lines.{LineView, RaceView, RacedView, RefusedView, ShownView}
 use Rattle.er_report.specs.declared.report.Because.{Because}
+use Rattle.er_report.specs.declared.report.Deed.{Deed}
+use Rattle.er_report.specs.declared.report.Deed.TheVariants as deed
 use Rattle.er_report.specs.declared.report.Label.{Label}
 use Rattle.er_report.specs.declared.report.Report.{Report}
 use Rattle.er_report.specs.declared.reports.Reports.{Reports}
@@ -105,43 +107,29 @@ reason_text names because =
 abbrev pub bytes_between : ℕ → ℕ → ℕ
 bytes_between lo hi = (hi - lo + 1) * 4
 
--- who accessed what, and with which locks
-abbrev pub access_text : NameTable → ℕ → Kind → ℕ → ℕ → List ℕ → List ℕ
-access_text names thread kind word site held =
-    name_at names.threads thread ++ codes " " ++ kind_text kind ++ codes " " ++ address_text word ++ codes " at " ++ site_text names site
-    ++ codes ", holds " ++ locks_text names held ++ 10 ∷ []
-
--- who gave back these words, by the address of the first byte and the number of bytes, and where, if that has a name
-abbrev pub reuse_text : NameTable → ℕ → ℕ → ℕ → ℕ → List ℕ
-reuse_text names thread lo hi site =
-    name_at names.threads thread ++ codes " reuse " ++ address_text lo ++ codes " " ++ decimal (bytes_between lo hi)
-    ++ named_site style.Plain names (codes " at ") site ++ 10 ∷ []
+-- what a thread did that is a race: it accessed a word, with these locks, or gave back words, by the address of the first byte and the number
+-- of bytes, and where, if that has a name
+abbrev pub deed_text : NameTable → RaceView → Deed → List ℕ
+deed_text names race (deed.Access kind word) =
+    name_at names.threads race.thread ++ codes " " ++ kind_text kind ++ codes " " ++ address_text word ++ codes " at " ++ site_text names race.site
+    ++ codes ", holds " ++ locks_text names race.held ++ 10 ∷ []
+deed_text names race (deed.Reuse range) =
+    name_at names.threads race.thread ++ codes " reuse " ++ address_text range.lo ++ codes " " ++ decimal (bytes_between range.lo range.hi)
+    ++ named_site style.Plain names (codes " at ") race.site ++ 10 ∷ []
 
 -- what a report calls a race
 abbrev pub race_label : ReportKind → List ℕ
 race_label Lockset = codes "race: "
 race_label Unordered = codes "unordered: "
 
--- what a line says of its step
-abbrev pub own_text : ReportKind → NameTable → LineView → List ℕ
-own_text of names (RaceView number thread kind word site held explained) =
-    place_text number ++ race_label of ++ access_text names thread kind word site held
-own_text of names (ReusedView number thread range site held explained) = place_text number ++ race_label of ++ reuse_text names thread range.lo range.hi site
-own_text of names (RefusedView number step refusal) =
+-- a line; that of a race has the lines of its reasons below it
+abbrev pub line_text : ReportKind → NameTable → LineView → List ℕ
+line_text of names (RacedView race) = place_text race.line ++ race_label of ++ deed_text names race race.deed ++ flat_map (reason_text names) race.explained
+line_text of names (RefusedView number step refusal) =
     place_text number ++ codes "refused: " ++ name_at names.threads step.thread ++ codes " "
     ++ event_text names step.event ++ codes ": " ++ text_of refusal ++ 10 ∷ []
-own_text of names (ShownView number word state) =
+line_text of names (ShownView number word state) =
     place_text number ++ codes "state " ++ address_text word ++ codes ": " ++ state_text names state ++ 10 ∷ []
-
--- and why it is a race
-abbrev pub reasons_text : NameTable → LineView → List ℕ
-reasons_text names (RaceView number thread kind word site held explained) = flat_map (reason_text names) explained
-reasons_text names (ReusedView number thread range site held explained) = flat_map (reason_text names) explained
-reasons_text names (RefusedView number step refusal) = []
-reasons_text names (ShownView number word state) = []
-
-abbrev pub line_text : ReportKind → NameTable → LineView → List ℕ
-line_text of names line = own_text of names line ++ reasons_text names line
 
 -- where the run stopped, if it did
 abbrev pub stop_text : Option (ℕ × NoRoom) → List ℕ

@@ -5,10 +5,14 @@ use Rattle.std.specs.Prelude.{ℕ, zero, suc, List, [], ◌∷◌, ◌++◌, fla
 abbrev pub more_text : {X : Type 0} → ℕ → (X → List ℕ) → List X → List ℕ
 more_text sign text xs = flat_map (λ x. sign ∷ text x) xs
 
+-- values with this sign between them
+abbrev pub between_text : {X : Type 0} → ℕ → (X → List ℕ) → List X → List ℕ
+between_text sign text [] = []
+between_text sign text (x ∷ xs) = text x ++ more_text sign text xs
+
 -- values with commas between them
 abbrev pub values_text : {X : Type 0} → (X → List ℕ) → List X → List ℕ
-values_text text [] = []
-values_text text (x ∷ xs) = text x ++ more_text 44 text xs
+values_text text xs = between_text 44 text xs
 
 -- an array of them
 abbrev pub array_text : {X : Type 0} → (X → List ℕ) → List X → List ℕ

@@ -21,7 +21,7 @@
 //! ```
 #![tactic(auto)]
 
-pub use fault::WriteFault;
+pub use fault::{Put, WriteFault};
 pub use lines::{ReportKind, bytes_of, put_end, put_lost};
 pub use naming::{order_verb, verb};
 pub use numbers::{put_address, put_number};

@@ -3,10 +3,10 @@ ghost use Rattle.std.specs.Prelude.{◌≡◌, ◌++◌, OnOk};
 ghost use Rattle.er_report.specs.Names.{HasLockNames, HasEventNames, HasStateNames};
 ghost use Rattle.er_print.specs.Printed.{kind_text, acquire_text, release_text, event_text, order_text, candidates_text, state_text};
 
+use crate::Put;
 use crate::styles::{Style, put_lock_in, put_locks_in};
 use er_event::{Event, Kind, Lockset, Mode, Sync, WordState};
 use er_trace::Names;
-use std::alloc::AllocError;
 
 /// The verb of an access.
 pub fn verb(kind: Kind) -> &'static [u8]
@@ -19,7 +19,7 @@ pub fn verb(kind: Kind) -> &'static [u8]
 }
 
 /// Puts the verb of an event, and the lock of a lock event.
-pub(crate) fn put_event(out: &mut Vec<u8>, names: &Names, event: Event) -> Result<(), AllocError>
+pub(crate) fn put_event(out: &mut Vec<u8>, names: &Names, event: Event) -> Put
     requires { HasEventNames names.now event }
     ensures { OnOk result (out.new.items ≡ out.old.items ++ event_text names.now event) }
 {
@@ -73,11 +73,7 @@ fn release_verb(mode: Mode) -> &'static [u8]
 }
 
 /// Puts the state of a word.
-pub(crate) fn put_state(
-    out: &mut Vec<u8>,
-    names: &Names,
-    state: &WordState,
-) -> Result<(), AllocError>
+pub(crate) fn put_state(out: &mut Vec<u8>, names: &Names, state: &WordState) -> Put
     requires { HasStateNames names.now state.now }
     ensures { OnOk result (out.new.items ≡ out.old.items ++ state_text names.now state.now) }
 {
@@ -98,7 +94,7 @@ pub(crate) fn put_state(
     }
 }
 
-fn put_candidates(out: &mut Vec<u8>, names: &Names, locks: &Lockset) -> Result<(), AllocError>
+fn put_candidates(out: &mut Vec<u8>, names: &Names, locks: &Lockset) -> Put
     requires { HasLockNames names.now locks.now }
     ensures { OnOk result (out.new.items ≡ out.old.items ++ candidates_text names.now locks.now) }
 {

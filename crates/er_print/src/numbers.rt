@@ -3,13 +3,13 @@ ghost use Rattle.std.specs.Prelude.{◌≡◌, ◌++◌, ◌<◌, OnOk, decimal}
 ghost use Rattle.std.specs.Char.{digit_char};
 ghost use Rattle.er_print.specs.Printed.{hex_digits, address_text};
 
+use crate::Put;
 use er_event::Word;
 use itoa::Buffer;
-use std::alloc::AllocError;
 
 /// Puts a number in decimal, without leading zeros.
 #[inline]
-pub fn put_number(out: &mut Vec<u8>, n: u64) -> Result<(), AllocError>
+pub fn put_number(out: &mut Vec<u8>, n: u64) -> Put
     ensures { OnOk result (out.new.items ≡ out.old.items ++ decimal n) }
 {
     let mut digits = Buffer::new();
@@ -17,7 +17,7 @@ pub fn put_number(out: &mut Vec<u8>, n: u64) -> Result<(), AllocError>
 }
 
 /// Puts the address of the word's first byte.
-pub fn put_address(out: &mut Vec<u8>, word: Word) -> Result<(), AllocError>
+pub fn put_address(out: &mut Vec<u8>, word: Word) -> Put
     ensures { OnOk result (out.new.items ≡ out.old.items ++ address_text word) }
 {
     out.extend_from_slice(b"0x")?;
@@ -25,7 +25,7 @@ pub fn put_address(out: &mut Vec<u8>, word: Word) -> Result<(), AllocError>
 }
 
 // Puts so many hexadecimal digits, of which the last is the lowest.
-fn put_hex(out: &mut Vec<u8>, count: u32, n: u64) -> Result<(), AllocError>
+fn put_hex(out: &mut Vec<u8>, count: u32, n: u64) -> Put
     ensures { OnOk result (out.new.items ≡ out.old.items ++ hex_digits count n) }
 {
     if count == 0 {

@@ -3,6 +3,7 @@ ghost use Rattle.std.specs.Prelude.{◌≡◌, ◌++◌, OnOk};
 ghost use Rattle.er_print.specs.Inner.Joined.{joined_text};
 ghost use Rattle.er_print.specs.Pieces.{HasPieceName, HavePieceNames, before_of, piece_text, pieces_text, value_text};
 
+use crate::Put;
 use crate::naming::{put_event, put_state, verb};
 use crate::numbers::{put_address, put_number};
 use crate::styles::{
@@ -10,7 +11,6 @@ use crate::styles::{
 };
 use er_event::{Kind, LockId, ThreadId, Word, WordState};
 use er_trace::Names;
-use std::alloc::AllocError;
 
 /// A part of a text: a value, with these bytes before it.
 #[derive(Clone, Copy)]
@@ -45,12 +45,7 @@ pub enum Piece<'a> {
 
 /// Puts the parts of a text, one behind another. The two clauses say the same: by the second the prover sees the text of a list of parts at
 /// once.
-pub fn put_all(
-    out: &mut Vec<u8>,
-    style: Style,
-    names: &Names,
-    pieces: &[Piece<'_>],
-) -> Result<(), AllocError>
+pub fn put_all(out: &mut Vec<u8>, style: Style, names: &Names, pieces: &[Piece<'_>]) -> Put
     requires { HavePieceNames names.now pieces.now }
     ensures text { OnOk result (out.new.items ≡ out.old.items ++ pieces_text style names.now pieces.now) }
     ensures joined { OnOk result (out.new.items ≡ out.old.items ++ joined_text style names.now pieces.now) }
@@ -61,28 +56,16 @@ pub fn put_all(
     Ok(())
 }
 
-fn put_piece(
-    out: &mut Vec<u8>,
-    style: Style,
-    names: &Names,
-    piece: &Piece<'_>,
-) -> Result<(), AllocError>
+fn put_piece(out: &mut Vec<u8>, style: Style, names: &Names, piece: &Piece<'_>) -> Put
     requires { HasPieceName names.now piece.now }
     ensures { OnOk result (out.new.items ≡ out.old.items ++ piece_text style names.now piece.now) }
 {
-    put_before(out, before_of(piece))?;
-    put_value(out, style, names, piece)
-}
-
-// Puts these bytes, if there are some: a copy of none would cost as much.
-#[inline]
-fn put_before(out: &mut Vec<u8>, before: &[u8]) -> Result<(), AllocError>
-    ensures { OnOk result (out.new.items ≡ out.old.items ++ before.now) }
-{
-    if before.is_empty() {
-        return Ok(());
+    // A copy of no bytes would cost as much as one of some.
+    let before = before_of(piece);
+    if !before.is_empty() {
+        out.extend_from_slice(before)?;
     }
-    out.extend_from_slice(before)
+    put_value(out, style, names, piece)
 }
 
 fn before_of<'a>(piece: &Piece<'a>) -> &'a [u8]
@@ -104,12 +87,7 @@ fn before_of<'a>(piece: &Piece<'a>) -> &'a [u8]
     }
 }
 
-fn put_value(
-    out: &mut Vec<u8>,
-    style: Style,
-    names: &Names,
-    piece: &Piece<'_>,
-) -> Result<(), AllocError>
+fn put_value(out: &mut Vec<u8>, style: Style, names: &Names, piece: &Piece<'_>) -> Put
     requires { HasPieceName names.now piece.now }
     ensures { OnOk result (out.new.items ≡ out.old.items ++ value_text style names.now piece.now) }
 {

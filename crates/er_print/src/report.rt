@@ -8,8 +8,8 @@ ghost use Rattle.er_print.specs.Printed.{report_text, reports_text, text_if_ther
 ghost use Rattle.er_print.specs.declared.fault.WriteFault.TheVariants.{Memory};
 ghost use Rattle.er_print.specs.Written.{WritesReport, FailsWriting};
 
-use crate::WriteFault;
 use crate::lines::{ReportKind, put_end, put_line};
+use crate::{Put, WriteFault};
 use er_device::Device;
 use er_report::{Report, Reports};
 use er_trace::Names;
@@ -75,12 +75,7 @@ pub fn reports_text(alloc: Global, reports: &Reports, names: &Names) -> Result<V
 }
 
 // Puts the text of a report, if it is there.
-fn put_if_there(
-    out: &mut Vec<u8>,
-    of: ReportKind,
-    report: &Option<Report>,
-    names: &Names,
-) -> Result<(), AllocError>
+fn put_if_there(out: &mut Vec<u8>, of: ReportKind, report: &Option<Report>, names: &Names) -> Put
     requires { IfSome report.now (λ report. All (HasNames names.now) report.lines.items) }
     ensures { OnOk result (out.new.items ≡ out.old.items ++ text_if_there of names.now report.now) }
 {
@@ -92,12 +87,7 @@ fn put_if_there(
 
 // Puts the text of a report.
 #[tactic(auto, unfolding(crate::specs::Printed::text_of_report))]
-fn put_report(
-    out: &mut Vec<u8>,
-    of: ReportKind,
-    report: &Report,
-    names: &Names,
-) -> Result<(), AllocError>
+fn put_report(out: &mut Vec<u8>, of: ReportKind, report: &Report, names: &Names) -> Put
     requires { All (HasNames names.now) report.now.lines.items }
     ensures { OnOk result (out.new.items ≡ out.old.items ++ text_of_report of names.now (told report.now)) }
 {

@@ -1,14 +1,14 @@
 //! How names are written.
 ghost use Rattle.std.specs.Prelude.{◌≡◌, ◌++◌, ◌≤◌, length, OnOk};
 ghost use Rattle.er_print.specs.Styles.{escaped, escaped_text, label_in, level_in, lock_in, locks_in, missing_in, named_site, name_in, short, site_in, spaced_in, string_text};
-ghost use Rattle.er_print.specs.Values.{comma_before, more_text, values_text};
+ghost use Rattle.er_print.specs.Values.{between_text, comma_before};
 ghost use Rattle.er_report.specs.Names.{HasLabelName, HasLockName, HasLockNames};
 
+use crate::Put;
 use crate::numbers::put_number;
 use er_event::{LockId, Site};
 use er_report::Label;
 use er_trace::Names;
-use std::alloc::AllocError;
 
 /// How a text writes names.
 #[derive(Clone, Copy, Drop)]
@@ -24,12 +24,7 @@ pub enum Style {
 }
 
 /// Puts a name. Where names are short, `most` bytes of it are enough.
-pub(crate) fn put_name(
-    out: &mut Vec<u8>,
-    style: Style,
-    name: &[u8],
-    most: usize,
-) -> Result<(), AllocError>
+pub(crate) fn put_name(out: &mut Vec<u8>, style: Style, name: &[u8], most: usize) -> Put
     requires { 2 ≤ most }
     ensures { OnOk result (out.new.items ≡ out.old.items ++ name_in style most name.now) }
 {
@@ -42,7 +37,7 @@ pub(crate) fn put_name(
 }
 
 /// Puts a text as a string of JSON.
-pub fn put_string(out: &mut Vec<u8>, text: &[u8]) -> Result<(), AllocError>
+pub fn put_string(out: &mut Vec<u8>, text: &[u8]) -> Put
     ensures { OnOk result (out.new.items ≡ out.old.items ++ string_text text.now) }
 {
     out.push(b'"')?;
@@ -51,7 +46,7 @@ pub fn put_string(out: &mut Vec<u8>, text: &[u8]) -> Result<(), AllocError>
 }
 
 /// Puts the bytes of a string of JSON, without its quotation marks.
-pub fn put_escaped(out: &mut Vec<u8>, text: &[u8]) -> Result<(), AllocError>
+pub fn put_escaped(out: &mut Vec<u8>, text: &[u8]) -> Put
     ensures { OnOk result (out.new.items ≡ out.old.items ++ escaped_text text.now) }
 {
     for byte in text {
@@ -60,7 +55,7 @@ pub fn put_escaped(out: &mut Vec<u8>, text: &[u8]) -> Result<(), AllocError>
     Ok(())
 }
 
-fn put_byte(out: &mut Vec<u8>, byte: u8) -> Result<(), AllocError>
+fn put_byte(out: &mut Vec<u8>, byte: u8) -> Put
     ensures { OnOk result (out.new.items ≡ out.old.items ++ escaped byte) }
 {
     if byte == b'"' || byte == b'\\' {
@@ -71,7 +66,7 @@ fn put_byte(out: &mut Vec<u8>, byte: u8) -> Result<(), AllocError>
 }
 
 /// Puts a name in at most so many bytes.
-pub fn put_short(out: &mut Vec<u8>, name: &[u8], most: usize) -> Result<(), AllocError>
+pub fn put_short(out: &mut Vec<u8>, name: &[u8], most: usize) -> Put
     requires { 2 ≤ most }
     ensures { OnOk result (out.new.items ≡ out.old.items ++ short most name.now) }
 {
@@ -83,12 +78,7 @@ pub fn put_short(out: &mut Vec<u8>, name: &[u8], most: usize) -> Result<(), Allo
 }
 
 /// Puts the name of a lock, or the level of a level's.
-pub(crate) fn put_lock_in(
-    out: &mut Vec<u8>,
-    style: Style,
-    names: &Names,
-    lock: LockId,
-) -> Result<(), AllocError>
+pub(crate) fn put_lock_in(out: &mut Vec<u8>, style: Style, names: &Names, lock: LockId) -> Put
     requires { HasLockName names.now lock }
     ensures { OnOk result (out.new.items ≡ out.old.items ++ lock_in style names.now lock) }
 {
@@ -98,7 +88,7 @@ pub(crate) fn put_lock_in(
     put_name(out, style, names.lock_name(lock).as_bytes(), 32)
 }
 
-fn put_level(out: &mut Vec<u8>, style: Style, level: u64) -> Result<(), AllocError>
+fn put_level(out: &mut Vec<u8>, style: Style, level: u64) -> Put
     ensures { OnOk result (out.new.items ≡ out.old.items ++ level_in style level) }
 {
     match style {
@@ -115,12 +105,7 @@ fn put_level(out: &mut Vec<u8>, style: Style, level: u64) -> Result<(), AllocErr
 }
 
 /// Puts the name of a site, or what stands for the missing one.
-pub(crate) fn put_site_in(
-    out: &mut Vec<u8>,
-    style: Style,
-    names: &Names,
-    site: Site,
-) -> Result<(), AllocError>
+pub(crate) fn put_site_in(out: &mut Vec<u8>, style: Style, names: &Names, site: Site) -> Put
     requires { site ≤ length names.now.sites }
     ensures { OnOk result (out.new.items ≡ out.old.items ++ site_in style names.now site) }
 {
@@ -138,7 +123,7 @@ pub(crate) fn put_named_site(
     names: &Names,
     before: &[u8],
     site: Site,
-) -> Result<(), AllocError>
+) -> Put
     requires { site ≤ length names.now.sites }
     ensures { OnOk result (out.new.items ≡ out.old.items ++ named_site style names.now before.now site) }
 {
@@ -159,68 +144,41 @@ fn missing(style: Style) -> &'static [u8]
 }
 
 /// Puts the names of locks.
-pub(crate) fn put_locks_in(
-    out: &mut Vec<u8>,
-    style: Style,
-    names: &Names,
-    locks: &[LockId],
-) -> Result<(), AllocError>
+pub(crate) fn put_locks_in(out: &mut Vec<u8>, style: Style, names: &Names, locks: &[LockId]) -> Put
     requires { HasLockNames names.now locks.now }
     ensures { OnOk result (out.new.items ≡ out.old.items ++ locks_in style names.now locks.now) }
 {
     match style {
         Style::Json => {
             out.push(b'[')?;
-            put_values(out, names, locks)?;
+            put_between(out, b',', style, names, locks)?;
             out.extend_from_slice(b"]")
         }
         Style::Plain | Style::InString | Style::Short => put_spaced(out, style, names, locks),
     }
 }
 
-// Puts the locks of an array.
-fn put_values(out: &mut Vec<u8>, names: &Names, locks: &[LockId]) -> Result<(), AllocError>
-    requires { HasLockNames names.now locks.now }
-    ensures { OnOk result (out.new.items ≡ out.old.items ++ values_text (lock_in Style.Json names.now) locks.now) }
-{
-    for (place, lock) in locks.iter().enumerate() {
-        out.extend_from_slice(comma_before(place))?;
-        put_lock_in(out, Style::Json, names, *lock)?;
-    }
-    Ok(())
-}
-
 // Puts locks with spaces between them, or that there are none.
-fn put_spaced(
-    out: &mut Vec<u8>,
-    style: Style,
-    names: &Names,
-    locks: &[LockId],
-) -> Result<(), AllocError>
+fn put_spaced(out: &mut Vec<u8>, style: Style, names: &Names, locks: &[LockId]) -> Put
     requires { HasLockNames names.now locks.now }
     ensures { OnOk result (out.new.items ≡ out.old.items ++ spaced_in style names.now locks.now) }
 {
-    match locks {
-        [] => out.extend_from_slice(b"none"),
-        [first, rest @ ..] => {
-            put_lock_in(out, style, names, *first)?;
-            put_more(out, b' ', style, names, rest)
-        }
+    if locks.is_empty() {
+        return out.extend_from_slice(b"none");
     }
+    put_between(out, b' ', style, names, locks)
 }
 
-// Puts each lock behind this sign.
-fn put_more(
-    out: &mut Vec<u8>,
-    sign: u8,
-    style: Style,
-    names: &Names,
-    locks: &[LockId],
-) -> Result<(), AllocError>
+// Puts locks with this sign between them.
+fn put_between(out: &mut Vec<u8>, sign: u8, style: Style, names: &Names, locks: &[LockId]) -> Put
     requires { HasLockNames names.now locks.now }
-    ensures { OnOk result (out.new.items ≡ out.old.items ++ more_text sign (lock_in style names.now) locks.now) }
+    ensures { OnOk result (out.new.items ≡ out.old.items ++ between_text sign (lock_in style names.now) locks.now) }
 {
-    for lock in locks {
+    let [first, rest @ ..] = locks else {
+        return Ok(());
+    };
+    put_lock_in(out, style, names, *first)?;
+    for lock in rest {
         out.push(sign)?;
         put_lock_in(out, style, names, *lock)?;
     }
@@ -239,12 +197,7 @@ pub fn comma_before(place: usize) -> &'static [u8]
 }
 
 /// Puts what an access has to do with a race.
-pub(crate) fn put_label_in(
-    out: &mut Vec<u8>,
-    style: Style,
-    names: &Names,
-    label: Label,
-) -> Result<(), AllocError>
+pub(crate) fn put_label_in(out: &mut Vec<u8>, style: Style, names: &Names, label: Label) -> Put
     requires { HasLabelName names.now label }
     ensures { OnOk result (out.new.items ≡ out.old.items ++ label_in style names.now label) }
 {

@@ -136,11 +136,7 @@ impl<'t> Machine<'t> {
         let Step { thread, event } = step;
         match event {
             Event::Access(..) | Event::Reuse(_) | Event::Show(_) | Event::Sync(_) => Ok(()),
-            Event::Acquire(..)
-            | Event::Release(..)
-            | Event::IgnoreOn
-            | Event::IgnoreOff
-            | Event::Level(_) => match self.threads.change(thread, event) {
+            _ => match self.threads.change(thread, event) {
                 Ok(()) => Ok(()),
                 Err(Refusal::OutOfMemory) => Err(AllocError),
                 Err(_) => Ok(()),

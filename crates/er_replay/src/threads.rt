@@ -1,6 +1,5 @@
 //! Every thread's holdings.
 ghost use Rattle.std.specs.Prelude.{◌≡◌, ◌&&◌, ◌<◌, ℕ, nat_eq, cond, slice_get, IsTrue, IfOk, IfErr, IfSome, IfNone, OnOk, OnErr, Err, None, Some};
-ghost use Rattle.indexmap.specs.IndexMap.{get, keys, index_map_len, IsUnique};
 ghost use Rattle.er_model.specs.Holdings.{refused_by, changed_by};
 ghost use Rattle.er_held.specs.Held.{nothing_held};
 ghost use Rattle.er_held.specs.ThreadLocks.{changes_holdings, holding_among};
@@ -8,16 +7,16 @@ ghost use Rattle.er_replay.specs.Wants.{wants_memory, is_no_memory};
 
 use er_event::{Event, Refusal, ThreadId};
 use er_held::Held;
-use er_keys::{HashKeys, NumberHasher};
+use er_keys::{HashKeys, NumberHasher, index_of};
 use er_shadow::Hints;
 use indexmap::IndexMap;
 use std::alloc::{AllocError, Global};
 use std::marker::Model;
 
-/// The holdings of the threads that took something, by thread. Any other thread has nothing.
+/// The holdings of the threads that took something, by the thread's number. Any other thread has nothing.
 #[derive(Drop)]
 pub(crate) struct Threads {
-    held: IndexMap<ThreadId, Held, NumberHasher>,
+    held: IndexMap<u64, Held, NumberHasher>,
     // Where a thread stands.
     places: Hints,
     nothing: Held,
@@ -57,7 +56,7 @@ impl Threads {
         ensures { result.now ≡ holding_among self.now thread }
     {
         let key = u64::from(thread.number());
-        match index_of_thread(&self.held, self.places.hint(key), thread) {
+        match index_of(&self.held, self.places.hint(key), key) {
             Some(index) => &self.held[index],
             None => &self.nothing,
         }
@@ -74,7 +73,7 @@ impl Threads {
         ensures memory { refused_by (holding_among self.old thread) event ≡ None → IfErr result (λ why. IsTrue (wants_memory event && is_no_memory why)) }
     {
         let key = u64::from(thread.number());
-        match index_of_thread(&self.held, self.places.hint(key), thread) {
+        match index_of(&self.held, self.places.hint(key), key) {
             Some(index) => {
                 self.places.note(key, index);
                 let held = &mut self.held[index];
@@ -84,28 +83,10 @@ impl Threads {
                 let mut held = Held::new(self.alloc);
                 change(&mut held, event)?;
                 self.places.note(key, self.held.len());
-                self.held.insert(thread, held)?;
+                self.held.insert(key, held)?;
                 Ok(())
             }
         }
-    }
-}
-
-// Where the thread stands. It looks at the place of the hint first, and needs no hash if that is the one.
-#[inline]
-fn index_of_thread(
-    held: &IndexMap<ThreadId, Held, NumberHasher>,
-    hint: usize,
-    thread: ThreadId,
-) -> Option<usize>
-    ensures key { IfSome result (λ index. slice_get (keys held.now) index ≡ Some thread) }
-    ensures within { IfSome result (λ index. index < index_map_len held.now) }
-    ensures none { IfNone result (get nat_eq held.now thread ≡ None) }
-    ensures unique { IsUnique nat_eq held.now }
-{
-    match held.as_slice().get_index(hint) {
-        Some((key, _)) if *key == thread => Some(hint),
-        _ => held.get_index_of(&thread),
     }
 }
 

@@ -36,7 +36,7 @@ use Rattle.er_report.proofs.LawLemmas.{counted-step, least-counted, uncovered-co
 use Rattle.er_report.proofs.ReasonLemmas.{found_below, lines-explained}
 use Rattle.er_report.specs.Inner.Explained.{line_with, left_after, with_reasons, line_told, told_left, with_told, lines_kept}
 use Rattle.er_report.specs.Kept.{LineAccess, Kept, Follows, access_at, told_access, told_found, joining_reasons, found_reasons, word_reasons, line_access, line_book, told_below}
-use Rattle.er_report.specs.Lines.{LineView, RaceView, ReusedView, RefusedView, ShownView}
+use Rattle.er_report.specs.Lines.{LineView, RacedView, RefusedView, ShownView}
 use Rattle.er_report.specs.Reasons.{reason_at, reasons_of}
 use Rattle.er_report.specs.Report.{is_printed, lines_below, matching_rule_at}
 use Rattle.er_report.specs.declared.report.Because.{Because}
@@ -116,16 +116,13 @@ drop-map r [] = refl
 drop-map r (e ∷ es) = refl
 
 same-line : (r : Recording) (es : List Explanation) (line : LineView) → line_with r es line ≡ line_told (map (reasons_of r) es) line
-same-line r [] (RaceView number thread kind word site held reasons) = refl
-same-line r (e ∷ es) (RaceView number thread kind word site held reasons) = refl
-same-line r [] (ReusedView number thread range site held reasons) = refl
-same-line r (e ∷ es) (ReusedView number thread range site held reasons) = refl
+same-line r [] (RacedView race) = refl
+same-line r (e ∷ es) (RacedView race) = refl
 same-line r es (RefusedView number step refusal) = refl
 same-line r es (ShownView number word state) = refl
 
 same-left : (r : Recording) (es : List Explanation) (line : LineView) → map (reasons_of r) (left_after es line) ≡ told_left (map (reasons_of r) es) line
-same-left r es (RaceView number thread kind word site held reasons) = drop-map r es
-same-left r es (ReusedView number thread range site held reasons) = drop-map r es
+same-left r es (RacedView race) = drop-map r es
 same-left r es (RefusedView number step refusal) = refl
 same-left r es (ShownView number word state) = refl
 

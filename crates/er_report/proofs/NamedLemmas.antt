@@ -34,7 +34,7 @@ use Rattle.er_model.proofs.Prefixes.{holdings-empty, state-start}
 use Rattle.er_report.specs.Names.{HasLockName, HasLockNames, HasStateNames, HasEventNames, HasSiteName, HasLabelName, HasReasonNames, HasViewNames, HaveStateNames}
 use Rattle.er_report.specs.Report.{Answering, reply_line, answer_line, line_of, line_at, lines_by, matching_rule_by, reasons_if}
 use Rattle.er_rules.specs.Rules.{Target}
-use Rattle.er_report.specs.Lines.{RaceView, ReusedView, RefusedView, ShownView}
+use Rattle.er_report.specs.Lines.{RefusedView, ShownView}
 use Rattle.er_report.specs.Reasons.{access_reason, step_reason, reason_at, reasons_of, reasons_by}
 use Rattle.er_report.specs.declared.report.Because.{Because}
 use Rattle.er_report.specs.declared.report.Label.{Label}
@@ -154,9 +154,9 @@ module _ (names : NameTable) where
       → HasLockNames names locks → All (HasReasonNames names) reasons → ((state : WordState) → reply ≡ State state → HasStateNames names state)
       → All (HasViewNames names) (reply_line number line_site locks reasons t e reply)
   named_reply number line_site locks reasons t (Access kind w site) Race own new at all because shown =
-      All-cons (HasViewNames names) (RaceView number t kind w site locks reasons) [] (own, new, all, because) (All-nil (HasViewNames names))
+      All-cons (HasViewNames names) _ [] (record { thread = own; site = new; held = all; explained = because }) (All-nil (HasViewNames names))
   named_reply number line_site locks reasons t (Reuse range) Race own new at all because shown =
-      All-cons (HasViewNames names) (ReusedView number t range line_site locks reasons) [] (own, at, all, because) (All-nil (HasViewNames names))
+      All-cons (HasViewNames names) _ [] (record { thread = own; site = at; held = all; explained = because }) (All-nil (HasViewNames names))
   named_reply number line_site locks reasons t (Show w) (State state) own new at all because shown =
       All-cons (HasViewNames names) (ShownView number w state) [] (shown state refl) (All-nil (HasViewNames names))
   named_reply number line_site locks reasons t e reply own new at all because shown = All-nil (HasViewNames names)

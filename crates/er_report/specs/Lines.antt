@@ -1,24 +1,40 @@
 -- The lines of a report, as contracts compare them: by the lists that they hold.
-use Rattle.std.specs.Prelude.{ℕ, List}
-use Rattle.er_event.specs.declared.addresses.PageRange.{PageRange}
+use Rattle.std.specs.Prelude.{ℕ, List, Option, Some, None}
 use Rattle.er_event.specs.declared.refusals.Refusal.{Refusal}
-use Rattle.er_event.specs.declared.steps.Kind.{Kind}
 use Rattle.er_event.specs.declared.steps.Step.{Step}
 use Rattle.er_event.specs.declared.steps.WordState.{WordState}
 use Rattle.er_report.specs.declared.report.Because.{Because}
+use Rattle.er_report.specs.declared.report.Deed.{Deed}
+use Rattle.er_report.specs.declared.report.Deed.TheVariants as deed
 use Rattle.er_report.specs.declared.report.Line.{Line}
 use Rattle.er_report.specs.declared.report.Line.TheVariants.{Race, Reused, Refused, Shown}
 
--- the race of an access or of a reuse, with the locks that its thread held and its reasons, a refused step, or a word that was shown
+-- the race of an access or of a reuse, with its line in the text, the locks that its thread held and its reasons
+pub record RaceView : Type 0 where
+  pub line : ℕ
+  pub thread : ℕ
+  pub deed : Deed
+  pub site : ℕ
+  pub held : List ℕ
+  pub explained : List Because
+
+-- a race, a refused step, or a word that was shown
 pub data LineView : Type 0 where
-  RaceView : (number : ℕ) → (thread : ℕ) → (kind : Kind) → (word : ℕ) → (site : ℕ) → (held : List ℕ) → (explained : List Because) → LineView
-  ReusedView : (number : ℕ) → (thread : ℕ) → (range : PageRange) → (site : ℕ) → (held : List ℕ) → (explained : List Because) → LineView
+  RacedView : (race : RaceView) → LineView
   RefusedView : (number : ℕ) → (step : Step) → (refusal : Refusal) → LineView
   ShownView : (number : ℕ) → (word : ℕ) → (state : WordState) → LineView
 
 -- what a line says
 abbrev pub line_view : Line → LineView
-line_view (Race number thread kind word site held explained) = RaceView number thread kind word site held explained.items
-line_view (Reused number thread range site held explained) = ReusedView number thread range site held explained.items
+line_view (Race number thread kind word site held explained) =
+    RacedView (record { line = number; thread = thread; deed = deed.Access kind word; site = site; held = held; explained = explained.items })
+line_view (Reused number thread range site held explained) =
+    RacedView (record { line = number; thread = thread; deed = deed.Reuse range; site = site; held = held; explained = explained.items })
 line_view (Refused number step refusal) = RefusedView number step refusal
 line_view (Shown number word state) = ShownView number word state
+
+-- the race of a line, if it is one
+abbrev pub race_of : LineView → Option RaceView
+race_of (RacedView race) = Some race
+race_of (RefusedView number step refusal) = None
+race_of (ShownView number word state) = None

@@ -7,7 +7,7 @@ use Rattle.er_event.specs.declared.steps.Event.TheVariants.{Acquire, Release, Ac
 use Rattle.er_event.specs.declared.steps.Reply.TheVariants.{State}
 use Rattle.er_event.specs.declared.steps.WordState.{WordState}
 use Rattle.er_event.specs.declared.steps.WordState.TheVariants.{Virgin, Exclusive, Shared, SharedModified}
-use Rattle.er_report.specs.Lines.{LineView, RaceView, ReusedView, RefusedView, ShownView, line_view}
+use Rattle.er_report.specs.Lines.{LineView, RaceView, RacedView, RefusedView, ShownView, line_view}
 use Rattle.er_report.specs.Report.{Answering}
 use Rattle.er_report.specs.declared.report.Because.{Because}
 use Rattle.er_report.specs.declared.report.Label.{Label}
@@ -69,12 +69,16 @@ HasLabelName names label.Unordered = Unit {0}
 abbrev pub HasReasonNames : NameTable → Because → Type 0
 HasReasonNames names because = (because.thread < length names.threads) × HasLabelName names because.label
 
--- each thread, lock and site of a line has; site 0 needs none
+-- each thread, lock and site of a race has; site 0 needs none
+pub record HasRaceNames (names : NameTable) (race : RaceView) : Type 0 where
+  pub thread : race.thread < length names.threads
+  pub site : race.site ≤ length names.sites
+  pub held : HasLockNames names race.held
+  pub explained : All (HasReasonNames names) race.explained
+
+-- and each of a line
 abbrev pub HasViewNames : NameTable → LineView → Type 0
-HasViewNames names (RaceView number thread kind word site held explained) =
-    (thread < length names.threads) × (site ≤ length names.sites) × HasLockNames names held × All (HasReasonNames names) explained
-HasViewNames names (ReusedView number thread range site held explained) =
-    (thread < length names.threads) × (site ≤ length names.sites) × HasLockNames names held × All (HasReasonNames names) explained
+HasViewNames names (RacedView race) = HasRaceNames names race
 HasViewNames names (RefusedView number step refusal) = (step.thread < length names.threads) × HasEventNames names step.event
 HasViewNames names (ShownView number word state) = HasStateNames names state
 

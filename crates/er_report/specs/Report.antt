@@ -16,9 +16,10 @@ use Rattle.er_model.specs.Answers.{answer}
 use Rattle.er_model.specs.Threads.{accepted, held}
 use Rattle.er_journal.specs.declared.answers.Stopped.{Stopped}
 pub use Rattle.er_journal.specs.Stops.{answered_steps}
-use Rattle.er_report.specs.Lines.{LineView, RaceView, ReusedView, RefusedView, ShownView, line_view}
+use Rattle.er_report.specs.Lines.{LineView, RacedView, RefusedView, ShownView, line_view}
 use Rattle.er_report.specs.Reasons.{reasons_at}
 use Rattle.er_report.specs.declared.report.Because.{Because}
+use Rattle.er_report.specs.declared.report.Deed.TheVariants as deed
 use Rattle.er_report.specs.declared.report.Report.{Report}
 use Rattle.er_rules.specs.Rules.{Target, matching_rule, matching_reuse_rule}
 
@@ -50,8 +51,10 @@ told r =
 -- the line of a race or of a show, and none of another reply; these are the number and the site of the step's line in the text, the
 -- locks that the thread holds, and why it is a race
 abbrev pub reply_line : ℕ → ℕ → List ℕ → List Because → ℕ → Event → Reply → List LineView
-reply_line number line_site locks reasons thread (Access kind word site) Race = RaceView number thread kind word site locks reasons ∷ []
-reply_line number line_site locks reasons thread (Reuse range) Race = ReusedView number thread range line_site locks reasons ∷ []
+reply_line number line_site locks reasons thread (Access kind word site) Race =
+    RacedView (record { line = number; thread = thread; deed = deed.Access kind word; site = site; held = locks; explained = reasons }) ∷ []
+reply_line number line_site locks reasons thread (Reuse range) Race =
+    RacedView (record { line = number; thread = thread; deed = deed.Reuse range; site = line_site; held = locks; explained = reasons }) ∷ []
 reply_line number line_site locks reasons thread (Show word) (State state) = ShownView number word state ∷ []
 reply_line number line_site locks reasons thread event reply = []
 

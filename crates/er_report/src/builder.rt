@@ -17,12 +17,12 @@ ghost use Rattle.er_rules.specs.Rules.{Target, targets_of};
 use crate::explainer::Explainer;
 use crate::reasons::{explain_lines, give_reasons};
 use crate::rules::first_rule;
-use crate::{Because, Line, Report};
+use crate::{Because, Line, Made, Report};
 use er_event::{Event, Lockset, NoRoom, Refusal, Reply, Site, Step};
-use er_journal::{Answer, Stopped};
+use er_journal::Answer;
 use er_keys::HashKeys;
 use er_rules::Suppressions;
-use er_trace::{Names, Trace};
+use er_trace::Names;
 use std::alloc::{AllocError, Global};
 use std::marker::Model;
 
@@ -40,7 +40,6 @@ pub struct ReportBuilder<'r> {
     report: Report,
     races: Vec<u64>,
     explainer: Option<Explainer>,
-    alloc: Global,
 }
 
 impl<'r> Model for ReportBuilder<'r> {
@@ -64,31 +63,11 @@ impl<'r> ReportBuilder<'r> {
         ensures built_by { IfOk result (λ builder. (a : Answering) (r : Recording) → IsBuiltBy a builder r 0) }
         ensures kept { IfOk result (λ builder. builder.kept ≡ None) }
     {
-        let report = empty_report(alloc, rules.len())?;
-        Ok(ReportBuilder {
-            rules,
-            report,
-            races: Vec::new(alloc),
-            explainer: None,
-            alloc,
-        })
+        ReportBuilder::explaining_keyed(alloc, rules, false, HashKeys::KNOWN)
     }
 
-    /// The same, for races that get reasons if `explain` is set. Whoever chooses the words that are accessed can then make it slow: see
-    /// [`explaining_keyed`](ReportBuilder::explaining_keyed).
-    pub fn explaining(
-        alloc: Global,
-        rules: &'r Suppressions,
-        explain: bool,
-    ) -> Result<ReportBuilder<'r>, AllocError>
-        ensures rules { IfOk result (λ builder. builder.rules ≡ targets_of rules.now) }
-        ensures explains { IfOk result (λ builder. is_some builder.kept ≡ explain) }
-        ensures built { IfOk result (λ builder. (r : Recording) → IsReported builder r 0) }
-    {
-        ReportBuilder::explaining_keyed(alloc, rules, explain, HashKeys::KNOWN)
-    }
-
-    /// The same, where reasons find each word by these keys.
+    /// The same, for races that get reasons if `explain` is set. Reasons find each word by these keys: whoever can guess them and chooses the
+    /// words that are accessed can make that slow.
     pub fn explaining_keyed(
         alloc: Global,
         rules: &'r Suppressions,
@@ -97,6 +76,7 @@ impl<'r> ReportBuilder<'r> {
     ) -> Result<ReportBuilder<'r>, AllocError>
         ensures rules { IfOk result (λ builder. builder.rules ≡ targets_of rules.now) }
         ensures explains { IfOk result (λ builder. is_some builder.kept ≡ explain) }
+        ensures built_by { IfOk result (λ builder. (a : Answering) (r : Recording) → IsBuiltBy a builder r 0) }
         ensures built { IfOk result (λ builder. (r : Recording) → IsReported builder r 0) }
     {
         let report = empty_report(alloc, rules.len())?;
@@ -105,7 +85,6 @@ impl<'r> ReportBuilder<'r> {
             report,
             races: Vec::new(alloc),
             explainer: explainer_if(alloc, explain, keys),
-            alloc,
         })
     }
 
@@ -150,8 +129,7 @@ impl<'r> ReportBuilder<'r> {
         ensures kept { OnOk result (self.new.kept ≡ self.old.kept) }
         ensures err { OnErr result (self.new ≡ self.old) }
     {
-        self.add_answer(names, line, site, step, view_of(answer), held)?;
-        Ok(())
+        self.add_answer(names, line, site, step, view_of(answer), held)
     }
 
     /// The same, by a view of the answer.
@@ -177,29 +155,11 @@ impl<'r> ReportBuilder<'r> {
         let place = self.report.steps;
         if is_printed(answer, rule) {
             self.races.reserve(1)?;
-            add_step(
-                self.alloc,
-                &mut self.report,
-                line,
-                site,
-                step,
-                answer,
-                rule,
-                held,
-            )?;
+            add_step(&mut self.report, line, site, step, answer, rule, held)?;
             self.races.push_reserved(place);
             return Ok(());
         }
-        add_step(
-            self.alloc,
-            &mut self.report,
-            line,
-            site,
-            step,
-            answer,
-            rule,
-            held,
-        )?;
+        add_step(&mut self.report, line, site, step, answer, rule, held)?;
         Ok(())
     }
 
@@ -224,7 +184,7 @@ impl<'r> ReportBuilder<'r> {
         ensures explains { OnOk result (is_some self.new.kept ≡ is_some self.old.kept) }
         ensures explained { (r : Recording) (k : ℕ) → IsBuilt self.old r (k + 1) → IsExplained self.old r k → slice_get r.steps k ≡ Some step.now → line ≡ slice_index r.lines k → OnOk result (IsReported self.new r (k + 1)) }
     {
-        let races = count(&self.races);
+        let races = self.races.as_slice().len();
         if let Some(explainer) = &mut self.explainer {
             let printed = explainer.told() < races;
             explainer.follow(line, step, printed)?;
@@ -238,15 +198,7 @@ impl<'r> ReportBuilder<'r> {
         ensures named_by { (a : Answering) (r : Recording) (n : ℕ) → IsBuiltBy a self.entry r n → All (IsNamed r.names) r.steps → All (IsSite r.names) r.sites → HaveStateNames r.names a → All (HasNames r.names) result.lines.items }
         ensures named { (r : Recording) (n : ℕ) → IsBuilt self.entry r n → All (IsNamed r.names) r.steps → All (IsSite r.names) r.sites → All (HasNames r.names) result.lines.items }
     {
-        let ReportBuilder {
-            rules: _,
-            mut report,
-            races,
-            explainer,
-            alloc: _,
-        } = self;
-        drop(races);
-        drop(explainer);
+        let ReportBuilder { mut report, .. } = self;
         report.stop = stop;
         report
     }
@@ -258,11 +210,9 @@ impl<'r> ReportBuilder<'r> {
         ensures stop { result.stop ≡ stop }
     {
         let ReportBuilder {
-            rules: _,
             mut report,
-            races: _,
             explainer,
-            alloc: _,
+            ..
         } = self;
         report.stop = stop;
         explain_lines(explainer, &mut report.lines);
@@ -276,39 +226,11 @@ impl<'r> ReportBuilder<'r> {
         ensures named_by { (a : Answering) (why : ℕ → List Reason) (r : Recording) (n : ℕ) → RacesHaveLines a r.steps → IsBuiltBy a self.entry r n → map (λ told. told.items) reasons.items ≡ map why self.entry.races
             → All (IsNamed r.names) r.steps → All (IsSite r.names) r.sites → HaveStateNames r.names a → ((k : ℕ) → All (HasReasonNames r.names) (why k)) → All (HasNames r.names) result.lines.items }
     {
-        let ReportBuilder {
-            rules: _,
-            mut report,
-            races,
-            explainer,
-            alloc: _,
-        } = self;
-        drop(races);
-        drop(explainer);
+        let ReportBuilder { mut report, .. } = self;
         report.stop = None;
         give_reasons(reasons, &mut report.lines);
         report
     }
-
-    /// The report of a run of a trace, whose answered steps were added and explained.
-    pub fn finish_for(self, trace: &Trace, stopped: Option<Stopped>) -> Report
-        requires stop { IfSome stopped (λ stop. stop.at < length trace.now.steps) }
-        requires built { IsReported self trace.now (length (answered_steps trace.now.steps stopped)) }
-        ensures report { told result ≡ report_of trace.now self.entry.rules (is_some self.entry.kept) stopped }
-        ensures named { All (HasNames trace.now.names) result.lines.items }
-    {
-        prove!(trace.lines().len() == trace.steps().len());
-        prove!(trace.sites().len() == trace.lines().len());
-        let stop = stop_line(trace, stopped);
-        self.finish_explained(stop)
-    }
-}
-
-// How many there are.
-fn count(races: &[u64]) -> usize
-    ensures { result ≡ length races.now }
-{
-    races.len()
 }
 
 // What finds reasons, if they are wanted.
@@ -324,7 +246,7 @@ fn explainer_if(alloc: Global, explain: bool, keys: HashKeys) -> Option<Explaine
 }
 
 // The report before any step, with so many rules.
-fn empty_report(alloc: Global, rules: usize) -> Result<Report, AllocError>
+fn empty_report(alloc: Global, rules: usize) -> Made<Report>
     ensures { IfOk result (λ report. told report ≡ empty_report rules) }
 {
     Ok(Report {
@@ -362,7 +284,6 @@ fn is_printed(answer: Answer<'_>, rule: Option<usize>) -> bool
 
 // Adds a step of this line and answer, whose race the rule takes, if there is one.
 fn add_step(
-    alloc: Global,
     report: &mut Report,
     number: u64,
     site: Site,
@@ -370,7 +291,7 @@ fn add_step(
     answer: Answer<'_>,
     rule: Option<usize>,
     held: &Lockset,
-) -> Result<(), AllocError>
+) -> Made<()>
     requires room { HasRoom (told report.old) }
     requires rule { IfSome rule (λ rule. rule < length report.old.rule_counts.items) }
     ensures ok { OnOk result (told report.new ≡ with_answer (told report.old) number site held.now step.now (shown answer.entry) rule) }
@@ -382,6 +303,7 @@ fn add_step(
             report.suppressed += 1;
         }
         None => {
+            let alloc = *report.lines.allocator();
             if let Some(line) = line_of(alloc, number, site, step, answer, held)? {
                 report.lines.push(line)?;
             }
@@ -404,7 +326,7 @@ fn line_of(
     step: &Step,
     answer: Answer<'_>,
     held: &Lockset,
-) -> Result<Option<Line>, AllocError>
+) -> Made<Option<Line>>
     ensures { IfOk result (λ line. map line_view (option_to_list line) ≡ answer_line number site held.now [] step.now (shown answer.entry)) }
 {
     Ok(match (answer, step.event) {
@@ -437,15 +359,4 @@ fn line_of(
         }),
         _ => None,
     })
-}
-
-// The line of the step at which a run stopped, and why.
-fn stop_line(trace: &Trace, stopped: Option<Stopped>) -> Option<(u64, NoRoom)>
-    requires { IfSome stopped (λ stop. stop.at < length trace.now.steps) }
-    ensures { result ≡ stop_line trace.now stopped }
-{
-    match stopped {
-        Some(Stopped { at, cause }) => Some((trace.lines()[at as usize], cause)),
-        None => None,
-    }
 }

@@ -11,12 +11,12 @@ ghost use Rattle.er_report.specs.Report.{is_printed};
 ghost use Rattle.er_rules.specs.Rules.{Target};
 ghost use Rattle.er_trace.specs.Trace.{Recording};
 
-use crate::{Because, Label};
+use crate::{Because, Label, Made};
 use er_event::{Event, Step, Word};
 use er_explain::{Access, Joint, WordBooks};
 use er_held::ThreadLocks;
 use er_keys::HashKeys;
-use std::alloc::{AllocError, Global};
+use std::alloc::Global;
 use std::marker::Model;
 
 /// The reasons of the printed races so far, and the books that later ones will need. It keeps no step.
@@ -59,7 +59,7 @@ impl Explainer {
     }
 
     /// Goes on by a step on this line, which may be a race that is printed.
-    pub(crate) fn follow(&mut self, line: u64, step: &Step, printed: bool) -> Result<(), AllocError>
+    pub(crate) fn follow(&mut self, line: u64, step: &Step, printed: bool) -> Made<()>
         ensures { (r : Recording) (rules : List Target) (k : ℕ) → Follows self.old r rules k → slice_get r.steps k ≡ Some step.now → line ≡ slice_index r.lines k → printed ≡ is_printed r rules k → OnOk result (Follows self.new r rules (k + 1)) }
     {
         self.go_on(line, step)?;
@@ -68,7 +68,7 @@ impl Explainer {
     }
 
     // The books and the locks go on by a step.
-    fn go_on(&mut self, line: u64, step: &Step) -> Result<(), AllocError>
+    fn go_on(&mut self, line: u64, step: &Step) -> Made<()>
         ensures books { OnOk result ((w : ℕ) → book_in self.new.books w ≡ book_after (book_in self.old.books w) w (line_access line (Some step.now)) (marked (held_by self.old.threads step.now.thread) step.now.thread step.now.event)) }
         ensures held { OnOk result ((t : ℕ) → held_by self.new.threads t ≡ after_step (held_by self.old.threads t) t step.now) }
         ensures told { OnOk result (self.new.told ≡ self.old.told) }
@@ -79,7 +79,7 @@ impl Explainer {
     }
 
     // Keeps the reasons of a race that is printed.
-    fn tell(&mut self, event: Event, printed: bool) -> Result<(), AllocError>
+    fn tell(&mut self, event: Event, printed: bool) -> Made<()>
         ensures books { OnOk result (self.new.books ≡ self.old.books) }
         ensures held { OnOk result (self.new.threads ≡ self.old.threads) }
         ensures told { OnOk result (self.new.told ≡ self.old.told ++ cond printed (word_reasons (book_in self.old.books) (word_in event) ∷ []) []) }
@@ -87,13 +87,12 @@ impl Explainer {
         if printed {
             let reasons = self.reasons_for(word_in(event))?;
             self.told.push(reasons)?;
-            return Ok(());
         }
         Ok(())
     }
 
     // The reasons that the book of a word tells, if there is a word.
-    fn reasons_for(&self, racing: Option<Word>) -> Result<Vec<Because>, AllocError>
+    fn reasons_for(&self, racing: Option<Word>) -> Made<Vec<Because>>
         ensures { IfOk result (λ reasons. reasons.items ≡ word_reasons (book_in self.now.books) racing) }
     {
         let Some(word) = racing else {
@@ -109,12 +108,7 @@ impl Explainer {
     pub(crate) fn into_told(self) -> Vec<Vec<Because>>
         ensures { map (λ reasons. reasons.items) result.items ≡ self.told }
     {
-        let Explainer {
-            locks: _,
-            books: _,
-            told,
-            alloc: _,
-        } = self;
+        let Explainer { told, .. } = self;
         told
     }
 }
@@ -130,7 +124,7 @@ fn word_in(event: Event) -> Option<Word>
 }
 
 // The accesses that a joining names, in the order of a report.
-fn reasons_of(alloc: Global, joint: &Joint<Access<u64>>) -> Result<Vec<Because>, AllocError>
+fn reasons_of(alloc: Global, joint: &Joint<Access<u64>>) -> Made<Vec<Because>>
     ensures { IfOk result (λ reasons. reasons.items ≡ joining_reasons joint.now) }
 {
     let mut reasons = Vec::with_capacity(alloc, joint.pairs().len() + 3)?;
@@ -144,17 +138,20 @@ fn reasons_of(alloc: Global, joint: &Joint<Access<u64>>) -> Result<Vec<Because>,
 }
 
 // Puts an access that was found, with its label.
-fn put_found(
-    reasons: &mut Vec<Because>,
-    label: Label,
-    found: Option<Access<u64>>,
-) -> Result<(), AllocError>
+fn put_found(reasons: &mut Vec<Because>, label: Label, found: Option<Access<u64>>) -> Made<()>
     ensures { OnOk result (reasons.new.items ≡ reasons.old.items ++ told_found label found) }
 {
-    if let Some(Access { at, thread, kind }) = found {
+    if let Some(
+        Access {
+            at: line,
+            thread,
+            kind,
+        },
+    ) = found
+    {
         reasons.push(Because {
             label,
-            line: at,
+            line,
             thread,
             kind,
         })?;

@@ -2,8 +2,7 @@
 //!
 //! Begin with [`ReportBuilder`]. It takes the steps of a trace one after another, each with its line, its answer and the locks that
 //! its thread holds, and finishes a [`Report`]: a [`Line`] for each race that no rule takes, each refusal and each word shown, where
-//! the run stopped, how many races each rule took, and how many there were of each sort. [`summarise`] does this for a run whose
-//! answers are in a list.
+//! the run stopped, how many races each rule took, and how many there were of each sort.
 //!
 //! What it promises, by the names of clauses: after the first steps of a recording were added, the builder holds the report of these
 //! steps (`built_by`), and what it finishes is the report that the definitions give of the answered steps under the rules (`report`), with
@@ -21,8 +20,11 @@
 //! Most steps have no line and leave no reason behind. Any number of them is added by one call ([`ReportBuilder::add_plain`]).
 //!
 //! ```
-//! // The trace is `t1 write 0x1000` and `t2 write 0x1000`, on lines 2 and 3.
-//! let report = summarise(alloc, &trace, &outcome, &Suppressions::new(alloc), false)?;
+//! // The steps are `t1 write 0x1000` and `t2 write 0x1000`, on lines 2 and 3. No lock is held.
+//! let mut builder = ReportBuilder::new(alloc, &rules)?;
+//! builder.add(names, 2, site, &first, &Ok(Reply::Quiet), &none)?;
+//! builder.add(names, 3, site, &second, &Ok(Reply::Race), &none)?;
+//! let report = builder.finish(None);
 //! assert_eq!(report.races, 1);
 //! if let [Line::Race { line, held, .. }] = report.lines.as_slice() {
 //!     // Here `line` is 3, and `held` is empty.
@@ -31,12 +33,14 @@
 #![tactic(auto)]
 
 pub use builder::ReportBuilder;
-pub use er_check::check_explanation;
-pub use er_explain::{Explanation, Uncovered, an_explanation_explains, explain};
 pub use laws::{a_report_goes_on, each_reason_is_told, the_counts_add_up};
-pub use report::{Because, Label, Line, Report};
+pub use report::{Because, Deed, Label, Line, Race, Report};
 pub use reports::{Analysis, Form, Reports};
-pub use summary::summarise;
+pub use rules::name_of;
+use std::alloc::AllocError;
+
+// What a call returns that memory may be refused.
+type Made<T> = Result<T, AllocError>;
 
 mod builder;
 mod explainer;
@@ -45,4 +49,3 @@ mod reasons;
 mod report;
 mod reports;
 mod rules;
-mod summary;

@@ -1,7 +1,11 @@
 //! A report, as plain data.
+ghost use Rattle.std.specs.Prelude.{◌≡◌, IfSome};
+ghost use Rattle.er_report.specs.Lines.{RacedView, line_view, race_of};
+
 use er_event::{
     Kind, LockId, Lockset, NoRoom, PageRange, Refusal, Site, Step, ThreadId, Word, WordState,
 };
+use std::marker::Model;
 
 /// One line of a report. Each names the line of the text that its step came from.
 #[derive(Debug, PartialEq, Eq, Drop)]
@@ -57,6 +61,83 @@ pub enum Line {
         /// What was known of it then.
         state: WordState,
     },
+}
+
+impl Line {
+    /// The race that it tells, if it tells one. The two clauses say the same.
+    pub fn race(&self) -> Option<Race<'_>>
+        ensures value { result ≡ race_of (line_view self.now) }
+        ensures is { IfSome result (λ race. line_view self.now ≡ RacedView race) }
+    {
+        match self {
+            Line::Race {
+                line,
+                thread,
+                kind,
+                word,
+                site,
+                held,
+                explained,
+            } => Some(Race {
+                line: *line,
+                thread: *thread,
+                deed: Deed::Access(*kind, *word),
+                site: *site,
+                held: held.as_slice(),
+                explained,
+            }),
+            Line::Reused {
+                line,
+                thread,
+                range,
+                site,
+                held,
+                explained,
+            } => Some(Race {
+                line: *line,
+                thread: *thread,
+                deed: Deed::Reuse(*range),
+                site: *site,
+                held: held.as_slice(),
+                explained,
+            }),
+            Line::Refused { .. } | Line::Shown { .. } => None,
+        }
+    }
+}
+
+/// What a thread did that was answered with a race.
+#[derive(Clone, Copy, Debug, PartialEq, Eq, Drop)]
+pub enum Deed {
+    /// It read or wrote this word.
+    Access(Kind, Word),
+    /// It gave back these words.
+    Reuse(PageRange),
+}
+
+/// A race, of an access or of a reuse, as a line tells it.
+#[derive(Debug, Drop)]
+pub struct Race<'a> {
+    /// The line of the text, from 1.
+    pub line: u64,
+    /// Whose race it is.
+    pub thread: ThreadId,
+    /// What the thread did.
+    pub deed: Deed,
+    /// Where in the program it stands.
+    pub site: Site,
+    /// The locks that the thread held then, in any mode.
+    pub held: &'a [LockId],
+    /// The accesses that make it a race. Empty in a report without explanations.
+    pub explained: &'a [Because],
+}
+
+impl<'a> Model for Race<'a> {
+    ghost use Rattle.er_report.specs.Lines.{RaceView};
+
+    ghost Value = { RaceView };
+
+    ghost view = { λ r. record { line = r.line; thread = r.thread; deed = r.deed; site = r.site; held = r.held.now; explained = r.explained.now } };
 }
 
 /// An earlier access, or the race's own, and what it has to do with the race.

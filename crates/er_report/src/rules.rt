@@ -1,4 +1,4 @@
-//! Which rule takes a race.
+//! Which rule takes a race, by the name of its site.
 ghost use Rattle.std.specs.Prelude.{◌≡◌, ◌<◌, ◌≤◌, length, option_copied, IfSome};
 ghost use Rattle.er_journal.specs.AnswerList.{shown};
 ghost use Rattle.er_report.specs.Names.{HasSiteName};
@@ -34,8 +34,8 @@ pub(crate) fn first_rule(
     }
 }
 
-// The name of a site, unless it is the missing one.
-fn name_of(names: &Names, site: Site) -> Option<&str>
+/// The name of a site, unless it is the missing one.
+pub fn name_of(names: &Names, site: Site) -> Option<&str>
     requires { site ≤ length names.now.sites }
     ensures { option_copied result ≡ site_name names.now site }
 {

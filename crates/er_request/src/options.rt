@@ -17,27 +17,26 @@ const ANALYSES: [&str; 3] = ["lockset", "happens-before", "both"];
 
 const FORMS: [&str; 4] = ["text", "json", "sarif", "html"];
 
-// How a row is given.
+// How a row is given. What takes a value has what `--help` calls the value, and what the value has to be.
 #[derive(Clone, Copy)]
 enum Shape {
     // An option without a value.
     Flag,
-    // An option with a value, and the value that it has if it isn't given.
-    Value(Option<&'static str>),
+    // An option with a value.
+    Value(&'static str, ValueParser<'static>),
+    // An option with a value, and the one that it has if it isn't given.
+    Default(&'static str, ValueParser<'static>, &'static str),
     // An option with a value that may be given several times.
-    Values,
+    Values(&'static str, ValueParser<'static>),
     // A value that must be given, without an option's name before it.
-    Word,
+    Word(&'static str, ValueParser<'static>),
 }
 
-// An option, or a word that must be given: its name, what `--help` calls its value if it has one, what the value has to be, and the option that
-// it can't be used with.
+// An option, or a word that must be given, and the option that it can't be used with.
 #[derive(Clone, Copy)]
 struct Row {
     name: &'static str,
-    value: &'static str,
     shape: Shape,
-    takes: ValueParser<'static>,
     without: Option<&'static str>,
     help: &'static str,
 }
@@ -45,49 +44,41 @@ struct Row {
 // `--help` lists the rows of a command in their order.
 #[rattlefmt::skip]
 const REPLAY: [Row; 17] = [
-    Row { name: "analysis", value: "ANALYSIS", shape: Shape::Value(Some("lockset")), takes: ValueParser::Names(&ANALYSES), without: None,
+    Row { name: "analysis", shape: Shape::Default("ANALYSIS", ValueParser::Names(&ANALYSES), "lockset"), without: None,
           help: "Report accesses that no lock protects, accesses and reuses that were not ordered in this run, or both" },
-    Row { name: "suppress", value: "FILE", shape: Shape::Values, takes: ValueParser::String, without: None,
-          help: "Count the races that this file's rules take, and leave their lines out" },
-    Row { name: "write-rules", value: "FILE", shape: Shape::Value(None), takes: ValueParser::String, without: None,
-          help: "Write rules to this file that take each race of the report" },
-    Row { name: "unused-rules", value: "", shape: Shape::Flag, takes: ValueParser::Bool, without: None, help: "Name each rule that took no race, on standard error" },
-    Row { name: "max-races", value: "COUNT", shape: Shape::Value(None), takes: ValueParser::Unsigned(0, u64::MAX), without: Some("by-site"),
+    Row { name: "suppress", shape: Shape::Values("FILE", ValueParser::String), without: None, help: "Count the races that this file's rules take, and leave their lines out" },
+    Row { name: "write-rules", shape: Shape::Value("FILE", ValueParser::String), without: None, help: "Write rules to this file that take each race of the report" },
+    Row { name: "unused-rules", shape: Shape::Flag, without: None, help: "Name each rule that took no race, on standard error" },
+    Row { name: "max-races", shape: Shape::Value("COUNT", ValueParser::Unsigned(0, u64::MAX)), without: Some("by-site"),
           help: "Write the lines of the first races alone, and how many were left out" },
-    Row { name: "explain", value: "", shape: Shape::Flag, takes: ValueParser::Bool, without: None, help: "Name the accesses that make each race" },
-    Row { name: "by-site", value: "", shape: Shape::Flag, takes: ValueParser::Bool, without: None, help: "Write a table of the sites with races, most words first, and explain a race of each" },
-    Row { name: "format", value: "FORM", shape: Shape::Value(Some("text")), takes: ValueParser::Names(&FORMS), without: Some("by-site"),
+    Row { name: "explain", shape: Shape::Flag, without: None, help: "Name the accesses that make each race" },
+    Row { name: "by-site", shape: Shape::Flag, without: None, help: "Write a table of the sites with races, most words first, and explain a race of each" },
+    Row { name: "format", shape: Shape::Default("FORM", ValueParser::Names(&FORMS), "text"), without: Some("by-site"),
           help: "How the report is written: as text for scripts, as JSON for programs, as SARIF for code hosts, or as one page of HTML for people" },
-    Row { name: "source", value: "DIR", shape: Shape::Value(None), takes: ValueParser::String, without: None,
-          help: "With --format html, show the lines around each site, from the files below this folder" },
-    Row { name: "strict", value: "", shape: Shape::Flag, takes: ValueParser::Bool, without: None, help: "End with 2 if the trace is damaged, and write no report" },
-    Row { name: "until-fault", value: "", shape: Shape::Flag, takes: ValueParser::Bool, without: None, help: "Report the steps before the first faulty line of the trace, and then its fault" },
-    Row { name: "progress", value: "", shape: Shape::Flag, takes: ValueParser::Bool, without: None, help: "Show on standard error, about twice a second, how far the replay has come" },
-    Row { name: "hints", value: "", shape: Shape::Flag, takes: ValueParser::Bool, without: None, help: "Write on standard error, as on a terminal, what helps people behind the line of a fault" },
-    Row { name: "workers", value: "N", shape: Shape::Value(Some("1")), takes: ValueParser::Signed(1, MOST_WORKERS as i64), without: None,
-          help: "How many threads replay the trace, 1 to 16" },
-    Row { name: "shards", value: "N", shape: Shape::Value(Some("8")), takes: ValueParser::Signed(1, MOST_SHARDS as i64), without: None,
-          help: "Into how many parts several workers cut the words, 1 to 64" },
+    Row { name: "source", shape: Shape::Value("DIR", ValueParser::String), without: None, help: "With --format html, show the lines around each site, from the files below this folder" },
+    Row { name: "strict", shape: Shape::Flag, without: None, help: "End with 2 if the trace is damaged, and write no report" },
+    Row { name: "until-fault", shape: Shape::Flag, without: None, help: "Report the steps before the first faulty line of the trace, and then its fault" },
+    Row { name: "progress", shape: Shape::Flag, without: None, help: "Show on standard error, about twice a second, how far the replay has come" },
+    Row { name: "hints", shape: Shape::Flag, without: None, help: "Write on standard error, as on a terminal, what helps people behind the line of a fault" },
+    Row { name: "workers", shape: Shape::Default("N", ValueParser::Signed(1, MOST_WORKERS as i64), "1"), without: None, help: "How many threads replay the trace, 1 to 16" },
+    Row { name: "shards", shape: Shape::Default("N", ValueParser::Signed(1, MOST_SHARDS as i64), "8"), without: None, help: "Into how many parts several workers cut the words, 1 to 64" },
     BYTE_LIMIT,
-    Row { name: "trace", value: "TRACE", shape: Shape::Word, takes: ValueParser::String, without: None, help: "The trace to replay, or - for standard input" },
+    Row { name: "trace", shape: Shape::Word("TRACE", ValueParser::String), without: None, help: "The trace to replay, or - for standard input" },
 ];
 
 #[rattlefmt::skip]
 const EXPLAIN: [Row; 3] = [
     BYTE_LIMIT,
-    Row { name: "line", value: "LINE", shape: Shape::Word, takes: ValueParser::Unsigned(0, u64::MAX), without: None, help: "The line of the trace that the step stands on, from 1" },
-    Row { name: "trace", value: "TRACE", shape: Shape::Word, takes: ValueParser::String, without: None, help: "The trace, or - for standard input" },
+    Row { name: "line", shape: Shape::Word("LINE", ValueParser::Unsigned(0, u64::MAX)), without: None, help: "The line of the trace that the step stands on, from 1" },
+    Row { name: "trace", shape: Shape::Word("TRACE", ValueParser::String), without: None, help: "The trace, or - for standard input" },
 ];
 
 #[rattlefmt::skip]
-const DEMO: [Row; 1] = [
-    Row { name: "name", value: "NAME", shape: Shape::Word, takes: ValueParser::Names(&DEMOS), without: None, help: "What the threads do" },
-];
+const DEMO: [Row; 1] = [Row { name: "name", shape: Shape::Word("NAME", ValueParser::Names(&DEMOS)), without: None, help: "What the threads do" }];
 
 #[rattlefmt::skip]
-const BYTE_LIMIT: Row =
-    Row { name: "byte-limit", value: "BYTES", shape: Shape::Value(Some("268435456")), takes: ValueParser::Unsigned(1, MOST_BYTES), without: None,
-          help: "The most bytes that a text may have, 1 to 4611686018427387904" };
+const BYTE_LIMIT: Row = Row { name: "byte-limit", shape: Shape::Default("BYTES", ValueParser::Unsigned(1, MOST_BYTES), "268435456"), without: None,
+                              help: "The most bytes that a text may have, 1 to 4611686018427387904" };
 
 const AFTER_EXPLAIN: &str = "\
 Example:
@@ -146,7 +137,10 @@ static PARTS: [Part; 3] = [
 
 /// The command line of the program.
 pub(crate) fn eraser_command<'a>(alloc: Global) -> Result<Command<'a>, AllocError> {
-    let parts = parts_of(alloc)?;
+    let mut parts = Vec::new(alloc);
+    for part in PARTS.as_slice() {
+        parts.push(part_of(alloc, *part)?)?;
+    }
     Command::new(alloc, "eraser")
         .version("0.1.0")
         .about("Finds data races by the locks that are held at each access")
@@ -156,16 +150,11 @@ pub(crate) fn eraser_command<'a>(alloc: Global) -> Result<Command<'a>, AllocErro
         .subcommands(parts)
 }
 
-fn parts_of<'a>(alloc: Global) -> Result<Vec<Command<'a>>, AllocError> {
-    let mut parts = Vec::new(alloc);
-    for part in PARTS.as_slice() {
-        parts.push(part_of(alloc, *part)?)?;
-    }
-    Ok(parts)
-}
-
 fn part_of<'a>(alloc: Global, part: Part) -> Result<Command<'a>, AllocError> {
-    let arguments = arguments_of(alloc, part.rows)?;
+    let mut arguments = Vec::new(alloc);
+    for row in part.rows {
+        arguments.push(argument_of(alloc, *row)?)?;
+    }
     let command = Command::new(alloc, part.name).about(part.about);
     match part.after {
         Some(text) => command.after_help(text).args(arguments),
@@ -173,25 +162,18 @@ fn part_of<'a>(alloc: Global, part: Part) -> Result<Command<'a>, AllocError> {
     }
 }
 
-// The arguments of these rows.
-fn arguments_of<'a>(alloc: Global, rows: &[Row]) -> Result<Vec<Arg<'a>>, AllocError> {
-    let mut arguments = Vec::new(alloc);
-    for row in rows {
-        arguments.push(argument_of(alloc, *row)?)?;
-    }
-    Ok(arguments)
-}
-
 fn argument_of<'a>(alloc: Global, row: Row) -> Result<Arg<'a>, AllocError> {
     let named = Arg::new(alloc, row.name).help(row.help);
     let argument = match row.shape {
         Shape::Flag => named.long(row.name).action(ArgAction::SetTrue),
-        Shape::Value(None) => with_value(named, row).long(row.name),
-        Shape::Value(Some(value)) => with_value(named, row).long(row.name).default_value(value),
-        Shape::Values => with_value(named, row)
+        Shape::Value(value, takes) => with_value(named, value, takes).long(row.name),
+        Shape::Default(value, takes, default) => with_value(named, value, takes)
+            .long(row.name)
+            .default_value(default),
+        Shape::Values(value, takes) => with_value(named, value, takes)
             .long(row.name)
             .action(ArgAction::Append),
-        Shape::Word => with_value(named, row).required(true),
+        Shape::Word(value, takes) => with_value(named, value, takes).required(true),
     };
     match row.without {
         Some(other) => argument.conflicts_with(other),
@@ -199,6 +181,6 @@ fn argument_of<'a>(alloc: Global, row: Row) -> Result<Arg<'a>, AllocError> {
     }
 }
 
-fn with_value<'a>(argument: Arg<'a>, row: Row) -> Arg<'a> {
-    argument.value_name(row.value).value_parser(row.takes)
+fn with_value<'a>(argument: Arg<'a>, value: &'a str, takes: ValueParser<'a>) -> Arg<'a> {
+    argument.value_name(value).value_parser(takes)
 }

@@ -6,17 +6,16 @@ use clap::{ArgMatches, Command, Error};
 use er_report::{Analysis, Form};
 use std::alloc::{AllocError, Global};
 
+/// The request, or the parser's error.
+type Read<'a> = Result<Request<'a>, Error>;
+
 /// Reads a command line, of which the first word is the program's name.
-pub(crate) fn read_by_parser<'a>(alloc: Global, words: &'a [String]) -> Result<Request<'a>, Error> {
+pub(crate) fn read_by_parser<'a>(alloc: Global, words: &'a [String]) -> Read<'a> {
     let mut command = eraser_command(alloc)?;
     request_by(alloc, &mut command, words)
 }
 
-fn request_by<'a>(
-    alloc: Global,
-    command: &mut Command<'a>,
-    words: &'a [String],
-) -> Result<Request<'a>, Error> {
+fn request_by<'a>(alloc: Global, command: &mut Command<'a>, words: &'a [String]) -> Read<'a> {
     let matches = command.try_get_matches_from_mut(words)?;
     let found = request_of(alloc, &matches);
     drop(matches);
@@ -46,11 +45,8 @@ fn conflict_of(request: &Request<'_>) -> Option<&'static str> {
 }
 
 // None if a value is missing that the parser requires or gives.
-fn request_of<'a>(
-    alloc: Global,
-    matches: &ArgMatches<'a>,
-) -> Result<Option<Request<'a>>, AllocError> {
-    Ok(match matches.subcommand() {
+fn request_of<'a>(alloc: Global, all: &ArgMatches<'a>) -> Result<Option<Request<'a>>, AllocError> {
+    Ok(match all.subcommand() {
         Some(("replay", found)) => {
             let suppressions = found.get_strs("suppress").unwrap_or(&[]);
             replay_of(found, suppressions.to_vec(alloc)?)

@@ -90,10 +90,8 @@ module _ (asked : Asked) (r : Recording) (ran : Ran) (run : HasRunFor ran asked 
 -- happens-before has stopped at a step of the text
 pub order-fault : (analysis : Analysis) (told : Option (List ℕ)) (limit : ℕ) (r : Recording) (why : NoTick) → asks_order analysis ≡ true → IfSome told (λ text. IsTrace text limit r)
     → IsStopIn r.steps why → IsFaultOfText analysis told limit (fault_of_stop why)
-order-fault analysis None limit r order.CountFull orders trace is = (orders, tt)
-order-fault analysis None limit r order.ThreadsFull orders trace is = (orders, tt)
-order-fault analysis (Some text) limit r order.CountFull orders trace is = (orders, record { recording = r; trace = trace; full = is })
-order-fault analysis (Some text) limit r order.ThreadsFull orders trace is = (orders, record { recording = r; trace = trace; full = is })
+order-fault analysis None limit r (order.Beyond beyond) orders trace is = (orders, tt)
+order-fault analysis (Some text) limit r (order.Beyond beyond) orders trace is = (orders, record { recording = r; trace = trace; full = is })
 order-fault analysis told limit r order.OutOfMemory orders trace is = tt
 
 -- what looks for damage stands for the text too

@@ -16,7 +16,7 @@ use Rattle.er_run.specs.Inner.Written.{WritesFound}
 use Rattle.er_run.specs.Replays.{IsBegun, IsFailed, IsReplayed, WritesNothing, is_stopped, verdict_of}
 use Rattle.er_run.specs.Reports.{AreReportsOfText, IsReportOfRun, has_races, is_verdict_of, report_with, stop_in, verdict_by}
 use Rattle.er_run.specs.declared.fault.RunFault.{RunFault}
-use Rattle.er_run.specs.declared.fault.RunFault.TheVariants.{Read, Write, Replay, CountFull, ThreadsFull, Memory, Damaged}
+use Rattle.er_run.specs.declared.fault.RunFault.TheVariants.{Read, Write, Replay, Beyond, Memory, Damaged}
 use Rattle.er_text.specs.Ending.{lost_told}
 use Rattle.er_text.specs.Trace.{IsTrace}
 use Rattle.er_lines.specs.declared.faults.ReadFault.TheVariants as reading
@@ -90,8 +90,7 @@ module _ (told : Option (List ℕ)) (limit : ℕ) (rules : List Target) (explain
   part (Ok verdict) written = tt
   part (Err (Read fault)) written = absurd (unwritten-text reports.lockset one written)
   part (Err (Replay fault)) written = absurd (unwritten-text reports.lockset one written)
-  part (Err CountFull) written = absurd (unwritten-text reports.lockset one written)
-  part (Err ThreadsFull) written = absurd (unwritten-text reports.lockset one written)
+  part (Err (Beyond beyond)) written = absurd (unwritten-text reports.lockset one written)
   part (Err Memory) written = absurd (unwritten-text reports.lockset one written)
   part (Err (Damaged damage)) written = absurd (unwritten-text reports.lockset one written)
   part (Err (Write writing.Memory)) written = tt
@@ -102,8 +101,7 @@ nothing-by : (old new : Option (List ℕ)) (text : List ℕ) (result : Result Ve
 nothing-by old new text (Ok verdict) written = tt
 nothing-by old new text (Err (Read fault)) written = absurd written
 nothing-by old new text (Err (Replay fault)) written = absurd written
-nothing-by old new text (Err CountFull) written = absurd written
-nothing-by old new text (Err ThreadsFull) written = absurd written
+nothing-by old new text (Err (Beyond beyond)) written = absurd written
 nothing-by old new text (Err Memory) written = absurd written
 nothing-by old new text (Err (Damaged damage)) written = absurd written
 nothing-by old new text (Err (Write writing.Memory)) written = written
@@ -120,8 +118,7 @@ pub unwritten : (told : Option (List ℕ)) (limit : ℕ) (rules : List Target) (
 unwritten told limit rules explain old new (Read fault) is = is
 unwritten told limit rules explain old new (Write fault) is = absurd is
 unwritten told limit rules explain old new (Replay fault) is = is
-unwritten told limit rules explain old new CountFull is = is
-unwritten told limit rules explain old new ThreadsFull is = is
+unwritten told limit rules explain old new (Beyond beyond) is = is
 unwritten told limit rules explain old new Memory is = is
 unwritten told limit rules explain old new (Damaged damage) is = is
 
@@ -133,8 +130,7 @@ pub untouched : (told old : Option (List ℕ)) (limit : ℕ) (why : RunFault) �
 untouched told old limit (Read fault) is = keeps old
 untouched told old limit (Write fault) is = absurd is
 untouched told old limit (Replay fault) is = keeps old
-untouched told old limit CountFull is = keeps old
-untouched told old limit ThreadsFull is = keeps old
+untouched told old limit (Beyond beyond) is = keeps old
 untouched told old limit Memory is = keeps old
 untouched told old limit (Damaged damage) is = keeps old
 
@@ -146,8 +142,7 @@ fails-again X Y read written (Read reading.Read) by = by
 fails-again X Y read written (Write writing.Memory) by = by
 fails-again X Y read written (Write writing.Write) by = by
 fails-again X Y read written (Replay fault) by = by
-fails-again X Y read written CountFull by = by
-fails-again X Y read written ThreadsFull by = by
+fails-again X Y read written (Beyond beyond) by = by
 fails-again X Y read written Memory by = by
 fails-again X Y read written (Damaged damage) by = by
 

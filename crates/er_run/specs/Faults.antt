@@ -3,7 +3,9 @@ use Rattle.std.specs.Prelude.{◌≡◌, ℕ, Bool, true, false, IsTrue, List, c
 use Rattle.er_clock.specs.declared.clock.NoTick.{NoTick}
 use Rattle.er_clock.specs.declared.clock.NoTick.TheVariants as order
 use Rattle.er_batch.specs.Runs.{IsRunOf}
-use Rattle.er_clock.specs.Crowding.{CrowdsIn}
+use Rattle.er_clock.specs.Crowding.{BeyondIn}
+use Rattle.er_clock.specs.NoTick.{limit_text}
+use Rattle.er_clock.specs.declared.clock.Limit.{Limit}
 use Rattle.er_damage.specs.Damaged.{IsDamageOf, has_damage}
 use Rattle.er_damage.specs.declared.damage.Damage.{Damage}
 use Rattle.er_event.specs.declared.refusals.NoRoom.{NoRoom}
@@ -17,19 +19,17 @@ use Rattle.er_report.specs.Reports.{asks_order}
 use Rattle.er_report.specs.declared.reports.Analysis.{Analysis}
 use Rattle.er_report.specs.declared.reports.Analysis.TheVariants.{Lockset, HappensBefore, Both}
 use Rattle.er_run.specs.declared.fault.RunFault.{RunFault}
-use Rattle.er_run.specs.declared.fault.RunFault.TheVariants.{Read, Write, Replay, CountFull, ThreadsFull, Memory, Damaged}
+use Rattle.er_run.specs.declared.fault.RunFault.TheVariants.{Read, Write, Replay, Beyond, Memory, Damaged}
 use Rattle.er_text.specs.Trace.{IsTrace, IsFault}
 use Rattle.er_lines.specs.declared.faults.ReadFault.TheVariants as reading
 use Rattle.er_trace.specs.Trace.{Recording}
-use Rattle.er_unordered.specs.Stops.{OverflowsIn}
 
 -- a fault in words
 abbrev pub text_of : RunFault → List ℕ
 text_of (Read fault) = codes "the trace was not read"
 text_of (Write fault) = codes "the report was not written"
 text_of (Replay fault) = codes "the trace was not replayed"
-text_of CountFull = codes "count full"
-text_of ThreadsFull = codes "too many threads"
+text_of (Beyond limit) = limit_text limit
 text_of Memory = codes "out of memory"
 text_of (Damaged damage) = codes "the trace is damaged"
 
@@ -48,8 +48,7 @@ fault_of_room room.OutOfMemory = Memory
 
 -- what a stop of happens-before comes to
 abbrev pub fault_of_stop : NoTick → RunFault
-fault_of_stop order.CountFull = CountFull
-fault_of_stop order.ThreadsFull = ThreadsFull
+fault_of_stop (order.Beyond limit) = Beyond limit
 fault_of_stop order.OutOfMemory = Memory
 
 -- the text is a trace, and some step of it asks the table for a set of locks
@@ -65,17 +64,11 @@ pub record StopsFor (text : List ℕ) (limit : ℕ) (room : NoRoom) : Type 0 whe
   pub run : IsRunOf text limit recording (Some stop)
   pub cause : stop.cause ≡ room
 
--- the text is a trace, and at one of its steps a count that would rise is the greatest
-pub record Overflows (text : List ℕ) (limit : ℕ) : Type 0 where
+-- the text is a trace, and one of its steps may be beyond this limit of the clocks
+pub record HasStepBeyond (beyond : Limit) (text : List ℕ) (limit : ℕ) : Type 0 where
   pub recording : Recording
   pub trace : IsTrace text limit recording
-  pub full : OverflowsIn recording.steps
-
--- the text is a trace, and one of its steps orders a thread that clocks have no room for
-pub record Crowds (text : List ℕ) (limit : ℕ) : Type 0 where
-  pub recording : Recording
-  pub trace : IsTrace text limit recording
-  pub full : CrowdsIn recording.steps
+  pub full : BeyondIn beyond recording.steps
 
 -- the table is full: for workers if a step asks it for a set, and beside another report if a step may want a set that it has no room for
 abbrev pub MayFill : Analysis → Option (List ℕ) → ℕ → Type 0
@@ -100,16 +93,15 @@ IsReplayFault analysis told limit replaying.WorkerLost = ⊥
 abbrev pub IsFoundDamage : Option (List ℕ) → ℕ → Damage → Type 0
 IsFoundDamage told limit damage = IfSome told (λ text. IsDamageOf text limit damage) × (has_damage damage ≡ true)
 
--- nothing was written yet: a fault of the text is its first, a full table and a worker that isn't started are as above, a count is full only by
--- happens-before and at a step of the text, so are threads too many, and damage is that of the text
+-- nothing was written yet: a fault of the text is its first, a full table and a worker that isn't started are as above, a limit of clocks is
+-- one of happens-before at a step of the text, and damage is that of the text
 abbrev pub IsFaultOfText : Analysis → Option (List ℕ) → ℕ → RunFault → Type 0
 IsFaultOfText analysis told limit (Read (reading.Text fault)) = IfSome told (λ text. IsFault text limit fault)
 IsFaultOfText analysis told limit (Read reading.Memory) = Unit {0}
 IsFaultOfText analysis told limit (Read reading.Read) = Unit {0}
 IsFaultOfText analysis told limit (Write fault) = ⊥
 IsFaultOfText analysis told limit (Replay fault) = IsReplayFault analysis told limit fault
-IsFaultOfText analysis told limit CountFull = IsTrue (asks_order analysis) × IfSome told (λ text. Overflows text limit)
-IsFaultOfText analysis told limit ThreadsFull = IsTrue (asks_order analysis) × IfSome told (λ text. Crowds text limit)
+IsFaultOfText analysis told limit (Beyond beyond) = IsTrue (asks_order analysis) × IfSome told (λ text. HasStepBeyond beyond text limit)
 IsFaultOfText analysis told limit Memory = Unit {0}
 IsFaultOfText analysis told limit (Damaged damage) = IsFoundDamage told limit damage
 
@@ -122,8 +114,7 @@ FailsBy read written (Err (Read reading.Read)) = (read ≡ true) × (written ≡
 FailsBy read written (Err (Write writing.Memory)) = (read ≡ false) × (written ≡ false)
 FailsBy read written (Err (Write writing.Write)) = (read ≡ false) × (written ≡ true)
 FailsBy read written (Err (Replay fault)) = (read ≡ false) × (written ≡ false)
-FailsBy read written (Err CountFull) = (read ≡ false) × (written ≡ false)
-FailsBy read written (Err ThreadsFull) = (read ≡ false) × (written ≡ false)
+FailsBy read written (Err (Beyond limit)) = (read ≡ false) × (written ≡ false)
 FailsBy read written (Err Memory) = (read ≡ false) × (written ≡ false)
 FailsBy read written (Err (Damaged damage)) = (read ≡ false) × (written ≡ false)
 
@@ -133,8 +124,7 @@ IsNoDamage (Damaged damage) = ⊥
 IsNoDamage (Read fault) = Unit {0}
 IsNoDamage (Write fault) = Unit {0}
 IsNoDamage (Replay fault) = Unit {0}
-IsNoDamage CountFull = Unit {0}
-IsNoDamage ThreadsFull = Unit {0}
+IsNoDamage (Beyond limit) = Unit {0}
 IsNoDamage Memory = Unit {0}
 
 -- the fault is one of reading: the text wasn't read, it is damaged, or memory was refused
@@ -144,5 +134,4 @@ IsOfReading (Damaged damage) = Unit {0}
 IsOfReading Memory = Unit {0}
 IsOfReading (Write fault) = ⊥
 IsOfReading (Replay fault) = ⊥
-IsOfReading CountFull = ⊥
-IsOfReading ThreadsFull = ⊥
+IsOfReading (Beyond limit) = ⊥

@@ -13,7 +13,7 @@ use Rattle.er_rules.specs.Rules.{Target}
 use Rattle.er_run.specs.Faults.{IsFaultOfText}
 use Rattle.er_run.specs.Reports.{report_with}
 use Rattle.er_run.specs.declared.fault.RunFault.{RunFault}
-use Rattle.er_run.specs.declared.fault.RunFault.TheVariants.{Read, Write, Replay, CountFull, ThreadsFull, Memory, Damaged}
+use Rattle.er_run.specs.declared.fault.RunFault.TheVariants.{Read, Write, Replay, Beyond, Memory, Damaged}
 use Rattle.er_text.specs.Ending.{lost_told}
 use Rattle.er_trace.specs.Trace.{Recording}
 
@@ -49,8 +49,7 @@ IsFailed told limit rules explain old new (Err (Write writing.Memory)) = Unit {0
 IsFailed told limit rules explain old new (Err (Write writing.Write)) = IfSome told (λ text. IsBegun text limit rules explain old new)
 IsFailed told limit rules explain old new (Err (Read fault)) = IsFaultOfText Lockset told limit (Read fault)
 IsFailed told limit rules explain old new (Err (Replay fault)) = IsFaultOfText Lockset told limit (Replay fault)
-IsFailed told limit rules explain old new (Err CountFull) = IsFaultOfText Lockset told limit CountFull
-IsFailed told limit rules explain old new (Err ThreadsFull) = IsFaultOfText Lockset told limit ThreadsFull
+IsFailed told limit rules explain old new (Err (Beyond beyond)) = IsFaultOfText Lockset told limit (Beyond beyond)
 IsFailed told limit rules explain old new (Err Memory) = IsFaultOfText Lockset told limit Memory
 IsFailed told limit rules explain old new (Err (Damaged damage)) = IsFaultOfText Lockset told limit (Damaged damage)
 
@@ -60,8 +59,7 @@ WritesNothing old new (Read fault) = Keeps old new
 WritesNothing old new (Write writing.Memory) = Keeps old new
 WritesNothing old new (Write writing.Write) = Unit {0}
 WritesNothing old new (Replay fault) = Keeps old new
-WritesNothing old new CountFull = Keeps old new
-WritesNothing old new ThreadsFull = Keeps old new
+WritesNothing old new (Beyond limit) = Keeps old new
 WritesNothing old new Memory = Keeps old new
 WritesNothing old new (Damaged damage) = Keeps old new
 

@@ -3,7 +3,7 @@ ghost use Rattle.std.specs.Prelude.{◌≡◌, Some};
 ghost use Rattle.er_run.specs.Faults.{text_of, fault_of, fault_of_room, fault_of_stop};
 ghost use Rattle.er_run.specs.declared.fault.RunFault.TheVariants.{Read, Write, Memory};
 
-use er_clock::NoTick;
+use er_clock::{Limit, NoTick};
 use er_damage::Damage;
 use er_event::NoRoom;
 use er_parallel::ReplayFault;
@@ -22,10 +22,8 @@ pub enum RunFault {
     Write(WriteFault),
     /// The table of locksets is full, for several workers or beside a report by happens-before, or a worker couldn't be started.
     Replay(ReplayFault),
-    /// By happens-before: a thread releases, starts, signals and is joined 2^32 - 1 times or more.
-    CountFull,
-    /// By happens-before: a step orders a thread whose number is 65,536 or more.
-    ThreadsFull,
+    /// By happens-before: a step is beyond a limit of the clocks.
+    Beyond(Limit),
     /// Memory was refused between the two.
     Memory,
     /// The trace is damaged, and the replay is strict.
@@ -40,8 +38,7 @@ impl fmt::Display for RunFault {
             RunFault::Read(_) => "the trace was not read",
             RunFault::Write(_) => "the report was not written",
             RunFault::Replay(_) => "the trace was not replayed",
-            RunFault::CountFull => "count full",
-            RunFault::ThreadsFull => "too many threads",
+            RunFault::Beyond(limit) => limit.text(),
             RunFault::Memory => "out of memory",
             RunFault::Damaged(_) => "the trace is damaged",
         })
@@ -95,8 +92,7 @@ impl From<NoTick> for RunFault {
 
     fn from(cause: NoTick) -> RunFault {
         match cause {
-            NoTick::CountFull => RunFault::CountFull,
-            NoTick::ThreadsFull => RunFault::ThreadsFull,
+            NoTick::Beyond(limit) => RunFault::Beyond(limit),
             NoTick::OutOfMemory => RunFault::Memory,
         }
     }

@@ -107,7 +107,7 @@ fn write_found<W: Write>(
 ///
 /// # Errors
 /// `Read`: the text has a fault, a read failed, or memory was refused to the reader or to a step. `Replay`: the table of locksets is full, or
-/// a worker couldn't be started. `CountFull`, `ThreadsFull`: happens-before has no room for a step. `Damaged`: the trace is, and the replay is
+/// a worker couldn't be started. `Beyond`: happens-before has no room for a step. `Damaged`: the trace is, and the replay is
 /// strict. `Memory`: memory was refused elsewhere. Never `Write`.
 pub fn replay_reports<R, D, V>(
     rt: &R,

@@ -1,5 +1,6 @@
 -- Why a fault of the entries or of the answers is the first, and that there is none.
-use Rattle.std.proofs.Common.{◌≡◌, ℕ, List, inl, inr, length}
+use Rattle.std.proofs.Common.{◌≡◌, ℕ, List, inl, inr, length, subst, sym}
+use Rattle.std.specs.Prelude.{Result, Ok, Err, IfErr, IsErrAnd}
 use Rattle.er_journal.specs.declared.entries.Entry.{Entry}
 use Rattle.er_settle.specs.Seats.{SeatList}
 use Rattle.er_settle.specs.declared.unsettled.Unsettled.{Unsettled}
@@ -53,3 +54,8 @@ pub disorder_first : (name opened : ℕ) (seats : List SeatList) (journals : Lis
     → AreComplete opened seats → IsDisorder journals fault → IsFirst name opened seats journals fault
 disorder_first name opened seats journals fault own once all (inl memory) = rw memory tt
 disorder_first name opened seats journals fault own once all (inr other) = rw other.0 (own, once, all, λ ordered. other.1 ordered.1)
+
+-- an error that is handed on
+pub handed_on : {T : Type 0} (r : Result T Unsettled) (fault : Unsettled) (P : Unsettled → Type 0) → IsErrAnd r (λ e. e ≡ fault) → P fault → IfErr r P
+handed_on (Ok v) fault P is met = tt
+handed_on (Err e) fault P is met = subst P (sym is) met

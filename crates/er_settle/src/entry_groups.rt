@@ -65,17 +65,13 @@ pub(crate) fn group_by_thread<'a>(
     ensures groups { IfOk result (λ groups. AreGrouped seats.now order.now groups.items) }
     ensures fault { IfErr result (IsUngiven seats.now order.now) }
 {
-    let Ok(mut groups) = empty_groups(alloc, seats) else {
-        return Err(Unsettled::Memory);
-    };
+    let mut groups = empty_groups(alloc, seats)?;
     for placed in order {
         let thread = placed.entry().thread.number();
         let Some(at) = index.get(&thread).copied() else {
             return Err(Unsettled::Entries);
         };
-        let Ok(()) = groups[at].add(placed.copy()) else {
-            return Err(Unsettled::Memory);
-        };
+        groups[at].add(placed.copy())?;
     }
     Ok(groups)
 }

@@ -80,12 +80,7 @@ pub(crate) fn all_in_place(shards: usize, order: &[PlacedEntry<'_>]) -> bool
     requires { 0 < shards }
     ensures { IsTrue result ↔ AllInPlace shards order.now }
 {
-    for placed in order {
-        if place_of(shards, &placed.entry().what) != placed.place() {
-            return false;
-        }
-    }
-    true
+    order.iter().all(|placed| place_of(shards, &placed.entry().what) == placed.place())
 }
 
 // The place of the shard that has the entry's words.

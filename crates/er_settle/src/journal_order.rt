@@ -63,9 +63,7 @@ pub(crate) fn merge_journals<'a>(
     ensures legal { IfOk result (λ order. AreLegalJournals journals.now) }
     ensures fault { IfErr result (IsDisorder journals.now) }
 {
-    let Ok(mut read) = zeros(alloc, journals.len()) else {
-        return Err(Unsettled::Memory);
-    };
+    let mut read = zeros(alloc, journals.len())?;
     let mut order = Vec::new(alloc);
     let mut last = None;
     while let Some(place) = next_journal(journals, read.as_slice()) {
@@ -124,9 +122,5 @@ pub(crate) fn zeros(alloc: Global, count: usize) -> Result<Vec<usize>, AllocErro
     ensures count { IfOk result (λ read. length read.items ≡ count) }
     ensures zeros { IfOk result (λ read. (k : ℕ) → slice_index read.items k ≡ 0) }
 {
-    let mut read = Vec::with_capacity(alloc, count)?;
-    for _ in 0..count {
-        read.push(0)?;
-    }
-    Ok(read)
+    vec![in alloc; 0; count]
 }

@@ -26,31 +26,15 @@ pub(crate) fn all_answered(
     ensures { IfOk result (λ alike. IsTrue alike ↔ AllAlike seats.now order.now) }
 {
     for (at, seat) in seats.iter().enumerate() {
-        if !is_answered(alloc, seat, groups[at].as_slice())? {
+        if !is_answered(&mut Held::new(alloc), seat, groups[at].as_slice())? {
             return Ok(false);
         }
     }
     Ok(true)
 }
 
-// Whether the seat's calls with tickets have the replies and the locks of these entries.
+// Whether the seat's calls with tickets have the replies and the locks of these entries, by what the seat holds at each call.
 fn is_answered(
-    alloc: Global,
-    seat: &SeatView<'_>,
-    group: &[PlacedEntry<'_>],
-) -> Result<bool, AllocError>
-    requires { ticketed_calls seat.now.calls ≡ ticketed_entries group.now }
-    ensures { IfOk result (λ alike. IsTrue alike ↔ AreAlike seat.now group.now) }
-{
-    let mut held = Held::new(alloc);
-    let answered = is_answered_from(&mut held, seat, group);
-    drop(held);
-    answered
-}
-
-// The same, by what the seat holds at each of its calls, which is nothing at the first.
-#[inline]
-fn is_answered_from(
     held: &mut Held,
     seat: &SeatView<'_>,
     group: &[PlacedEntry<'_>],

@@ -14,12 +14,7 @@ use std::collections::BTreeMap;
 pub(crate) fn are_of_detector(name: u64, seats: &[SeatView<'_>]) -> bool
     ensures { IsTrue result ↔ AreOfDetector name seats.now }
 {
-    for seat in seats {
-        if seat.name() != name {
-            return false;
-        }
-    }
-    true
+    seats.iter().all(|seat| seat.name() == name)
 }
 
 /// Where the seat of each thread stands. The fault is `SeatTwice`, if two seats have one thread.

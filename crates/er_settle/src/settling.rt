@@ -54,16 +54,9 @@ pub fn settle_lists(
     ensures states { IfOk result (λ run. (w : ℕ) → journal_state (journal_at journals.now (shard_of (length journals.now) w)) w ≡ state_end run.steps.items w) }
     ensures order { IfOk result (λ run. IsInTurn seats.now run.steps.items run.replies.items) }
 {
-    let lists = match check_all(alloc, name, opened, seats, journals) {
-        Ok(lists) => lists,
-        Err(fault) => return Err(fault),
-    };
-    let Ok(turns) = merge_calls(alloc, &lists.index, seats, lists.order.as_slice()) else {
-        return Err(Unsettled::Memory);
-    };
-    let Ok(run) = run_of(alloc, turns.as_slice()) else {
-        return Err(Unsettled::Memory);
-    };
+    let lists = check_all(alloc, name, opened, seats, journals)?;
+    let turns = merge_calls(alloc, &lists.index, seats, lists.order.as_slice())?;
+    let run = run_of(alloc, turns.as_slice())?;
     Ok(run)
 }
 

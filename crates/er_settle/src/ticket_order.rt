@@ -11,12 +11,7 @@ pub(crate) fn lists_rise(seats: &[SeatView<'_>]) -> bool
     ensures rise { IsTrue result ↔ ListsRise seats.now }
     ensures legal { IsTrue result → AreSeatLists seats.now }
 {
-    for seat in seats {
-        if !calls_rise(seat.calls()) {
-            return false;
-        }
-    }
-    true
+    seats.iter().all(|seat| calls_rise(seat.calls()))
 }
 
 // Whether the tickets of the calls that have one rise.

@@ -1,6 +1,9 @@
 //! Why seats and journals don't settle.
 ghost use Rattle.std.specs.Prelude.{◌≡◌};
 ghost use Rattle.er_settle.specs.Texts.{text_of};
+ghost use Rattle.er_settle.specs.declared.unsettled.Unsettled.TheVariants.{Memory};
+
+use std::alloc::AllocError;
 
 /// The first reason why there is no run.
 #[derive(Clone, Copy, Debug, PartialEq, Eq, Hash)]
@@ -35,5 +38,13 @@ impl Unsettled {
             Unsettled::Answer => "answer",
             Unsettled::Memory => "memory",
         }
+    }
+}
+
+impl From<AllocError> for Unsettled {
+    ghost from_gives = { λ _ fault. fault ≡ Memory };
+
+    fn from(_refused: AllocError) -> Unsettled {
+        Unsettled::Memory
     }
 }

@@ -1,6 +1,6 @@
 //! Every word's state.
 ghost use Rattle.std.specs.Prelude.{◌≡◌, ◌<◌, ◌%◌, ℕ, nat_eq, slice_get, Some, None, IsTrue, IsOk, IfOk, IfSome, IfNone, false, OnOk, OnErr, IsErrOf};
-ghost use Rattle.indexmap.specs.IndexMap.{get, keys, index_map_len, IsUnique};
+ghost use Rattle.indexmap.specs.IndexMap.{keys, index_map_len, IsUnique};
 ghost use Rattle.er_event.specs.declared.steps.WordState.TheVariants.{Virgin, Exclusive};
 ghost use Rattle.er_journal.specs.Journals.{stamped};
 ghost use Rattle.er_model.specs.Table.{advanced, moved, reports};
@@ -12,7 +12,7 @@ use crate::page::{Page, WORDS};
 use crate::refining::{is_settled, named, step};
 use er_event::{Kind, Lockset, NoRoom, PageRange, Reply, ThreadId, Word, WordState};
 use er_journal::Stamp;
-use er_keys::{HashKeys, NumberHasher};
+use er_keys::{HashKeys, NumberHasher, index_of};
 use er_owner::Shadow;
 use er_table::{Known, LocksetTable};
 use indexmap::IndexMap;
@@ -67,22 +67,9 @@ impl<'t> ShadowMap<'t> {
     ) -> Result<ShadowMap<'t>, AllocError>
         ensures { IfOk result (λ map. (w : ℕ) → states map w ≡ Virgin) }
     {
+        let places = Hints::new(alloc)?;
+        let covers = Hints::new(alloc)?;
         let known = Known::new(alloc, table)?;
-        let places = match Hints::new(alloc) {
-            Ok(places) => places,
-            Err(refused) => {
-                drop(known);
-                return Err(refused);
-            }
-        };
-        let covers = match Hints::new(alloc) {
-            Ok(covers) => covers,
-            Err(refused) => {
-                drop(known);
-                drop(places);
-                return Err(refused);
-            }
-        };
         let pages = IndexMap::with_hasher(alloc, NumberHasher::new(keys));
         Ok(ShadowMap {
             pages,
@@ -95,32 +82,9 @@ impl<'t> ShadowMap<'t> {
     }
 
     /// One counted access of a word, with the locks that cover it: those that the thread holds in any mode for a read, and those
-    /// that it holds in write mode for a write. Returns whether it is reported as a race. If it needs a set, the thread's locks go
-    /// into the table first, and then what they have in common with the candidates.
-    #[inline(always)]
-    pub fn access<R: Wait>(
-        &mut self,
-        rt: &R,
-        thread: ThreadId,
-        word: Word,
-        kind: Kind,
-        locks: &Lockset,
-    ) -> Result<Reply, NoRoom>
-        ensures ok { OnOk result ((w : ℕ) → states self.new w ≡ moved (states self.old w) w (Counted thread kind word locks.now)) }
-        ensures reply { IfOk result (λ reply. reply ≡ reply_if (reports (states self.old word) (advanced (states self.old word) thread kind locks.now))) }
-        ensures err { OnErr result ((w : ℕ) → states self.new w ≡ states self.old w) }
-
-        // The table isn't asked for a set while one thread alone has accessed the word, and that thread's accesses ask for nothing.
-        ensures full { IsErrOf result NoRoom.TableFull → IsTrue (needs_set (states self.old word) thread) }
-        ensures own { states self.old word ≡ Exclusive thread → IsOk result }
-        ensures refusals { ¬ IsErrOf result NoRoom.JournalFull }
-    {
-        let (reply, _) = self.access_noting(rt, thread, word, kind, locks)?;
-        Ok(reply)
-    }
-
-    /// One counted access, as `access` takes it. Returns also whether the access changed what stands for its word. If it did not, every
-    /// word has the state that it had.
+    /// that it holds in write mode for a write. Returns whether it is reported as a race, and whether the access changed what stands for its
+    /// word. If it did not, every word has the state that it had. If it needs a set, the thread's locks go into the table first, and then what
+    /// they have in common with the candidates.
     pub fn access_noting<R: Wait>(
         &mut self,
         rt: &R,
@@ -133,13 +97,15 @@ impl<'t> ShadowMap<'t> {
         ensures reply { IfOk result (λ answer. answer.0 ≡ reply_if (reports (states self.old word) (advanced (states self.old word) thread kind locks.now))) }
         ensures unchanged { IfOk result (λ answer. answer.1 ≡ false → (w : ℕ) → states self.new w ≡ states self.old w) }
         ensures err { OnErr result ((w : ℕ) → states self.new w ≡ states self.old w) }
+
+        // The table isn't asked for a set while one thread alone has accessed the word, and that thread's accesses ask for nothing.
         ensures full { IsErrOf result NoRoom.TableFull → IsTrue (needs_set (states self.old word) thread) }
         ensures own { states self.old word ≡ Exclusive thread → IsOk result }
         ensures refusals { ¬ IsErrOf result NoRoom.JournalFull }
     {
         let number = word.page();
         let place = place_of(word);
-        match index_of_page(&self.pages, self.places.hint(number), number) {
+        match index_of(&self.pages, self.places.hint(number), number) {
             Some(index) => {
                 self.places.note(number, index);
                 let page = &mut self.pages[index];
@@ -185,7 +151,7 @@ impl<'t> ShadowMap<'t> {
         }
     }
 
-    /// The access of a stamp, as `access` takes it.
+    /// The access of a stamp, as `access_noting` takes it. Returns whether it is reported as a race.
     pub fn apply<R: Wait>(&mut self, rt: &R, stamp: &Stamp) -> Result<Reply, NoRoom>
         ensures ok { OnOk result ((w : ℕ) → states self.new w ≡ moved (states self.old w) w (Counted stamp.now.thread stamp.now.kind stamp.now.word (stamped stamp.now stamp.now.kind))) }
         ensures reply { IfOk result (λ reply. reply ≡ reply_if (reports (states self.old stamp.now.word) (advanced (states self.old stamp.now.word) stamp.now.thread stamp.now.kind (stamped stamp.now stamp.now.kind)))) }
@@ -198,7 +164,8 @@ impl<'t> ShadowMap<'t> {
             Kind::Read => stamp.held(),
             Kind::Write => stamp.write_held(),
         };
-        self.access(rt, stamp.thread(), stamp.word(), stamp.kind(), locks)
+        let (reply, _) = self.access_noting(rt, stamp.thread(), stamp.word(), stamp.kind(), locks)?;
+        Ok(reply)
     }
 
     /// Reads what stands for some words that will be accessed soon, 16 at most. Nothing waits for what is read, so words of several pages come
@@ -212,7 +179,7 @@ impl<'t> ShadowMap<'t> {
         for i in 0..count {
             places[i] = self.find_page(words[i]);
         }
-        self.read_ahead(&places, words);
+        self.ahead ^= bits_of(&self.pages, &places, words);
     }
 
     // Where the page of a word stands, or some other place if it has none.
@@ -221,21 +188,13 @@ impl<'t> ShadowMap<'t> {
         ensures { self.new ≡ self.old }
     {
         let number = word.page();
-        match index_of_page(&self.pages, self.places.hint(number), number) {
+        match index_of(&self.pages, self.places.hint(number), number) {
             Some(index) => {
                 self.places.note(number, index);
                 index
             }
             None => 0,
         }
-    }
-
-    // Reads a word of each of these pages.
-    #[inline(always)]
-    fn read_ahead(&mut self, places: &[usize; MOST_AHEAD], words: &[Word])
-        ensures { self.new ≡ self.old }
-    {
-        self.ahead ^= bits_of(&self.pages, places, words);
     }
 
     /// Makes the words of a range virgin. It takes no memory.
@@ -285,24 +244,6 @@ fn bits_of(
         }
     }
     bits
-}
-
-// Where the page of this number stands. It looks at the page at `hint` first, and needs no hash if that is the one.
-#[inline]
-fn index_of_page(
-    pages: &IndexMap<u64, Page, NumberHasher>,
-    hint: usize,
-    number: u64,
-) -> Option<usize>
-    ensures key { IfSome result (λ index. slice_get (keys pages.now) index ≡ Some number) }
-    ensures within { IfSome result (λ index. index < index_map_len pages.now) }
-    ensures none { IfNone result (get nat_eq pages.now number ≡ None) }
-    ensures unique { IsUnique nat_eq pages.now }
-{
-    match pages.as_slice().get_index(hint) {
-        Some((key, _)) if *key == number => Some(hint),
-        _ => pages.get_index_of(&number),
-    }
 }
 
 // Where the page of this number stands, if it stands at `hint`.

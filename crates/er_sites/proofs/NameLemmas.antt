@@ -13,9 +13,9 @@ use Rattle.er_sites.specs.Table.{is_at, IsOwnCount}
 
 -- the site of a race has a name
 named_at : (names : NameTable) (s : ℕ) (line : Line) → HasNames names line → is_at s line ≡ true → s ≤ length names.sites
-named_at names s (Race number thread kind word site held explained) named here = subst (λ (n : ℕ). n ≤ length names.sites) (sym (eqb-true s site here)) named.1
+named_at names s (Race number thread kind word site held explained) named here = subst (λ (n : ℕ). n ≤ length names.sites) (sym (eqb-true s site here)) named.site
 named_at names s (Reused number thread range site held explained) named here =
-    subst (λ (n : ℕ). n ≤ length names.sites) (sym (eqb-true s site (and_parts (not (site == 0)) (s == site) here).1)) named.1
+    subst (λ (n : ℕ). n ≤ length names.sites) (sym (eqb-true s site (and_parts (not (site == 0)) (s == site) here).1)) named.site
 named_at names s (Refused number step refusal) named here = absurd (cc)
 named_at names s (Shown number word state) named here = absurd (cc)
 

@@ -12,17 +12,10 @@ use Rattle.er_sites.specs.Table.{IsTable, reads_at, reuses_at, writes_at}
 use Rattle.er_sites.specs.declared.row.SiteRow.{SiteRow}
 use Rattle.er_trace.specs.Names.{NameTable}
 
-take_next : (lines : List Line) (rows : List SiteRow) (k : ℕ) (row : SiteRow) → k < length rows → row ≡ get_or rows k row
+-- one more row
+pub take_next : (lines : List Line) (rows : List SiteRow) (k : ℕ) (row : SiteRow) → k < length rows → row ≡ get_or rows k row
     → flat_map (if_elsewhere lines) (take (k + 1) rows) ≡ flat_map (if_elsewhere lines) (take k rows) ++ if_elsewhere lines row
 take_next lines rows k row within is = rw (take_more rows k row within, ← is) (simp (flat_map-append, append-nil))
-
--- one more row
-pub others_next : (lines : List Line) (rows : List SiteRow) (k : ℕ) (row : SiteRow) (old before after : List SiteRow) → k < length rows → row ≡ get_or rows k row
-    → before ≡ old ++ flat_map (if_elsewhere lines) (take k rows) → after ≡ before ++ if_elsewhere lines row
-    → after ≡ old ++ flat_map (if_elsewhere lines) (take (k + 1) rows)
-others_next lines rows k row old before after within is was put =
-    put ∙ ap (λ (some : List SiteRow). some ++ if_elsewhere lines row) was ∙ append_assoc old (flat_map (if_elsewhere lines) (take k rows)) (if_elsewhere lines row)
-    ∙ ap (λ (some : List SiteRow). old ++ some) (sym (take_next lines rows k row within is))
 
 one_or_none : (P : SiteRow → Type 0) (row : SiteRow) (b : Bool) → P row → All P (cond b (row ∷ []) [])
 one_or_none P row true holds = All-cons P row [] holds (All-nil P)

@@ -6,7 +6,7 @@ use Rattle.er_places.specs.Places.{PlaceTable}
 use Rattle.er_print.specs.Printed.{end_text}
 use Rattle.er_print.specs.declared.lines.ReportKind.{ReportKind}
 use Rattle.er_print.specs.declared.lines.ReportKind.TheVariants.{Lockset, Unordered}
-use Rattle.er_report.specs.Lines.{line_view}
+use Rattle.er_report.specs.Lines.{line_view, race_of}
 use Rattle.er_report.specs.Report.{told}
 use Rattle.er_report.specs.declared.report.Line.{Line}
 use Rattle.er_report.specs.declared.report.Report.{Report}
@@ -39,7 +39,7 @@ nothing_in lines = cond (list_any is_reused lines) (10 ∷ []) (codes ": none\n\
 
 -- the reuses that are unordered with an access, one after another
 abbrev pub reuses_text : NameTable → PlaceTable → List Line → List ℕ
-reuses_text names table lines = flat_map (λ (line : Line). reuse_story names table (line_view line)) lines
+reuses_text names table lines = flat_map (λ (line : Line). reuse_story names table (race_of (line_view line))) lines
 
 -- the sites of the unordered accesses, and then the unordered reuses
 abbrev pub run_text : NameTable → PlaceTable → Option Report → List SiteRow → List ℕ

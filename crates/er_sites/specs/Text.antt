@@ -13,8 +13,10 @@ use Rattle.er_places.specs.declared.place.Place.{Place}
 use Rattle.er_print.specs.Printed.{name_at, address_text, bytes_between}
 use Rattle.er_print.specs.Styles.{lock_in, short, site_in, thread_in}
 use Rattle.er_print.specs.declared.styles.Style.TheVariants as style
-use Rattle.er_report.specs.Lines.{LineView, RaceView, ReusedView, RefusedView, ShownView, line_view}
+use Rattle.er_report.specs.Lines.{LineView, RaceView, RacedView, RefusedView, ShownView, line_view, race_of}
 use Rattle.er_report.specs.declared.report.Because.{Because}
+use Rattle.er_report.specs.declared.report.Deed.{Deed}
+use Rattle.er_report.specs.declared.report.Deed.TheVariants as deed
 use Rattle.er_report.specs.declared.report.Label.{Label}
 use Rattle.er_report.specs.declared.report.Label.TheVariants as label
 use Rattle.er_report.specs.declared.report.Line.{Line}
@@ -87,22 +89,18 @@ is_weak_at None lock = false
 is_weak_at (Some place) lock = not (has place.write_held lock)
 
 -- a lock that is held and does not protect is held only to read, and so is one that isn't held to write at the place of the race
-abbrev pub mode_text : ℕ → Option Place → List Because → ℕ → List ℕ
-mode_text number own explained lock = cond (list_any (is_without number lock) explained || is_weak_at own lock) (codes ", but only to read") []
+abbrev pub mode_text : RaceView → Option Place → ℕ → List ℕ
+mode_text race own lock = cond (list_any (is_without race.line lock) race.explained || is_weak_at own lock) (codes ", but only to read") []
 
 -- a lock that the thread of a race held
-abbrev pub held_text : NameTable → ℕ → ℕ → Option Place → List Because → ℕ → List ℕ
-held_text names number thread own explained lock =
-    codes "  " ++ thread_in style.Short names thread ++ codes " held " ++ lock_in style.Short names lock ++ mode_text number own explained lock ++ codes "\n"
+abbrev pub held_text : NameTable → RaceView → Option Place → ℕ → List ℕ
+held_text names race own lock =
+    codes "  " ++ thread_in style.Short names race.thread ++ codes " held " ++ lock_in style.Short names lock ++ mode_text race own lock ++ codes "\n"
 
--- that a thread held no lock
-abbrev pub no_lock_text : NameTable → ℕ → List ℕ
-no_lock_text names thread = codes "  " ++ thread_in style.Short names thread ++ codes " held no lock\n"
-
--- all locks that a thread held, or that it held none
-abbrev pub holds_text : NameTable → ℕ → ℕ → Option Place → List Because → List ℕ → List ℕ
-holds_text names number thread own explained [] = no_lock_text names thread
-holds_text names number thread own explained (lock ∷ locks) = flat_map (held_text names number thread own explained) (lock ∷ locks)
+-- these locks that it held, or that it held none
+abbrev pub holds_text : NameTable → RaceView → Option Place → List ℕ → List ℕ
+holds_text names race own [] = codes "  " ++ thread_in style.Short names race.thread ++ codes " held no lock\n"
+holds_text names race own (lock ∷ locks) = flat_map (held_text names race own) (lock ∷ locks)
 
 -- what an access has to do with a race: it was early, it was made without a lock, or nothing orders it
 abbrev pub story_text : NameTable → ℕ → Kind → Label → List ℕ
@@ -172,21 +170,17 @@ so_text (because ∷ more) = so_by because.label
 abbrev pub lacks_lock : ℕ → Because → Bool
 lacks_lock number because = is_uncovered because.label && because.line == number
 
--- a race on this line, of this thread, may be with this access: if it lacks a lock, with any but itself, and else with one of another thread
-abbrev pub may_meet : Bool → ℕ → ℕ → Because → Bool
-may_meet lacks number thread because = not (cond lacks (because.line == number) (because.thread == thread))
+-- a race may be with this access: if it lacks a lock, with any but itself, and else with one of another thread
+abbrev pub may_meet : Bool → RaceView → Because → Bool
+may_meet lacks race because = not (cond lacks (because.line == race.line) (because.thread == race.thread))
 
 -- two sites in one line
 unfoldable pub pair_text : NameTable → NameTable → ℕ → ℕ → List ℕ
 pair_text names others site other = site_within 57 names site ++ codes " and " ++ site_within 57 others other
 
 -- the last reason whose access a race may be with
-abbrev pub met : ℕ → ℕ → List Because → Option Because
-met number thread explained = find (may_meet (list_any (lacks_lock number) explained) number thread) (reverse explained)
-
--- where that access stands
-abbrev pub met_place : PlaceTable → ℕ → ℕ → List Because → Option Place
-met_place table number thread explained = option_and_then (reason_place table) (met number thread explained)
+abbrev pub met : RaceView → Option Because
+met race = find (may_meet (list_any (lacks_lock race.line) race.explained) race) (reverse race.explained)
 
 -- the site of a race, and that of the access which it is with, if that is known and another one
 abbrev pub met_text : NameTable → NameTable → ℕ → Option Place → List ℕ
@@ -194,42 +188,44 @@ met_text names others site None = site_in style.Short names site
 met_text names others site (Some place) = cond (place.site == 0 || place.site == site) (site_in style.Short names site) (pair_text names others site place.site)
 
 -- behind an empty line
-abbrev pub title_text : NameTable → PlaceTable → ℕ → ℕ → ℕ → List Because → List ℕ
-title_text names table number site thread explained = 10 ∷ [] ++ met_text names table.names site (met_place table number thread explained) ++ 58 ∷ 10 ∷ []
+abbrev pub title_text : NameTable → PlaceTable → RaceView → List ℕ
+title_text names table race = 10 ∷ [] ++ met_text names table.names race.site (option_and_then (reason_place table) (met race)) ++ 58 ∷ 10 ∷ []
 
 -- the access of a race
-abbrev pub head_text : NameTable → ℕ → ℕ → Kind → ℕ → List ℕ
-head_text names number thread kind word =
-    codes "  " ++ thread_in style.Short names thread ++ access_text kind ++ address_text word ++ codes " (line " ++ decimal number ++ codes ")\n"
+abbrev pub head_text : NameTable → RaceView → Kind → ℕ → List ℕ
+head_text names race kind word =
+    codes "  " ++ thread_in style.Short names race.thread ++ access_text kind ++ address_text word ++ codes " (line " ++ decimal race.line ++ codes ")\n"
 
--- who gave back how much memory
-abbrev pub given_back_text : NameTable → ℕ → ℕ → PageRange → List ℕ
-given_back_text names number thread range =
-    codes "  " ++ thread_in style.Short names thread ++ codes " gave back " ++ decimal (bytes_between range.lo range.hi) ++ codes " bytes (line " ++ decimal number ++ codes ")\n"
+-- with its locks and its reasons
+abbrev pub access_story : NameTable → PlaceTable → RaceView → Kind → ℕ → List ℕ
+access_story names table race kind word =
+    head_text names race kind word ++ holds_text names race (access_place table race.line race.thread kind) race.held
+    ++ flat_map (reason_text names table race.line) race.explained ++ so_text race.explained
 
--- and why it is a race
-unfoldable pub reuse_text : NameTable → PlaceTable → ℕ → ℕ → PageRange → List Because → List ℕ
-reuse_text names table number thread range explained = given_back_text names number thread range ++ flat_map (reason_text names table number) explained
+-- who gave back how much memory, and why it is a race
+unfoldable pub reuse_text : NameTable → PlaceTable → RaceView → PageRange → List ℕ
+reuse_text names table race range =
+    codes "  " ++ thread_in style.Short names race.thread ++ codes " gave back " ++ decimal (bytes_between range.lo range.hi) ++ codes " bytes (line " ++ decimal race.line ++ codes ")\n"
+    ++ flat_map (reason_text names table race.line) race.explained
 
--- a race in sentences, under its site
-abbrev pub example_text : NameTable → PlaceTable → LineView → List ℕ
-example_text names table (RaceView number thread kind word site held explained) =
-    title_text names table number site thread explained ++ head_text names number thread kind word
-    ++ holds_text names number thread (access_place table number thread kind) explained held
-    ++ flat_map (reason_text names table number) explained ++ so_text explained
-example_text names table (ReusedView number thread range site held explained) =
-    title_text names table number site thread explained ++ reuse_text names table number thread range explained
-example_text names table (RefusedView number step refusal) = []
-example_text names table (ShownView number word state) = []
+-- what the thread of a race did, in sentences
+abbrev pub deed_text : NameTable → PlaceTable → RaceView → Deed → List ℕ
+deed_text names table race (deed.Access kind word) = access_story names table race kind word
+deed_text names table race (deed.Reuse range) = reuse_text names table race range
+
+-- under the site of the race; other lines have no race
+abbrev pub example_text : NameTable → PlaceTable → Option RaceView → List ℕ
+example_text names table None = []
+example_text names table (Some race) = title_text names table race ++ deed_text names table race race.deed
 
 -- a reuse without a site in sentences, under the address of its first byte
-abbrev pub reuse_story : NameTable → PlaceTable → LineView → List ℕ
-reuse_story names table (RaceView number thread kind word site held explained) = []
-reuse_story names table (ReusedView number thread range zero held explained) =
-    address_text range.lo ++ codes ":\n" ++ reuse_text names table number thread range explained ++ 10 ∷ []
-reuse_story names table (ReusedView number thread range (suc site) held explained) = []
-reuse_story names table (RefusedView number step refusal) = []
-reuse_story names table (ShownView number word state) = []
+abbrev pub lone_text : NameTable → PlaceTable → RaceView → ℕ → Deed → List ℕ
+lone_text names table race zero (deed.Reuse range) = address_text range.lo ++ codes ":\n" ++ reuse_text names table race range ++ 10 ∷ []
+lone_text names table race site did = []
+
+abbrev pub reuse_story : NameTable → PlaceTable → Option RaceView → List ℕ
+reuse_story names table None = []
+reuse_story names table (Some race) = lone_text names table race race.site race.deed
 
 abbrev pub is_reused : Line → Bool
 is_reused (Race number thread kind word site held explained) = false
@@ -240,7 +236,7 @@ is_reused (Shown number word state) = false
 -- the example of a row, among the lines of the report
 abbrev pub example_of : NameTable → PlaceTable → Option Line → List ℕ
 example_of names table None = []
-example_of names table (Some line) = example_text names table (line_view line)
+example_of names table (Some line) = example_text names table (race_of (line_view line))
 
 -- the text, if there are rows
 abbrev pub if_some : List SiteRow → List ℕ → List ℕ
@@ -255,8 +251,7 @@ rows_text names table lines rows =
 
 -- the line of a refused step, and why it was refused
 abbrev pub refusal_text : LineView → List ℕ
-refusal_text (RaceView number thread kind word site held explained) = []
-refusal_text (ReusedView number thread range site held explained) = []
+refusal_text (RacedView race) = []
 refusal_text (RefusedView number step refusal) = codes "first refused: line " ++ decimal number ++ codes ": " ++ text_of refusal ++ 10 ∷ []
 refusal_text (ShownView number word state) = []
 

@@ -1,9 +1,11 @@
 //! How many races there are at each site.
-ghost use Rattle.std.specs.Prelude.{◌≡◌, ◌+◌, ◌^◌, ◌<◌, ◌≤◌, ◌==◌, ℕ, [], cond, length, slice_index, OnOk, IfOk};
+ghost use Rattle.std.specs.Prelude.{◌≡◌, ◌+◌, ◌^◌, ◌<◌, ◌≤◌, ◌==◌, ◌&&◌, ℕ, List, [], cond, count_by, length, slice_index, OnOk, IfOk};
+ghost use Rattle.er_report.specs.declared.report.Line.{Line as LineOf};
 ghost use Rattle.er_sites.specs.Inner.Counted.{AreCounts, HasRoom, count_like};
 ghost use Rattle.er_sites.specs.Table.{reads_at, reuses_at, writes_at};
 
 use er_event::{Kind, Site};
+use er_print::Put;
 use er_report::Line;
 use std::alloc::{AllocError, Global};
 
@@ -31,7 +33,7 @@ impl Counts {
     }
 
     /// Counts a line at its site, if it is a race.
-    pub fn count(&mut self, line: &Line) -> Result<(), AllocError>
+    pub fn count(&mut self, line: &Line) -> Put
         requires { HasRoom self.old }
         ensures reads { OnOk result ((s : ℕ) → slice_index self.new.reads.items s ≡ slice_index self.old.reads.items s + cond (reads_at s line.now) 1 0) }
         ensures writes { OnOk result ((s : ℕ) → slice_index self.new.writes.items s ≡ slice_index self.old.writes.items s + cond (writes_at s line.now) 1 0) }
@@ -41,10 +43,16 @@ impl Counts {
         ensures few_reuses { OnOk result (length self.old.reuses.items ≤ 2 ^ 32 → length self.new.reuses.items ≤ 2 ^ 32) }
     {
         match line {
-            Line::Race { kind, site, .. } => match kind {
-                Kind::Read => add_one(&mut self.reads, *site),
-                Kind::Write => add_one(&mut self.writes, *site),
-            },
+            Line::Race {
+                kind: Kind::Read,
+                site,
+                ..
+            } => add_one(&mut self.reads, *site),
+            Line::Race {
+                kind: Kind::Write,
+                site,
+                ..
+            } => add_one(&mut self.writes, *site),
             Line::Reused { site, .. } if site.number() != 0 => add_one(&mut self.reuses, *site),
             _ => Ok(()),
         }
@@ -55,23 +63,36 @@ impl Counts {
         ensures { result ≡ count_like self.now line.now }
     {
         match line {
-            Line::Race { kind, site, .. } => match kind {
-                Kind::Read => count_at(&self.reads, site.number() as usize),
-                Kind::Write => count_at(&self.writes, site.number() as usize),
-            },
-            Line::Reused { site, .. } if site.number() != 0 => {
-                count_at(&self.reuses, site.number() as usize)
-            }
+            Line::Race {
+                kind: Kind::Read,
+                site,
+                ..
+            } => count_at(&self.reads, *site),
+            Line::Race {
+                kind: Kind::Write,
+                site,
+                ..
+            } => count_at(&self.writes, *site),
+            Line::Reused { site, .. } if site.number() != 0 => count_at(&self.reuses, *site),
             _ => 0,
         }
+    }
+
+    /// Whether no race is at the site.
+    pub(crate) fn has_none_at(&self, site: Site) -> bool
+        ensures { (lines : List LineOf) → AreCounts lines self.now → result ≡ (count_by (reads_at site) lines == 0 && count_by (writes_at site) lines == 0 && count_by (reuses_at site) lines == 0) }
+    {
+        count_at(&self.reads, site) == 0
+            && count_at(&self.writes, site) == 0
+            && count_at(&self.reuses, site) == 0
     }
 }
 
 /// The count of a site; 0 past the end of the list.
-pub(crate) fn count_at(counts: &[u64], site: usize) -> u64
+pub(crate) fn count_at(counts: &[u64], site: Site) -> u64
     ensures { result ≡ slice_index counts.now site }
 {
-    match counts.get(site) {
+    match counts.get(site.number() as usize) {
         Some(count) => *count,
         None => 0,
     }
@@ -89,7 +110,7 @@ pub fn count_races(alloc: Global, lines: &[Line]) -> Result<Counts, AllocError>
 }
 
 // Adds one to the count of a site, which is 0 past the end of the list.
-fn add_one(counts: &mut Vec<u64>, site: Site) -> Result<(), AllocError>
+fn add_one(counts: &mut Vec<u64>, site: Site) -> Put
     requires { slice_index counts.old.items site + 1 < 2 ^ 64 }
     ensures count { OnOk result ((s : ℕ) → slice_index counts.new.items s ≡ slice_index counts.old.items s + cond (s == site) 1 0) }
     ensures few { OnOk result (length counts.old.items ≤ 2 ^ 32 → length counts.new.items ≤ 2 ^ 32) }
@@ -101,7 +122,7 @@ fn add_one(counts: &mut Vec<u64>, site: Site) -> Result<(), AllocError>
 }
 
 // Adds zeros until the list has as many counts.
-fn grow(counts: &mut Vec<u64>, len: usize) -> Result<(), AllocError>
+fn grow(counts: &mut Vec<u64>, len: usize) -> Put
     ensures same { OnOk result ((s : ℕ) → slice_index counts.new.items s ≡ slice_index counts.old.items s) }
     ensures long { OnOk result (len ≤ length counts.new.items) }
     ensures few { OnOk result (length counts.old.items ≤ 2 ^ 32 → len ≤ 2 ^ 32 → length counts.new.items ≤ 2 ^ 32) }

@@ -1,14 +1,6 @@
 //! How many different threads and locks there are at each site.
-use er_event::{Lockset, Site, ThreadId};
-use er_report::Line;
+use er_report::{Deed, Line};
 use std::alloc::{AllocError, Global};
-
-/// A site, and a thread or a lock of a race there.
-#[derive(Clone, Copy, Debug, PartialEq, Eq, PartialOrd, Ord, Drop)]
-struct Pair {
-    site: u32,
-    number: u32,
-}
 
 /// How many threads have races at each site, and how many locks were held at these, by the number of the site.
 pub(crate) fn count_distinct(
@@ -18,11 +10,17 @@ pub(crate) fn count_distinct(
     let mut threads = Vec::new(alloc);
     let mut locks = Vec::new(alloc);
     for line in lines {
-        if let Some((site, thread, held)) = race_of(line) {
-            threads.push(Pair::new(site, thread.number()))?;
-            for lock in held.as_slice() {
-                locks.push(Pair::new(site, lock.number()))?;
-            }
+        let Some(race) = line.race() else {
+            continue;
+        };
+        let site = race.site.number();
+        // A reuse without a site counts at none.
+        if site == 0 && matches!(race.deed, Deed::Reuse(_)) {
+            continue;
+        }
+        threads.push((site, race.thread.number()))?;
+        for lock in race.held {
+            locks.push((site, lock.number()))?;
         }
     }
     Ok((
@@ -31,42 +29,14 @@ pub(crate) fn count_distinct(
     ))
 }
 
-impl Pair {
-    fn new(site: Site, number: u32) -> Pair {
-        Pair {
-            site: site.number(),
-            number,
-        }
-    }
-}
-
-// The site of a line, its thread and the locks of this, if it is a race that counts at a site.
-fn race_of(line: &Line) -> Option<(Site, ThreadId, &Lockset)> {
-    match line {
-        Line::Race {
-            site,
-            thread,
-            held,
-            ..
-        } => Some((*site, *thread, held)),
-        Line::Reused {
-            site,
-            thread,
-            held,
-            ..
-        } if site.number() != 0 => Some((*site, *thread, held)),
-        _ => None,
-    }
-}
-
-// How many different pairs there are of each site.
-fn count_different(alloc: Global, mut pairs: Vec<Pair>) -> Result<Vec<u64>, AllocError> {
+// How many different pairs there are of each site, of which each begins with its site.
+fn count_different(alloc: Global, mut pairs: Vec<(u32, u32)>) -> Result<Vec<u64>, AllocError> {
     pairs.sort_unstable();
     let mut counts = Vec::new(alloc);
     let mut last = None;
     for pair in &pairs {
         if last != Some(*pair) {
-            let site = pair.site as usize;
+            let site = pair.0 as usize;
             if counts.len() <= site {
                 counts.resize(site + 1, 0)?;
             }

@@ -1,21 +1,15 @@
 //! Names and numbers, in columns. Of a long name only the end is put, so that lines stay short.
-ghost use Rattle.std.specs.Prelude.{◌≡◌, ◌++◌, ◌≤◌, length, option_copied, OnOk};
-ghost use Rattle.er_report.specs.Report.{site_name};
+ghost use Rattle.std.specs.Prelude.{◌≡◌, ◌++◌, ◌≤◌, length, OnOk};
 ghost use Rattle.er_sites.specs.System.{is_system_name, is_system_site};
 ghost use Rattle.er_sites.specs.Text.{site_within, pair_text, column_text, access_text, did_text};
 
 use er_event::{Kind, Site};
-use er_print::{put_number, put_short};
+use er_print::{Put, put_number, put_short};
+use er_report::name_of;
 use er_trace::Names;
-use std::alloc::AllocError;
 
 // Puts the name of a site in at most so many bytes, or a dash for the missing one.
-fn put_site_within(
-    out: &mut Vec<u8>,
-    names: &Names,
-    site: Site,
-    most: usize,
-) -> Result<(), AllocError>
+fn put_site_within(out: &mut Vec<u8>, names: &Names, site: Site, most: usize) -> Put
     requires site { site ≤ length names.now.sites }
     requires most { 2 ≤ most }
     ensures { OnOk result (out.new.items ≡ out.old.items ++ site_within most names.now site) }
@@ -24,17 +18,6 @@ fn put_site_within(
         return out.extend_from_slice(b"-");
     }
     put_short(out, names.site_name(site).as_bytes(), most)
-}
-
-/// The name of a site, unless it is the missing one.
-pub fn name_of(names: &Names, site: Site) -> Option<&str>
-    requires { site ≤ length names.now.sites }
-    ensures { option_copied result ≡ site_name names.now site }
-{
-    if site.number() == 0 {
-        return None;
-    }
-    Some(names.site_name(site))
 }
 
 /// Whether a site of this name stands in a header of the system.
@@ -64,7 +47,7 @@ pub(crate) fn put_pair(
     others: &Names,
     site: Site,
     other: Site,
-) -> Result<(), AllocError>
+) -> Put
     requires site { site ≤ length names.now.sites }
     requires other { other ≤ length others.now.sites }
     ensures { OnOk result (out.new.items ≡ out.old.items ++ pair_text names.now others.now site other) }
@@ -76,7 +59,7 @@ pub(crate) fn put_pair(
 }
 
 /// Puts a number, and spaces up to the next column.
-pub(crate) fn put_column(out: &mut Vec<u8>, n: u64) -> Result<(), AllocError>
+pub(crate) fn put_column(out: &mut Vec<u8>, n: u64) -> Put
     ensures { OnOk result (out.new.items ≡ out.old.items ++ column_text n) }
 {
     let start = out.len();

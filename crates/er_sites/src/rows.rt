@@ -10,6 +10,7 @@ use crate::distinct::count_distinct;
 use crate::names::is_system_site;
 use crate::row::SiteRow;
 use er_event::Site;
+use er_print::Put;
 use er_report::Line;
 use er_trace::Names;
 use std::alloc::{AllocError, Global};
@@ -43,7 +44,7 @@ fn add_site(
     names: &Names,
     found: &Found,
     site: usize,
-) -> Result<(), AllocError>
+) -> Put
     requires names { All (HasNames names.now) lines.now }
     requires counts { AreCounts lines.now found.now.counts }
     requires examples { AreExamples lines.now found.now.examples.items }
@@ -59,11 +60,11 @@ fn add_site(
     rows.push(SiteRow {
         site: number,
         is_system: is_system_site(names, number),
-        reads: count_at(&found.counts.reads, site),
-        writes: count_at(&found.counts.writes, site),
-        reuses: count_at(&found.counts.reuses, site),
-        threads: count_at(&found.threads, site),
-        locks: count_at(&found.locks, site),
+        reads: count_at(&found.counts.reads, number),
+        writes: count_at(&found.counts.writes, number),
+        reuses: count_at(&found.counts.reuses, number),
+        threads: count_at(&found.threads, number),
+        locks: count_at(&found.locks, number),
         example,
     })?;
     Ok(())
@@ -120,11 +121,7 @@ fn find_examples(alloc: Global, lines: &[Line]) -> Result<Vec<Option<usize>>, Al
 }
 
 // Notes the line in this place, if it is a race at a site that has none yet.
-fn note_example(
-    examples: &mut Vec<Option<usize>>,
-    place: usize,
-    line: &Line,
-) -> Result<(), AllocError>
+fn note_example(examples: &mut Vec<Option<usize>>, place: usize, line: &Line) -> Put
     ensures { OnOk result ((s : ℕ) → slice_index_or examples.new.items s None ≡ or_first (slice_index_or examples.old.items s None) (cond (is_at s line.now) (Some place) None)) }
 {
     let site = match line {
@@ -140,7 +137,7 @@ fn note_example(
 }
 
 // Adds places of none until the list has as many.
-fn grow(examples: &mut Vec<Option<usize>>, len: usize) -> Result<(), AllocError>
+fn grow(examples: &mut Vec<Option<usize>>, len: usize) -> Put
     ensures same { OnOk result ((s : ℕ) → slice_index_or examples.new.items s None ≡ slice_index_or examples.old.items s None) }
     ensures long { OnOk result (len ≤ length examples.new.items) }
 {

@@ -8,10 +8,9 @@ use crate::row::SiteRow;
 use crate::stories::put_example;
 use er_places::Places;
 use er_print::Piece::{Site as At, Text};
-use er_print::{Style, put_all, put_number};
+use er_print::{Put, Style, put_all, put_number};
 use er_report::Line;
 use er_trace::Names;
-use std::alloc::AllocError;
 
 /// Puts the table, and an example of each of its rows.
 pub(crate) fn put_rows(
@@ -20,7 +19,7 @@ pub(crate) fn put_rows(
     places: &Places,
     lines: &[Line],
     rows: &[SiteRow],
-) -> Result<(), AllocError>
+) -> Put
     requires names { All (HasNames names.now) lines.now }
     requires rows { All (λ row. row.site ≤ length names.now.sites) rows.now }
     ensures { OnOk result (out.new.items ≡ out.old.items ++ rows_text names.now places.now lines.now rows.now) }
@@ -33,7 +32,7 @@ pub(crate) fn put_rows(
 }
 
 // Puts the text, if there are rows.
-fn put_if_some(out: &mut Vec<u8>, rows: &[SiteRow], text: &[u8]) -> Result<(), AllocError>
+fn put_if_some(out: &mut Vec<u8>, rows: &[SiteRow], text: &[u8]) -> Put
     ensures { OnOk result (out.new.items ≡ out.old.items ++ if_some rows.now text.now) }
 {
     if rows.is_empty() {
@@ -42,7 +41,7 @@ fn put_if_some(out: &mut Vec<u8>, rows: &[SiteRow], text: &[u8]) -> Result<(), A
     out.extend_from_slice(text)
 }
 
-fn put_table(out: &mut Vec<u8>, names: &Names, rows: &[SiteRow]) -> Result<(), AllocError>
+fn put_table(out: &mut Vec<u8>, names: &Names, rows: &[SiteRow]) -> Put
     requires { All (λ row. row.site ≤ length names.now.sites) rows.now }
     ensures { OnOk result (out.new.items ≡ out.old.items ++ flat_map (row_text names.now) rows.now) }
 {
@@ -52,7 +51,7 @@ fn put_table(out: &mut Vec<u8>, names: &Names, rows: &[SiteRow]) -> Result<(), A
     Ok(())
 }
 
-fn put_row(out: &mut Vec<u8>, names: &Names, row: &SiteRow) -> Result<(), AllocError>
+fn put_row(out: &mut Vec<u8>, names: &Names, row: &SiteRow) -> Put
     requires { row.now.site ≤ length names.now.sites }
     ensures { OnOk result (out.new.items ≡ out.old.items ++ row_text names.now row.now) }
 {
@@ -65,7 +64,7 @@ fn put_row(out: &mut Vec<u8>, names: &Names, row: &SiteRow) -> Result<(), AllocE
 }
 
 // Puts what the races of a row do, and spaces up to the next column.
-fn put_kinds(out: &mut Vec<u8>, reads: u64, writes: u64, reuses: u64) -> Result<(), AllocError>
+fn put_kinds(out: &mut Vec<u8>, reads: u64, writes: u64, reuses: u64) -> Put
     ensures { OnOk result (out.new.items ≡ out.old.items ++ kinds_text reads writes reuses) }
 {
     out.extend_from_slice(match (reads, writes, reuses) {
@@ -85,7 +84,7 @@ fn put_examples(
     places: &Places,
     lines: &[Line],
     rows: &[SiteRow],
-) -> Result<(), AllocError>
+) -> Put
     requires { All (HasNames names.now) lines.now }
     ensures { OnOk result (out.new.items ≡ out.old.items ++ flat_map (λ row. example_of names.now places.now (slice_get lines.now row.example)) rows.now) }
 {
@@ -102,7 +101,7 @@ fn put_example_at(
     places: &Places,
     lines: &[Line],
     place: usize,
-) -> Result<(), AllocError>
+) -> Put
     requires { All (HasNames names.now) lines.now }
     ensures { OnOk result (out.new.items ≡ out.old.items ++ example_of names.now places.now (slice_get lines.now place)) }
 {
@@ -122,7 +121,7 @@ pub(crate) fn first_refused(lines: &[Line]) -> Option<&Line>
 }
 
 /// Puts the line of the first refused step, if there is one, and why it was refused.
-pub(crate) fn put_refused(out: &mut Vec<u8>, found: Option<&Line>) -> Result<(), AllocError>
+pub(crate) fn put_refused(out: &mut Vec<u8>, found: Option<&Line>) -> Put
     ensures { OnOk result (out.new.items ≡ out.old.items ++ refused_text (option_copied found.entry)) }
 {
     let Some(Line::Refused { line, refusal, .. }) = found else {

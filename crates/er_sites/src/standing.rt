@@ -7,18 +7,12 @@ ghost use Rattle.er_sites.specs.Text.{alone_text, at_text, bare_text, kept_text,
 use er_event::{LockId, Lockset, Site};
 use er_places::{Place, Places};
 use er_print::Piece::{Lock, Site as At, Text};
-use er_print::{Style, put_all};
+use er_print::{Put, Style, put_all};
 use er_report::Because;
 use er_trace::Names;
-use std::alloc::AllocError;
 
 /// Puts where the access of a reason stood, if that is known and it isn't the race on this line.
-pub(crate) fn put_where(
-    out: &mut Vec<u8>,
-    places: &Places,
-    line: u64,
-    because: &Because,
-) -> Result<(), AllocError>
+pub(crate) fn put_where(out: &mut Vec<u8>, places: &Places, line: u64, because: &Because) -> Put
     ensures { OnOk result (out.new.items ≡ out.old.items ++ where_text places.now line because.now) }
 {
     if because.line == line {
@@ -30,7 +24,7 @@ pub(crate) fn put_where(
     }
 }
 
-fn put_place(out: &mut Vec<u8>, names: &Names, place: &Place) -> Result<(), AllocError>
+fn put_place(out: &mut Vec<u8>, names: &Names, place: &Place) -> Put
     requires { HasPlaceNames names.now place.now }
     ensures { OnOk result (out.new.items ≡ out.old.items ++ stood_text names.now place.now.site place.now.write_held place.now.held) }
 {
@@ -44,7 +38,7 @@ fn put_place(out: &mut Vec<u8>, names: &Names, place: &Place) -> Result<(), Allo
 }
 
 // Puts the site of an access without a lock.
-fn put_bare(out: &mut Vec<u8>, names: &Names, site: Site) -> Result<(), AllocError>
+fn put_bare(out: &mut Vec<u8>, names: &Names, site: Site) -> Put
     requires { site ≤ length names.now.sites }
     ensures { OnOk result (out.new.items ≡ out.old.items ++ bare_text names.now site) }
 {
@@ -55,7 +49,7 @@ fn put_bare(out: &mut Vec<u8>, names: &Names, site: Site) -> Result<(), AllocErr
 }
 
 #[tactic(auto, unfolding(crate::specs::Text::alone_text))]
-fn put_alone(out: &mut Vec<u8>, names: &Names, site: Site) -> Result<(), AllocError>
+fn put_alone(out: &mut Vec<u8>, names: &Names, site: Site) -> Put
     requires { site ≤ length names.now.sites }
     ensures { OnOk result (out.new.items ≡ out.old.items ++ alone_text names.now site) }
 {
@@ -64,7 +58,7 @@ fn put_alone(out: &mut Vec<u8>, names: &Names, site: Site) -> Result<(), AllocEr
 }
 
 // Puts the site of an access with locks.
-fn put_at(out: &mut Vec<u8>, names: &Names, site: Site) -> Result<(), AllocError>
+fn put_at(out: &mut Vec<u8>, names: &Names, site: Site) -> Put
     requires { site ≤ length names.now.sites }
     ensures { OnOk result (out.new.items ≡ out.old.items ++ at_text names.now site) }
 {
@@ -76,12 +70,7 @@ fn put_at(out: &mut Vec<u8>, names: &Names, site: Site) -> Result<(), AllocError
 }
 
 // Puts the locks, each on a line of its own.
-fn put_kept_locks(
-    out: &mut Vec<u8>,
-    names: &Names,
-    write_held: &Lockset,
-    locks: &[LockId],
-) -> Result<(), AllocError>
+fn put_kept_locks(out: &mut Vec<u8>, names: &Names, write_held: &Lockset, locks: &[LockId]) -> Put
     requires { HasLockNames names.now locks.now }
     ensures { OnOk result (out.new.items ≡ out.old.items ++ flat_map (kept_text names.now write_held.now) locks.now) }
 {
@@ -92,12 +81,7 @@ fn put_kept_locks(
 }
 
 #[tactic(auto, unfolding(crate::specs::Text::kept_text))]
-fn put_kept(
-    out: &mut Vec<u8>,
-    names: &Names,
-    write_held: &Lockset,
-    lock: LockId,
-) -> Result<(), AllocError>
+fn put_kept(out: &mut Vec<u8>, names: &Names, write_held: &Lockset, lock: LockId) -> Put
     requires { HasLockName names.now lock }
     ensures { OnOk result (out.new.items ≡ out.old.items ++ kept_text names.now write_held.now lock) }
 {

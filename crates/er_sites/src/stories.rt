@@ -1,87 +1,62 @@
 //! One race in sentences.
-ghost use Rattle.std.specs.Prelude.{◌≡◌, ◌++◌, ◌<◌, ◌≤◌, All, find, flat_map, length, option_and_then, option_copied, reverse, OnOk, Some};
+ghost use Rattle.std.specs.Prelude.{◌≡◌, ◌++◌, ◌≤◌, All, flat_map, length, option_and_then, option_copied, OnOk, Some};
 ghost use Rattle.std.specs.List.{list_any};
 ghost use Rattle.er_places.specs.Places.{HasPlaceNames};
 ghost use Rattle.er_places.specs.Reasons.{reason_place};
-ghost use Rattle.er_report.specs.Lines.{line_view};
-ghost use Rattle.er_report.specs.Names.{HasLabelName, HasLockName, HasLockNames, HasNames, HasReasonNames};
-ghost use Rattle.er_sites.specs.Text.{example_text, given_back_text, head_text, held_text, holds_text, is_weak_at, lacks_lock, line_text, may_meet, met, met_text, mode_text, title_text, no_lock_text, reason_text, reuse_story, reuse_text, so_by, so_text, story_text, is_without};
+ghost use Rattle.er_report.specs.Lines.{line_view, race_of};
+ghost use Rattle.er_report.specs.Names.{HasLockName, HasNames, HasRaceNames, HasReasonNames};
+ghost use Rattle.er_sites.specs.Text.{access_story, deed_text, example_text, head_text, held_text, holds_text, is_weak_at, lacks_lock, line_text, lone_text, may_meet, met, met_text, mode_text, title_text, reason_text, reuse_story, reuse_text, so_text, story_text, is_without};
 
 use crate::names::{access_text, did_text, put_pair};
 use crate::standing::put_where;
-use er_event::{Kind, LockId, PageRange, Site, ThreadId, Word};
+use er_event::{Kind, LockId, PageRange, Site, Word};
 use er_places::{Place, Places};
 use er_print::Piece::{Address, Lock, Number, Site as At, Text, Thread};
-use er_print::{Style, bytes_of, put_all};
-use er_report::{Because, Label, Line};
+use er_print::{Put, Style, bytes_of, put_all};
+use er_report::{Because, Deed, Label, Line, Race};
 use er_trace::Names;
-use std::alloc::AllocError;
 
 /// Puts a race in sentences, under its site. Other lines have no story.
-pub(crate) fn put_example(
-    out: &mut Vec<u8>,
-    names: &Names,
-    places: &Places,
-    line: &Line,
-) -> Result<(), AllocError>
+pub(crate) fn put_example(out: &mut Vec<u8>, names: &Names, places: &Places, line: &Line) -> Put
     requires { HasNames names.now line.now }
-    ensures { OnOk result (out.new.items ≡ out.old.items ++ example_text names.now places.now (line_view line.now)) }
+    ensures { OnOk result (out.new.items ≡ out.old.items ++ example_text names.now places.now (race_of (line_view line.now))) }
 {
-    match line {
-        Line::Race {
-            line,
-            thread,
-            kind,
-            word,
-            site,
-            held,
-            explained,
-        } => {
-            put_title(out, names, places, *line, *site, *thread, explained)?;
-            put_head(out, names, *line, *thread, *kind, *word)?;
-            let own = places.of_access(*line, *thread, *kind);
-            put_locks(out, names, *line, *thread, own, explained, held.as_slice())?;
-            put_reasons(out, names, places, *line, explained)?;
-            put_so(out, explained)
-        }
-        Line::Reused {
-            line,
-            thread,
-            range,
-            site,
-            explained,
-            ..
-        } => { put_reuse_at(out, names, places, *line, *thread, range, *site, explained) }
-        Line::Refused { .. } | Line::Shown { .. } => Ok(()),
+    let Some(race) = line.race() else {
+        return Ok(());
+    };
+    put_title(out, names, places, &race)?;
+    put_deed(out, names, places, &race)
+}
+
+// Puts what the thread of a race did.
+fn put_deed(out: &mut Vec<u8>, names: &Names, places: &Places, race: &Race<'_>) -> Put
+    requires { HasRaceNames names.now race.now }
+    ensures { OnOk result (out.new.items ≡ out.old.items ++ deed_text names.now places.now race.now race.now.deed) }
+{
+    match race.deed {
+        Deed::Access(kind, word) => put_access(out, names, places, race, kind, word),
+        Deed::Reuse(range) => put_reuse(out, names, places, race, &range),
     }
 }
 
 // Puts the site of a race behind an empty line, and that of the access which it is with, if that is another one.
-fn put_title(
-    out: &mut Vec<u8>,
-    names: &Names,
-    places: &Places,
-    line: u64,
-    site: Site,
-    thread: ThreadId,
-    explained: &[Because],
-) -> Result<(), AllocError>
-    requires { site ≤ length names.now.sites }
-    ensures { OnOk result (out.new.items ≡ out.old.items ++ title_text names.now places.now line site thread explained.now) }
+fn put_title(out: &mut Vec<u8>, names: &Names, places: &Places, race: &Race<'_>) -> Put
+    requires { HasRaceNames names.now race.now }
+    ensures { OnOk result (out.new.items ≡ out.old.items ++ title_text names.now places.now race.now) }
 {
     out.extend_from_slice(b"\n")?;
-    put_met(out, names, places, site, met(line, thread, explained))?;
+    put_met(out, names, places, race.site, met(race))?;
     out.extend_from_slice(b":\n")
 }
 
-// The last of the reasons whose access a race on this line may be with.
-fn met(line: u64, thread: ThreadId, explained: &[Because]) -> Option<Because>
-    ensures { result ≡ met line thread explained.now }
+// The last of the reasons whose access a race may be with.
+fn met(race: &Race<'_>) -> Option<Because>
+    ensures { result ≡ met race.now }
 {
-    let lacks = lacks_some(line, explained);
+    let lacks = lacks_some(race.line, race.explained);
     let mut last = None;
-    for because in explained {
-        if may_meet(lacks, line, thread, because) {
+    for because in race.explained {
+        if may_meet(lacks, race, because) {
             last = Some(*because);
         }
     }
@@ -102,13 +77,13 @@ fn lacks_lock(line: u64, because: &Because) -> bool
 }
 
 // If the race lacks a lock, it may be with any access but itself, and else with one of another thread.
-fn may_meet(lacks: bool, line: u64, thread: ThreadId, because: &Because) -> bool
-    ensures { result ≡ may_meet lacks line thread because.now }
+fn may_meet(lacks: bool, race: &Race<'_>, because: &Because) -> bool
+    ensures { result ≡ may_meet lacks race.now because.now }
 {
     if lacks {
-        because.line != line
+        because.line != race.line
     } else {
-        because.thread != thread
+        because.thread != race.thread
     }
 }
 
@@ -118,7 +93,7 @@ fn put_met(
     places: &Places,
     site: Site,
     met: Option<Because>,
-) -> Result<(), AllocError>
+) -> Put
     requires { site ≤ length names.now.sites }
     ensures { OnOk result (out.new.items ≡ out.old.items ++ met_text names.now places.now.names site (option_and_then (reason_place places.now) met)) }
 {
@@ -134,7 +109,7 @@ fn put_beside(
     places: &Places,
     site: Site,
     because: &Because,
-) -> Result<(), AllocError>
+) -> Put
     requires { site ≤ length names.now.sites }
     ensures { OnOk result (out.new.items ≡ out.old.items ++ met_text names.now places.now.names site (reason_place places.now because.now)) }
 {
@@ -145,13 +120,7 @@ fn put_beside(
 }
 
 // Puts the site of a race, and that of this place if it is known and another one.
-fn put_sites(
-    out: &mut Vec<u8>,
-    names: &Names,
-    others: &Names,
-    site: Site,
-    place: &Place,
-) -> Result<(), AllocError>
+fn put_sites(out: &mut Vec<u8>, names: &Names, others: &Names, site: Site, place: &Place) -> Put
     requires site { site ≤ length names.now.sites }
     requires place { HasPlaceNames others.now place.now }
     ensures { OnOk result (out.new.items ≡ out.old.items ++ met_text names.now others.now site (Some place.now)) }
@@ -162,89 +131,84 @@ fn put_sites(
     put_pair(out, names, others, site, place.site)
 }
 
-// Puts the access of a race.
-fn put_head(
+// Puts the access of a race, its locks and its reasons.
+fn put_access(
     out: &mut Vec<u8>,
     names: &Names,
-    line: u64,
-    thread: ThreadId,
+    places: &Places,
+    race: &Race<'_>,
     kind: Kind,
     word: Word,
-) -> Result<(), AllocError>
-    requires { thread < length names.now.threads }
-    ensures { OnOk result (out.new.items ≡ out.old.items ++ head_text names.now line thread kind word) }
+) -> Put
+    requires { HasRaceNames names.now race.now }
+    ensures { OnOk result (out.new.items ≡ out.old.items ++ access_story names.now places.now race.now kind word) }
+{
+    put_head(out, names, race, kind, word)?;
+    put_locks(
+        out,
+        names,
+        race,
+        places.of_access(race.line, race.thread, kind),
+    )?;
+    put_reasons(out, names, places, race.line, race.explained)?;
+    put_so(out, race.explained)
+}
+
+fn put_head(out: &mut Vec<u8>, names: &Names, race: &Race<'_>, kind: Kind, word: Word) -> Put
+    requires { HasRaceNames names.now race.now }
+    ensures { OnOk result (out.new.items ≡ out.old.items ++ head_text names.now race.now kind word) }
 {
     let pieces = [
-        Thread(b"  ", thread),
+        Thread(b"  ", race.thread),
         Text(access_text(kind)),
         Address(b"", word),
-        Number(b" (line ", line),
+        Number(b" (line ", race.line),
         Text(b")\n"),
     ];
     put_all(out, Style::Short, names, &pieces)
 }
 
 // Puts the locks that the thread of a race held, and which of them only to read as far as its place is known.
-fn put_locks(
-    out: &mut Vec<u8>,
-    names: &Names,
-    line: u64,
-    thread: ThreadId,
-    own: Option<&Place>,
-    explained: &[Because],
-    locks: &[LockId],
-) -> Result<(), AllocError>
-    requires thread { thread < length names.now.threads }
-    requires locks { HasLockNames names.now locks.now }
-    ensures { OnOk result (out.new.items ≡ out.old.items ++ holds_text names.now line thread (option_copied own.entry) explained.now locks.now) }
+fn put_locks(out: &mut Vec<u8>, names: &Names, race: &Race<'_>, own: Option<&Place>) -> Put
+    requires { HasRaceNames names.now race.now }
+    ensures { OnOk result (out.new.items ≡ out.old.items ++ holds_text names.now race.now (option_copied own.entry) race.now.held) }
 {
-    if locks.is_empty() {
-        return put_no_lock(out, names, thread);
+    if race.held.is_empty() {
+        let pieces = [Thread(b"  ", race.thread), Text(b" held no lock\n")];
+        return put_all(out, Style::Short, names, &pieces);
     }
-    for lock in locks {
-        put_held(out, names, line, thread, own, explained, *lock)?;
+    for lock in race.held {
+        put_held(out, names, race, own, *lock)?;
     }
     Ok(())
-}
-
-// Puts that the thread of a race held no lock.
-fn put_no_lock(out: &mut Vec<u8>, names: &Names, thread: ThreadId) -> Result<(), AllocError>
-    requires { thread < length names.now.threads }
-    ensures { OnOk result (out.new.items ≡ out.old.items ++ no_lock_text names.now thread) }
-{
-    let pieces = [Thread(b"  ", thread), Text(b" held no lock\n")];
-    put_all(out, Style::Short, names, &pieces)
 }
 
 // Puts one lock that the thread of a race held.
 fn put_held(
     out: &mut Vec<u8>,
     names: &Names,
-    line: u64,
-    thread: ThreadId,
+    race: &Race<'_>,
     own: Option<&Place>,
-    explained: &[Because],
     lock: LockId,
-) -> Result<(), AllocError>
-    requires thread { thread < length names.now.threads }
+) -> Put
+    requires names { HasRaceNames names.now race.now }
     requires lock { HasLockName names.now lock }
-    ensures { OnOk result (out.new.items ≡ out.old.items ++ held_text names.now line thread (option_copied own.entry) explained.now lock) }
+    ensures { OnOk result (out.new.items ≡ out.old.items ++ held_text names.now race.now (option_copied own.entry) lock) }
 {
-    let mode = mode_text(line, own, explained, lock);
     let pieces = [
-        Thread(b"  ", thread),
+        Thread(b"  ", race.thread),
         Lock(b" held ", lock),
-        Text(mode),
+        Text(mode_text(race, own, lock)),
         Text(b"\n"),
     ];
     put_all(out, Style::Short, names, &pieces)
 }
 
 // That a lock was held only to read, if it didn't protect the access on the line or wasn't held to write at its place.
-fn mode_text(line: u64, own: Option<&Place>, explained: &[Because], lock: LockId) -> &'static [u8]
-    ensures { result.now ≡ mode_text line (option_copied own.entry) explained.now lock }
+fn mode_text(race: &Race<'_>, own: Option<&Place>, lock: LockId) -> &'static [u8]
+    ensures { result.now ≡ mode_text race.now (option_copied own.entry) lock }
 {
-    if is_unprotected(line, explained, lock) || is_weak_at(own, lock) {
+    if is_unprotected(race.line, race.explained, lock) || is_weak_at(own, lock) {
         b", but only to read".as_slice()
     } else {
         b"".as_slice()
@@ -280,90 +244,51 @@ fn is_without(line: u64, lock: LockId, because: &Because) -> bool
 }
 
 /// Puts a reuse that races at no site in sentences, under the address of its first byte. Of another line it puts nothing.
-pub(crate) fn put_reuse_story(
-    out: &mut Vec<u8>,
-    names: &Names,
-    places: &Places,
-    line: &Line,
-) -> Result<(), AllocError>
+pub(crate) fn put_reuse_story(out: &mut Vec<u8>, names: &Names, places: &Places, line: &Line) -> Put
     requires { HasNames names.now line.now }
-    ensures { OnOk result (out.new.items ≡ out.old.items ++ reuse_story names.now places.now (line_view line.now)) }
+    ensures { OnOk result (out.new.items ≡ out.old.items ++ reuse_story names.now places.now (race_of (line_view line.now))) }
 {
-    match line {
-        Line::Reused {
-            line,
-            thread,
-            range,
-            site,
-            explained,
-            ..
-        } if site.number() == 0 => {
+    match line.race() {
+        Some(race) => put_lone(out, names, places, &race),
+        None => Ok(()),
+    }
+}
+
+fn put_lone(out: &mut Vec<u8>, names: &Names, places: &Places, race: &Race<'_>) -> Put
+    requires { HasRaceNames names.now race.now }
+    ensures { OnOk result (out.new.items ≡ out.old.items ++ lone_text names.now places.now race.now race.now.site race.now.deed) }
+{
+    match race.deed {
+        Deed::Reuse(range) if race.site.number() == 0 => {
             let pieces = [Address(b"", range.lo), Text(b":\n")];
             put_all(out, Style::Short, names, &pieces)?;
-            put_reuse(out, names, places, *line, *thread, range, explained)?;
+            put_reuse(out, names, places, race, &range)?;
             out.extend_from_slice(b"\n")
         }
         _ => Ok(()),
     }
 }
 
-// Puts a reuse in sentences, under its site.
-fn put_reuse_at(
-    out: &mut Vec<u8>,
-    names: &Names,
-    places: &Places,
-    line: u64,
-    thread: ThreadId,
-    range: &PageRange,
-    site: Site,
-    explained: &[Because],
-) -> Result<(), AllocError>
-    requires thread { thread < length names.now.threads }
-    requires site { site ≤ length names.now.sites }
-    requires explained { All (HasReasonNames names.now) explained.now }
-    ensures { OnOk result (out.new.items ≡ out.old.items ++ (title_text names.now places.now line site thread explained.now ++ reuse_text names.now places.now line thread range.now explained.now)) }
-{
-    put_title(out, names, places, line, site, thread, explained)?;
-    put_reuse(out, names, places, line, thread, range, explained)
-}
-
-// Puts a reuse in sentences.
+// Puts who gave back how much memory, and the reasons.
 #[tactic(auto, unfolding(crate::specs::Text::reuse_text))]
 fn put_reuse(
     out: &mut Vec<u8>,
     names: &Names,
     places: &Places,
-    line: u64,
-    thread: ThreadId,
+    race: &Race<'_>,
     range: &PageRange,
-    explained: &[Because],
-) -> Result<(), AllocError>
-    requires thread { thread < length names.now.threads }
-    requires explained { All (HasReasonNames names.now) explained.now }
-    ensures { OnOk result (out.new.items ≡ out.old.items ++ reuse_text names.now places.now line thread range.now explained.now) }
-{
-    put_given_back(out, names, line, thread, range)?;
-    put_reasons(out, names, places, line, explained)
-}
-
-// Puts who gave back how much memory.
-fn put_given_back(
-    out: &mut Vec<u8>,
-    names: &Names,
-    line: u64,
-    thread: ThreadId,
-    range: &PageRange,
-) -> Result<(), AllocError>
-    requires { thread < length names.now.threads }
-    ensures { OnOk result (out.new.items ≡ out.old.items ++ given_back_text names.now line thread range.now) }
+) -> Put
+    requires { HasRaceNames names.now race.now }
+    ensures { OnOk result (out.new.items ≡ out.old.items ++ reuse_text names.now places.now race.now range.now) }
 {
     let pieces = [
-        Thread(b"  ", thread),
+        Thread(b"  ", race.thread),
         Number(b" gave back ", bytes_of(range)),
-        Number(b" bytes (line ", line),
+        Number(b" bytes (line ", race.line),
         Text(b")\n"),
     ];
-    put_all(out, Style::Short, names, &pieces)
+    put_all(out, Style::Short, names, &pieces)?;
+    put_reasons(out, names, places, race.line, race.explained)
 }
 
 // Puts the reasons of the race on this line.
@@ -373,7 +298,7 @@ fn put_reasons(
     places: &Places,
     line: u64,
     explained: &[Because],
-) -> Result<(), AllocError>
+) -> Put
     requires { All (HasReasonNames names.now) explained.now }
     ensures { OnOk result (out.new.items ≡ out.old.items ++ flat_map (reason_text names.now places.now line) explained.now) }
 {
@@ -390,29 +315,22 @@ fn put_reason(
     places: &Places,
     line: u64,
     because: &Because,
-) -> Result<(), AllocError>
+) -> Put
     requires { HasReasonNames names.now because.now }
     ensures { OnOk result (out.new.items ≡ out.old.items ++ reason_text names.now places.now line because.now) }
 {
     out.extend_from_slice(b"  ")?;
-    put_story(out, names, because.thread, because.kind, because.label)?;
+    put_story(out, names, because)?;
     put_line(out, names, because.line)?;
     put_where(out, places, line, because)
 }
 
-fn put_story(
-    out: &mut Vec<u8>,
-    names: &Names,
-    thread: ThreadId,
-    kind: Kind,
-    label: Label,
-) -> Result<(), AllocError>
-    requires thread { thread < length names.now.threads }
-    requires label { HasLabelName names.now label }
-    ensures { OnOk result (out.new.items ≡ out.old.items ++ story_text names.now thread kind label) }
+fn put_story(out: &mut Vec<u8>, names: &Names, because: &Because) -> Put
+    requires { HasReasonNames names.now because.now }
+    ensures { OnOk result (out.new.items ≡ out.old.items ++ story_text names.now because.now.thread because.now.kind because.now.label) }
 {
-    let did = did_text(kind);
-    match label {
+    let (thread, did) = (because.thread, did_text(because.kind));
+    match because.label {
         Label::First => {
             let pieces = [Thread(b"", thread), Text(b" used it first: it"), Text(did)];
             put_all(out, Style::Short, names, &pieces)
@@ -444,7 +362,7 @@ fn put_story(
 }
 
 // Puts the number of a line of the trace.
-fn put_line(out: &mut Vec<u8>, names: &Names, line: u64) -> Result<(), AllocError>
+fn put_line(out: &mut Vec<u8>, names: &Names, line: u64) -> Put
     ensures { OnOk result (out.new.items ≡ out.old.items ++ line_text line) }
 {
     let pieces = [Number(b" (line ", line), Text(b")\n")];
@@ -452,7 +370,7 @@ fn put_line(out: &mut Vec<u8>, names: &Names, line: u64) -> Result<(), AllocErro
 }
 
 // Puts what follows from the reasons, if they are known.
-fn put_so(out: &mut Vec<u8>, explained: &[Because]) -> Result<(), AllocError>
+fn put_so(out: &mut Vec<u8>, explained: &[Because]) -> Put
     ensures { OnOk result (out.new.items ≡ out.old.items ++ so_text explained.now) }
 {
     match explained.first() {

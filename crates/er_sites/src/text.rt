@@ -3,19 +3,16 @@ ghost use Rattle.std.specs.Prelude.{◌≡◌, ◌++◌, ◌≤◌, ◌==◌, �
 ghost use Rattle.std.specs.List.{list_any};
 ghost use Rattle.er_report.specs.Names.{HasNames};
 ghost use Rattle.er_report.specs.Reports.{HaveNames};
-ghost use Rattle.er_sites.specs.Inner.Counted.{AreCounts};
-ghost use Rattle.er_sites.specs.Sites.{AreSitesOf, end_if, if_elsewhere, lines_or, nothing_in, other_rows, others_text, others_title, reuses_text, run_text, sites_text, title_of};
-ghost use Rattle.er_sites.specs.Table.{reads_at, reuses_at, writes_at};
+ghost use Rattle.er_sites.specs.Sites.{AreSitesOf, end_if, lines_or, nothing_in, other_rows, others_text, others_title, reuses_text, run_text, sites_text, title_of};
 ghost use Rattle.er_sites.specs.Text.{is_reused};
 
-use crate::counts::{Counts, count_at, count_races};
+use crate::counts::count_races;
 use crate::row::SiteRow;
 use crate::sites::{first_refused, put_refused, put_rows};
 use crate::stories::put_reuse_story;
 use crate::table::site_rows;
-use er_event::Site;
 use er_places::Places;
-use er_print::{ReportKind, put_end};
+use er_print::{Put, ReportKind, put_end};
 use er_report::{Line, Report, Reports};
 use er_trace::Names;
 use std::alloc::{AllocError, Global};
@@ -77,7 +74,7 @@ fn text_of_rows(
 }
 
 // Puts what a report ends with, if it is there.
-fn put_end_if(out: &mut Vec<u8>, of: ReportKind, report: &Option<Report>) -> Result<(), AllocError>
+fn put_end_if(out: &mut Vec<u8>, of: ReportKind, report: &Option<Report>) -> Put
     ensures { OnOk result (out.new.items ≡ out.old.items ++ end_if of report.now) }
 {
     match report {
@@ -93,7 +90,7 @@ fn put_run(
     places: &Places,
     report: &Option<Report>,
     rows: &[SiteRow],
-) -> Result<(), AllocError>
+) -> Put
     requires names { IfSome report.now (λ report. All (HasNames names.now) report.lines.items) }
     requires rows { All (λ row. row.site ≤ length names.now.sites) rows.now }
     ensures { OnOk result (out.new.items ≡ out.old.items ++ run_text names.now places.now report.now rows.now) }
@@ -115,7 +112,7 @@ fn put_others(
     report: &Option<Report>,
     below: bool,
     rows: &[SiteRow],
-) -> Result<(), AllocError>
+) -> Put
     requires names { IfSome report.now (λ report. All (HasNames names.now) report.lines.items) }
     requires rows { All (λ row. row.site ≤ length names.now.sites) rows.now }
     ensures { OnOk result (out.new.items ≡ out.old.items ++ others_text names.now places.now report.now below rows.now) }
@@ -127,7 +124,7 @@ fn put_others(
     put_rows(out, names, places, &report.lines, rows)
 }
 
-fn put_others_title(out: &mut Vec<u8>, below: bool, none: bool) -> Result<(), AllocError>
+fn put_others_title(out: &mut Vec<u8>, below: bool, none: bool) -> Put
     ensures { OnOk result (out.new.items ≡ out.old.items ++ others_title below none) }
 {
     if !below {
@@ -155,12 +152,7 @@ fn has_reuse(lines: &[Line]) -> bool
 }
 
 // Puts the reuses in sentences.
-fn put_reuses(
-    out: &mut Vec<u8>,
-    names: &Names,
-    places: &Places,
-    lines: &[Line],
-) -> Result<(), AllocError>
+fn put_reuses(out: &mut Vec<u8>, names: &Names, places: &Places, lines: &[Line]) -> Put
     requires { All (HasNames names.now) lines.now }
     ensures { OnOk result (out.new.items ≡ out.old.items ++ reuses_text names.now places.now lines.now) }
 {
@@ -171,7 +163,7 @@ fn put_reuses(
 }
 
 // Puts a heading, and that nothing is below it.
-fn put_title(out: &mut Vec<u8>, title: &[u8], nothing: &[u8], none: bool) -> Result<(), AllocError>
+fn put_title(out: &mut Vec<u8>, title: &[u8], nothing: &[u8], none: bool) -> Put
     ensures { OnOk result (out.new.items ≡ out.old.items ++ title_of title.now nothing.now none) }
 {
     out.extend_from_slice(title)?;
@@ -185,50 +177,10 @@ fn other_rows(alloc: Global, lines: &[Line], rows: &[SiteRow]) -> Result<Vec<Sit
 {
     let counts = count_races(alloc, lines)?;
     let mut others = Vec::new(alloc);
-    put_all_elsewhere(&mut others, lines, &counts, rows)?;
-    Ok(others)
-}
-
-// Puts them.
-fn put_all_elsewhere(
-    others: &mut Vec<SiteRow>,
-    lines: &[Line],
-    counts: &Counts,
-    rows: &[SiteRow],
-) -> Result<(), AllocError>
-    requires { AreCounts lines.now counts.now }
-    ensures { OnOk result (others.new.items ≡ others.old.items ++ flat_map (if_elsewhere lines.now) rows.now) }
-{
     for row in rows {
-        put_elsewhere(others, lines, counts, row)?;
+        if counts.has_none_at(row.site) {
+            others.push(*row)?;
+        }
     }
-    Ok(())
-}
-
-// Puts a row, if its site has no race among these lines.
-fn put_elsewhere(
-    others: &mut Vec<SiteRow>,
-    _lines: &[Line],
-    counts: &Counts,
-    row: &SiteRow,
-) -> Result<(), AllocError>
-    requires { AreCounts _lines.now counts.now }
-    ensures { OnOk result (others.new.items ≡ others.old.items ++ if_elsewhere _lines.now row.now) }
-{
-    if is_elsewhere(_lines, counts, row.site) {
-        others.push(*row)?;
-    }
-    Ok(())
-}
-
-// Whether none of these lines has a race at the site.
-fn is_elsewhere(_lines: &[Line], counts: &Counts, site: Site) -> bool
-    requires { AreCounts _lines.now counts.now }
-    ensures { result ≡ (count_by (reads_at site) _lines.now == 0 && count_by (writes_at site) _lines.now == 0 && count_by (reuses_at site) _lines.now == 0) }
-{
-    let site = site.number() as usize;
-    if count_at(&counts.reads, site) > 0 || count_at(&counts.writes, site) > 0 {
-        return false;
-    }
-    count_at(&counts.reuses, site) == 0
+    Ok(others)
 }

@@ -2,17 +2,13 @@
 ghost use Rattle.std.specs.Prelude.{◌≡◌, ◌≤◌, length, IfOk, OnOk};
 ghost use Rattle.er_model.specs.Holdings.{after_step, holdings_at};
 
+use crate::Made;
 use er_event::{Step, ThreadId};
 use er_held::Held;
-use std::alloc::{AllocError, Global};
+use std::alloc::Global;
 
 /// What the thread holds after the first `end` steps.
-pub(crate) fn held_before(
-    alloc: Global,
-    steps: &[Step],
-    thread: ThreadId,
-    end: usize,
-) -> Result<Held, AllocError>
+pub(crate) fn held_before(alloc: Global, steps: &[Step], thread: ThreadId, end: usize) -> Made<Held>
     requires { end ≤ length steps.now }
     ensures { IfOk result (λ held. held ≡ holdings_at steps.now thread end) }
 {
@@ -25,7 +21,7 @@ pub(crate) fn held_before(
 }
 
 // What the thread holds goes on by a step, which may be another thread's.
-fn follow(held: &mut Held, thread: ThreadId, step: Step) -> Result<(), AllocError>
+fn follow(held: &mut Held, thread: ThreadId, step: Step) -> Made<()>
     ensures { OnOk result (held.new ≡ after_step held.old thread step) }
 {
     if step.thread == thread {

@@ -22,10 +22,14 @@
 //! ```
 #![tactic(auto)]
 
+use std::alloc::AllocError;
 pub use story::{Story, Turn};
 pub use telling::{tell, tell_line};
 pub use text::write_story;
 pub use word_story::WordStory;
+
+// What a call returns that memory may be refused.
+type Made<T> = Result<T, AllocError>;
 
 mod holding;
 mod past;

@@ -1,17 +1,17 @@
 //! `Past`, what one pass over the steps keeps of a word.
 ghost use Rattle.std.specs.Prelude.{◌≡◌, ◌+◌, ◌<◌, ◌≤◌, ◌^◌, ◌++◌, ◌∷◌, [], cond, not, length, IfOk, OnOk};
 ghost use Rattle.er_held.specs.ThreadLocks.{held_by};
-ghost use Rattle.er_model.specs.Following.{locks_for};
-ghost use Rattle.er_model.specs.Table.{advanced};
 ghost use Rattle.er_story.specs.Inner.Past.{fresh, accessed, past_after, past_at};
 ghost use Rattle.er_story.specs.Story.{empties, same_state};
 
+use crate::Made;
 use crate::states::{advance, empties, same_state};
 use crate::story::Turn;
+use crate::word_story::WordStory;
 use er_event::{Event, Kind, Site, Step, ThreadId, Word, WordState};
 use er_held::ThreadLocks;
 use er_trace::Trace;
-use std::alloc::{AllocError, Global};
+use std::alloc::Global;
 use std::marker::Model;
 
 /// What is known of a word, and how it came to be so since the word's last reuse.
@@ -28,15 +28,6 @@ impl Model for Past {
     ghost Value = { PastView };
 
     ghost view = { λ p. record { state = p.state; accesses = p.accesses; turns = p.turns.items } };
-}
-
-/// An access of the word.
-#[derive(Clone, Copy)]
-struct Access {
-    line: u64,
-    thread: ThreadId,
-    kind: Kind,
-    site: Site,
 }
 
 impl Past {
@@ -59,7 +50,7 @@ impl Past {
         word: Word,
         line: u64,
         step: &Step,
-    ) -> Result<(), AllocError>
+    ) -> Made<()>
         requires { self.old.accesses < 2 ^ 63 }
         ensures { OnOk result (self.new ≡ past_after self.old word line (held_by locks.now step.now.thread) step.now.thread step.now.event) }
     {
@@ -67,16 +58,7 @@ impl Past {
         match step.event {
             Event::Access(kind, accessed, site) => {
                 if accessed == word && !locks.is_ignoring(thread) {
-                    self.access(
-                        alloc,
-                        locks,
-                        Access {
-                            line,
-                            thread,
-                            kind,
-                            site,
-                        },
-                    )?;
+                    self.access(alloc, locks, line, thread, kind, site)?;
                 }
             }
             Event::Reuse(range) => {
@@ -89,27 +71,31 @@ impl Past {
         Ok(())
     }
 
-    // Goes on by an access that counts.
+    // Goes on by an access on this line that counts.
     fn access(
         &mut self,
         alloc: Global,
         locks: &ThreadLocks,
-        access: Access,
-    ) -> Result<(), AllocError>
+        line: u64,
+        thread: ThreadId,
+        kind: Kind,
+        site: Site,
+    ) -> Made<()>
         requires { self.old.accesses < 2 ^ 63 }
-        ensures { OnOk result (self.new ≡ accessed self.old (held_by locks.now access.thread) access.line access.thread access.kind access.site) }
+        ensures { OnOk result (self.new ≡ accessed self.old (held_by locks.now thread) line thread kind site) }
     {
-        let after = state_after(alloc, &self.state, locks, access.thread, access.kind)?;
+        let cover = locks.cover_of(alloc, thread, kind)?;
+        let after = advance(&self.state, thread, kind, &cover)?;
         self.accesses += 1;
         if !same_state(&self.state, &after) {
             let turn = Turn {
                 number: self.accesses,
-                line: access.line,
-                thread: access.thread,
-                kind: access.kind,
-                site: access.site,
-                held: locks.locks_of(alloc, access.thread)?,
-                write_held: locks.cover_of(alloc, access.thread, Kind::Write)?,
+                line,
+                thread,
+                kind,
+                site,
+                held: locks.locks_of(alloc, thread)?,
+                write_held: locks.cover_of(alloc, thread, Kind::Write)?,
                 state: after.copy()?,
                 emptied: empties(&self.state, &after),
             };
@@ -118,29 +104,28 @@ impl Past {
         self.state = after;
         Ok(())
     }
-}
 
-// The state after an access that counts.
-fn state_after(
-    alloc: Global,
-    before: &WordState,
-    locks: &ThreadLocks,
-    thread: ThreadId,
-    kind: Kind,
-) -> Result<WordState, AllocError>
-    ensures { IfOk result (λ after. after ≡ advanced before.now thread kind (locks_for (held_by locks.now thread) kind)) }
-{
-    let cover = locks.cover_of(alloc, thread, kind)?;
-    advance(before, thread, kind, &cover)
+    /// What is told of the word, which the next step leaves in this state.
+    pub(crate) fn told(self, word: Word, after: WordState) -> WordStory
+        ensures { result ≡ record { word = word; before = self.entry.state; after = after; accesses = self.entry.accesses; turns = self.entry.turns } }
+    {
+        let Past {
+            state: before,
+            accesses,
+            turns,
+        } = self;
+        WordStory {
+            word,
+            before,
+            after,
+            accesses,
+            turns,
+        }
+    }
 }
 
 /// What is known of a word after the first `end` steps.
-pub(crate) fn past_of(
-    alloc: Global,
-    trace: &Trace,
-    word: Word,
-    end: usize,
-) -> Result<Past, AllocError>
+pub(crate) fn past_of(alloc: Global, trace: &Trace, word: Word, end: usize) -> Made<Past>
     requires { end ≤ length trace.now.steps }
     ensures { IfOk result (λ past. past ≡ past_at trace.now word end) }
 {

@@ -4,14 +4,14 @@ ghost use Rattle.er_story.specs.Text.{answer_text, emptied_text, no_race_text, q
 
 use crate::word_story::WordStory;
 use er_event::{Refusal, Reply, WordState};
-use std::alloc::AllocError;
+use er_print::Put;
 
 /// Puts what a step is answered, and why.
 pub(crate) fn put_answer(
     out: &mut Vec<u8>,
     word: &Option<WordStory>,
     answer: &Result<Reply, Refusal>,
-) -> Result<(), AllocError>
+) -> Put
     ensures { OnOk result (out.new.items ≡ out.old.items ++ answer_text word.now answer.now) }
 {
     match answer {

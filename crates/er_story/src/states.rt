@@ -3,8 +3,8 @@ ghost use Rattle.std.specs.Prelude.{◌≡◌, IfOk};
 ghost use Rattle.er_model.specs.Table.{advanced, is_racy, reports, shared_by};
 ghost use Rattle.er_story.specs.Story.{empties, has_none_left, same_state};
 
+use crate::Made;
 use er_event::{Kind, Lockset, ThreadId, WordState};
-use std::alloc::AllocError;
 
 /// The state after an access by a thread that holds these locks for it.
 pub(crate) fn advance(
@@ -12,7 +12,7 @@ pub(crate) fn advance(
     thread: ThreadId,
     kind: Kind,
     locks: &Lockset,
-) -> Result<WordState, AllocError>
+) -> Made<WordState>
     ensures { IfOk result (λ after. after ≡ advanced before.now thread kind locks.now) }
 {
     match before {

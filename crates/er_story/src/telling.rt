@@ -7,14 +7,15 @@ ghost use Rattle.er_model.specs.Following.{locks_for};
 ghost use Rattle.er_model.specs.Holdings.{holdings_at, refused_by};
 ghost use Rattle.er_model.specs.Table.{advanced, reports};
 ghost use Rattle.er_story.specs.Names.{HasStoryNames};
-ghost use Rattle.er_story.specs.Story.{has_word, story_at, story_of, story_on, tale_in, tale_of};
+ghost use Rattle.er_story.specs.Story.{has_word, story_at, story_of, story_on, tale_in};
 
+use crate::Made;
 use crate::holding::held_before;
-use crate::past::{Past, past_of};
+use crate::past::past_of;
 use crate::states::{advance, reports};
 use crate::story::Story;
 use crate::word_story::WordStory;
-use er_event::{Event, Kind, Lockset, Refusal, Reply, Site, Step, ThreadId, Word, WordState};
+use er_event::{Event, Kind, Lockset, Refusal, Reply, Step, ThreadId, WordState};
 use er_held::Held;
 use er_trace::Trace;
 use std::alloc::{AllocError, Global};
@@ -59,7 +60,7 @@ fn story_of(
     place: usize,
     step: &Step,
     holding: &mut Held,
-) -> Result<Story, AllocError>
+) -> Made<Story>
     requires step { slice_get trace.now.steps place ≡ Some step.now }
     requires within { place < length trace.now.steps }
     requires holding { holding.old ≡ holdings_at trace.now.steps step.now.thread place }
@@ -79,15 +80,6 @@ fn story_of(
     })
 }
 
-/// An access.
-#[derive(Clone, Copy)]
-struct Access {
-    thread: ThreadId,
-    kind: Kind,
-    word: Word,
-    site: Site,
-}
-
 /// What a step is answered, and what happened to its word.
 #[derive(Drop)]
 struct Told {
@@ -102,112 +94,44 @@ fn tell_of(
     place: usize,
     step: &Step,
     holding: &mut Held,
-) -> Result<Told, AllocError>
+) -> Made<Told>
     requires step { slice_get trace.now.steps place ≡ Some step.now }
     requires holding { holding.old ≡ holdings_at trace.now.steps step.now.thread place }
     requires within { place < length trace.now.steps }
     ensures answer { IfOk result (λ told. told.answer ≡ answer trace.now.steps place) }
     ensures word { IfOk result (λ told. told.word ≡ tale_in trace.now place step.now.event) }
 {
-    let thread = step.thread;
-    let event = step.event;
-    match event {
-        Event::Access(kind, word, site) => {
-            let access = Access {
-                thread,
-                kind,
-                word,
-                site,
-            };
-            tell_access(alloc, trace, place, holding, access)
+    match step.event {
+        Event::Access(kind, word, _) => {
+            let past = past_of(alloc, trace, word, place)?;
+            let after = state_after(&past.state, holding, step.thread, kind)?;
+            let reply = reply_between(holding, &past.state, &after);
+            Ok(Told {
+                answer: Ok(reply),
+                word: Some(past.told(word, after)),
+            })
         }
-        Event::Show(word) => tell_show(alloc, trace, place, thread, word),
+        Event::Show(word) => {
+            let past = past_of(alloc, trace, word, place)?;
+            let reply = Reply::State(past.state.copy()?);
+            let after = past.state.copy()?;
+            Ok(Told {
+                answer: Ok(reply),
+                word: Some(past.told(word, after)),
+            })
+        }
         Event::Acquire(..)
         | Event::Release(..)
         | Event::Reuse(_)
         | Event::IgnoreOn
         | Event::IgnoreOff
         | Event::Level(_)
-        | Event::Sync(_) => {
-            let told = tell_other(holding, event)?;
-            Ok(told)
-        }
+        | Event::Sync(_) => tell_other(holding, step.event),
     }
 }
 
-// Of an access.
-fn tell_access(
-    alloc: Global,
-    trace: &Trace,
-    place: usize,
-    holding: &Held,
-    access: Access,
-) -> Result<Told, AllocError>
-    requires step { slice_get trace.now.steps place ≡ Some (record { thread = access.thread; event = Event.Access access.kind access.word access.site }) }
-    requires holding { holding.now ≡ holdings_at trace.now.steps access.thread place }
-    requires within { place < length trace.now.steps }
-    ensures answer { IfOk result (λ told. told.answer ≡ answer trace.now.steps place) }
-    ensures word { IfOk result (λ told. told.word ≡ Some (tale_of trace.now place access.word)) }
-{
-    let past = past_of(alloc, trace, access.word, place)?;
-    let Past {
-        state: before,
-        accesses,
-        turns,
-    } = past;
-    let after = state_after(&before, holding, access.thread, access.kind)?;
-    Ok(Told {
-        answer: Ok(reply_between(holding, &before, &after)),
-        word: Some(WordStory {
-            word: access.word,
-            before,
-            after,
-            accesses,
-            turns,
-        }),
-    })
-}
-
-// Of a show.
-fn tell_show(
-    alloc: Global,
-    trace: &Trace,
-    place: usize,
-    thread: ThreadId,
-    word: Word,
-) -> Result<Told, AllocError>
-    requires step { slice_get trace.now.steps place ≡ Some (record { thread = thread; event = Event.Show word }) }
-    requires within { place < length trace.now.steps }
-    ensures answer { IfOk result (λ told. told.answer ≡ answer trace.now.steps place) }
-    ensures word { IfOk result (λ told. told.word ≡ Some (tale_of trace.now place word)) }
-{
-    let past = past_of(alloc, trace, word, place)?;
-    let Past {
-        state: before,
-        accesses,
-        turns,
-    } = past;
-    let shown = before.copy()?;
-    let after = before.copy()?;
-    Ok(Told {
-        answer: Ok(Reply::State(shown)),
-        word: Some(WordStory {
-            word,
-            before,
-            after,
-            accesses,
-            turns,
-        }),
-    })
-}
-
 // The state after an access of a word in this state.
-fn state_after(
-    before: &WordState,
-    holding: &Held,
-    thread: ThreadId,
-    kind: Kind,
-) -> Result<WordState, AllocError>
+fn state_after(before: &WordState, holding: &Held, thread: ThreadId, kind: Kind) -> Made<WordState>
     ensures { IfOk result (λ after. after ≡ cond (nat_lt 0 holding.now.depth) before.now (advanced before.now thread kind (locks_for holding.now kind))) }
 {
     if holding.ignoring() {
@@ -240,7 +164,7 @@ fn cover(holding: &Held, kind: Kind) -> &Lockset
 }
 
 // Of a step that has no word.
-fn tell_other(holding: &mut Held, event: Event) -> Result<Told, AllocError>
+fn tell_other(holding: &mut Held, event: Event) -> Made<Told>
     requires { has_word event ≡ false }
     ensures other { has_word event ≡ false }
     ensures answer { IfOk result (λ told. told.answer ≡ answer_unless (refused_by holding.old event) Done) }

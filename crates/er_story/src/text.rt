@@ -6,6 +6,7 @@ ghost use Rattle.er_report.specs.Names.{HasEventNames, HasLockName, HasLockNames
 ghost use Rattle.er_story.specs.Names.{HasStoryNames, HasTaleNames, HasTurnNames, HasWordNames};
 ghost use Rattle.er_story.specs.Text.{change_text, deed_text, held_text, holding_text, mode_text, step_text, story_text, turn_text, word_text};
 
+use crate::Made;
 use crate::sentences::{emptied_text, put_answer};
 use crate::states::empties;
 use crate::story::{Story, Turn};
@@ -13,9 +14,9 @@ use crate::word_story::WordStory;
 use er_device::Device;
 use er_event::{Event, LockId, Lockset};
 use er_print::Piece::{Address, Event as Asked, Lock, Number, Site, State, Text, Thread, Verb};
-use er_print::{Style, WriteFault, put_all, write_text};
+use er_print::{Put, Style, WriteFault, put_all, write_text};
 use er_trace::Names;
-use std::alloc::{AllocError, Global};
+use std::alloc::Global;
 use std::io::Write;
 
 /// Writes a story, with these names for its numbers. The text is whole before its first byte is written.
@@ -35,7 +36,7 @@ pub fn write_story<W: Write>(
 }
 
 #[tactic(auto, unfolding(crate::specs::Text::story_text))]
-fn story_text(alloc: Global, names: &Names, story: &Story) -> Result<Vec<u8>, AllocError>
+fn story_text(alloc: Global, names: &Names, story: &Story) -> Made<Vec<u8>>
     requires { HasStoryNames names.now story.now }
     ensures { IfOk result (λ text. text.items ≡ story_text names.now story.now) }
 {
@@ -49,7 +50,7 @@ fn story_text(alloc: Global, names: &Names, story: &Story) -> Result<Vec<u8>, Al
 }
 
 // Puts the step, with the locks of its thread.
-fn put_step(out: &mut Vec<u8>, names: &Names, story: &Story) -> Result<(), AllocError>
+fn put_step(out: &mut Vec<u8>, names: &Names, story: &Story) -> Put
     requires { HasStoryNames names.now story.now }
     ensures { OnOk result (out.new.items ≡ out.old.items ++ step_text names.now story.now) }
 {
@@ -65,7 +66,7 @@ fn put_step(out: &mut Vec<u8>, names: &Names, story: &Story) -> Result<(), Alloc
 }
 
 // Puts what a step did, and to which word.
-fn put_deed(out: &mut Vec<u8>, names: &Names, event: Event) -> Result<(), AllocError>
+fn put_deed(out: &mut Vec<u8>, names: &Names, event: Event) -> Put
     requires event { HasEventNames names.now event }
     requires site { HasSiteName names.now event }
     ensures { OnOk result (out.new.items ≡ out.old.items ++ deed_text names.now event) }
@@ -87,12 +88,7 @@ fn put_deed(out: &mut Vec<u8>, names: &Names, event: Event) -> Result<(), AllocE
 }
 
 // Puts the locks that a thread held.
-fn put_holding(
-    out: &mut Vec<u8>,
-    names: &Names,
-    write_held: &Lockset,
-    held: &[LockId],
-) -> Result<(), AllocError>
+fn put_holding(out: &mut Vec<u8>, names: &Names, write_held: &Lockset, held: &[LockId]) -> Put
     requires { HasLockNames names.now held.now }
     ensures { OnOk result (out.new.items ≡ out.old.items ++ holding_text names.now write_held.now held.now) }
 {
@@ -107,12 +103,7 @@ fn put_holding(
 }
 
 // Puts a lock, and that it was held only to read if it was.
-fn put_held(
-    out: &mut Vec<u8>,
-    names: &Names,
-    write_held: &Lockset,
-    lock: LockId,
-) -> Result<(), AllocError>
+fn put_held(out: &mut Vec<u8>, names: &Names, write_held: &Lockset, lock: LockId) -> Put
     requires { HasLockName names.now lock }
     ensures { OnOk result (out.new.items ≡ out.old.items ++ held_text names.now write_held.now lock) }
 {
@@ -133,7 +124,7 @@ fn mode_text(writes: bool) -> &'static [u8]
 }
 
 // Puts what happened to the word of a step, if it has one.
-fn put_word(out: &mut Vec<u8>, names: &Names, word: &Option<WordStory>) -> Result<(), AllocError>
+fn put_word(out: &mut Vec<u8>, names: &Names, word: &Option<WordStory>) -> Put
     requires { HasWordNames names.now word.now }
     ensures { OnOk result (out.new.items ≡ out.old.items ++ word_text names.now word.now) }
 {
@@ -146,7 +137,7 @@ fn put_word(out: &mut Vec<u8>, names: &Names, word: &Option<WordStory>) -> Resul
     }
 }
 
-fn put_change(out: &mut Vec<u8>, names: &Names, word: &WordStory) -> Result<(), AllocError>
+fn put_change(out: &mut Vec<u8>, names: &Names, word: &WordStory) -> Put
     requires { HasTaleNames names.now word.now }
     ensures { OnOk result (out.new.items ≡ out.old.items ++ change_text names.now word.now) }
 {
@@ -160,7 +151,7 @@ fn put_change(out: &mut Vec<u8>, names: &Names, word: &WordStory) -> Result<(), 
     put_all(out, Style::Plain, names, &pieces)
 }
 
-fn put_turns(out: &mut Vec<u8>, names: &Names, turns: &[Turn]) -> Result<(), AllocError>
+fn put_turns(out: &mut Vec<u8>, names: &Names, turns: &[Turn]) -> Put
     requires { All (HasTurnNames names.now) turns.now }
     ensures { OnOk result (out.new.items ≡ out.old.items ++ flat_map (turn_text names.now) turns.now) }
 {
@@ -171,7 +162,7 @@ fn put_turns(out: &mut Vec<u8>, names: &Names, turns: &[Turn]) -> Result<(), All
 }
 
 // Puts an access that changed the word's state.
-fn put_turn(out: &mut Vec<u8>, names: &Names, turn: &Turn) -> Result<(), AllocError>
+fn put_turn(out: &mut Vec<u8>, names: &Names, turn: &Turn) -> Put
     requires { HasTurnNames names.now turn.now }
     ensures { OnOk result (out.new.items ≡ out.old.items ++ turn_text names.now turn.now) }
 {

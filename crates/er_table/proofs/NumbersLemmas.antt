@@ -3,7 +3,7 @@ use Rattle.std.proofs.Common.{◌≡◌, ◌≢◌, ◌∙◌, ℕ, ◌+◌, ◌
 use Rattle.std.specs.Borrow.{Bor}
 use Rattle.std.specs.Cmp.Lexicographic.{bytes_decides}
 use Rattle.std.specs.List.{list_any}
-use Rattle.std.proofs.lemmas.List.{map-append, get_or-map}
+use Rattle.std.proofs.lemmas.List.{length-map, map-append, get_or-map}
 use Rattle.std.proofs.lemmas.List.Quantifiers.{position-Some}
 use Rattle.indexmap.specs.IndexSet.{insert_key}
 use Rattle.er_event.specs.Lockset.{same_locks}
@@ -48,6 +48,13 @@ module _ (set : Bor (List ℕ)) (others : List (Bor (List ℕ))) (sets : List (L
       let found = position-Some (same_behind set) others i set at in
       subst (λ s. set_at s (i + 1) ≡ set.now) is
       (rw add-one (get_or-map (λ (s : Bor (List ℕ)). s.now) others i set [] found.0 ∙ sym ((bytes_decides set.now (get_or others i set).now).0 found.1)))
+
+  -- and its number is one of theirs
+  pub within-found : (i : ℕ) → position (same_behind set) others ≡ Some i → i + 1 < length sets
+  within-found i at =
+      let found = position-Some (same_behind set) others i set at in
+      let many = length-map others (λ (s : Bor (List ℕ)). s.now) in
+      subst (λ s. i + 1 < length s) is (omega (arith, found.0, many))
 
   -- the numbers after a set without one is inserted
   pub numbered-added : (now : List (Bor (List ℕ))) → ¬ Contains sets set.now → now ≡ insert_key same_behind others set → numbered now ≡ sets ++ set.now ∷ []

@@ -8,6 +8,7 @@ ghost use Rattle.er_event.specs.Lockset.{meet};
 ghost use Rattle.std.specs.HashMap.{get, hash_map_len};
 ghost use Rattle.er_table.specs.Known.{IsMeet, RemembersMeets, same_pair, meet_of};
 ghost use Rattle.er_table.specs.declared.known.TheConstants.{MOST_REMEMBERED};
+ghost use Rattle.er_table.specs.Numbers.{IsNumbered};
 ghost use Rattle.er_table.specs.Sets.{with_set, set_at, AreDistinct, most_sets, KeepsNumbers};
 
 use crate::LocksetTable;
@@ -147,17 +148,8 @@ fn number_anew<R: Wait>(
     requires second { pair.second < length numbers.old }
     requires right { RemembersMeets numbers.old (get same_pair meets.old) }
     requires few { hash_map_len meets.old ≤ MOST_REMEMBERED }
-    ensures ok { OnOk result (numbers.new ≡ with_set numbers.old (meet_of numbers.old pair)) }
-    ensures number { IfOk result (λ n. n < length numbers.new) }
-    ensures names { IfOk result (λ n. set_at numbers.new n ≡ meet_of numbers.old pair) }
-    ensures empty { IfOk result (λ n. meet_of numbers.old pair ≡ [] → n ≡ 0) }
-    ensures only_empty { IfOk result (λ n. n ≡ 0 → meet_of numbers.old pair ≡ []) }
-    ensures next { IfOk result (λ n. ¬ Contains numbers.old (meet_of numbers.old pair) → n ≡ length numbers.old) }
+    ensures numbered { IsNumbered numbers.old (meet_of numbers.old pair) result numbers.new }
     ensures kept { KeepsNumbers numbers.old numbers.new }
-    ensures err { OnErr result (numbers.new ≡ numbers.old) }
-    ensures full_only_if_new { IsErrOf result NoRoom.TableFull → ¬ Contains numbers.old (meet_of numbers.old pair) }
-    ensures full_only_if_some { IsErrOf result NoRoom.TableFull → meet_of numbers.old pair ≢ [] }
-    ensures refusals { ¬ IsErrOf result NoRoom.JournalFull }
     ensures right { RemembersMeets numbers.new (get same_pair meets.new) }
     ensures few { hash_map_len meets.new ≤ MOST_REMEMBERED }
     ensures remembered { hash_map_len meets.old < MOST_REMEMBERED → IfOk result (λ n. get same_pair meets.new pair ≡ Some n) }

@@ -1,8 +1,8 @@
 //! Numbers for the sets of a table, as one owner gives them.
 ghost use Rattle.std.specs.Prelude.{◌≡◌, ◌≢◌, ◌+◌, ◌<◌, ◌≤◌, [], ◌∷◌, ◌++◌, length, IsTrue, IsFalse, IsOk, IfOk, IfSome, OnOk, OnErr, IsErrOf, Contains};
 ghost use Rattle.er_event.specs.Lockset.{meet};
-ghost use Rattle.er_table.specs.Numbers.{numbered};
-ghost use Rattle.er_table.specs.Sets.{with_set, set_at, AreDistinct, most_sets};
+ghost use Rattle.er_table.specs.Numbers.{numbered, IsNumbered};
+ghost use Rattle.er_table.specs.Sets.{set_at, AreDistinct, most_sets};
 
 use crate::LocksetTable;
 use er_event::{Lockset, NoRoom};
@@ -87,28 +87,10 @@ impl<'t> Numbers<'t> {
         }
     }
 
-    /// The locks that two sets have in common.
-    pub(crate) fn meet(&self, first: u32, second: u32) -> Result<Lockset, AllocError>
-        requires first { first < length self.now }
-        requires second { second < length self.now }
-        ensures { IfOk result (λ set. set ≡ meet (set_at self.now first) (set_at self.now second)) }
-    {
-        self.set(first).intersect(self.set(second))
-    }
-
     /// The number of a set, which is the next one if it had none.
     pub(crate) fn number_of<R: Wait>(&mut self, rt: &R, set: &Lockset) -> Result<u32, NoRoom>
-        ensures ok { OnOk result (self.new ≡ with_set self.old set.now) }
-        ensures number { IfOk result (λ n. n < length self.new) }
-        ensures names { IfOk result (λ n. set_at self.new n ≡ set.now) }
-        ensures empty { IfOk result (λ n. set.now ≡ [] → n ≡ 0) }
-        ensures only_empty { IfOk result (λ n. n ≡ 0 → set.now ≡ []) }
-        ensures next { IfOk result (λ n. ¬ Contains self.old set.now → n ≡ length self.old) }
+        ensures numbered { IsNumbered self.old set.now result self.new }
         ensures found { Contains self.old set.now → IsOk result }
-        ensures err { OnErr result (self.new ≡ self.old) }
-        ensures full_only_if_new { IsErrOf result NoRoom.TableFull → ¬ Contains self.old set.now }
-        ensures full_only_if_some { IsErrOf result NoRoom.TableFull → set.now ≢ [] }
-        ensures refusals { ¬ IsErrOf result NoRoom.JournalFull }
     {
         let others = &self.others;
         if set.is_empty() {
@@ -129,18 +111,9 @@ impl<'t> Numbers<'t> {
     ) -> Result<u32, NoRoom>
         requires first { first < length self.old }
         requires second { second < length self.old }
-        ensures ok { OnOk result (self.new ≡ with_set self.old (meet (set_at self.old first) (set_at self.old second))) }
-        ensures number { IfOk result (λ n. n < length self.new) }
-        ensures names { IfOk result (λ n. set_at self.new n ≡ meet (set_at self.old first) (set_at self.old second)) }
-        ensures empty { IfOk result (λ n. meet (set_at self.old first) (set_at self.old second) ≡ [] → n ≡ 0) }
-        ensures only_empty { IfOk result (λ n. n ≡ 0 → meet (set_at self.old first) (set_at self.old second) ≡ []) }
-        ensures next { IfOk result (λ n. ¬ Contains self.old (meet (set_at self.old first) (set_at self.old second)) → n ≡ length self.old) }
-        ensures err { OnErr result (self.new ≡ self.old) }
-        ensures full_only_if_new { IsErrOf result NoRoom.TableFull → ¬ Contains self.old (meet (set_at self.old first) (set_at self.old second)) }
-        ensures full_only_if_some { IsErrOf result NoRoom.TableFull → meet (set_at self.old first) (set_at self.old second) ≢ [] }
-        ensures refusals { ¬ IsErrOf result NoRoom.JournalFull }
+        ensures { IsNumbered self.old (meet (set_at self.old first) (set_at self.old second)) result self.new }
     {
-        let Ok(meet) = self.meet(first, second) else {
+        let Ok(meet) = self.set(first).intersect(self.set(second)) else {
             return Err(NoRoom::OutOfMemory);
         };
         self.number_of(rt, &meet)

@@ -17,7 +17,6 @@ pub use names::{Names, equal_names_alone_share_a_number};
 pub use trace::Trace;
 
 mod appending;
-mod hints;
 mod names;
 mod recent;
 mod trace;

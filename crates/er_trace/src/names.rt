@@ -7,10 +7,9 @@ ghost use Rattle.er_trace.specs.Names.{is_known, number_of, with_name, no_names,
 
 use crate::NameKeys;
 use crate::appending::{NewNumbers, NewTable};
-use crate::hints::NameHints;
 use crate::recent::{RecentNames, ShortName};
 use er_event::{LockId, Site, ThreadId};
-use er_keys::KeyedHasher;
+use er_keys::{Hints, KeyedHasher};
 use indexmap::IndexSet;
 use std::alloc::{AllocError, Global};
 use std::marker::Model;
@@ -106,7 +105,8 @@ impl NameList {
 struct CachedNames {
     list: NameList,
     recent: RecentNames,
-    hints: NameHints,
+    // The number of a long name, by its last bytes. Whoever asks compares the name that stands there.
+    hints: Hints,
 }
 
 impl Model for CachedNames {
@@ -127,7 +127,7 @@ impl CachedNames {
         CachedNames {
             list: NameList::new(alloc, keys),
             recent: RecentNames::new(alloc),
-            hints: NameHints::new(alloc),
+            hints: Hints::new(alloc),
         }
     }
 
@@ -141,18 +141,19 @@ impl CachedNames {
         ensures within { IfOk result (λ n. n < most_names) }
         ensures full { most_names ≤ length self.old → is_known self.old name.now ≡ false → IsErr result }
     {
-        let Some(short) = ShortName::of(name) else {
-            return self.number_of_long(name);
-        };
-        match self.recent.find(short) {
-            Some(number) => Ok(number as usize),
-            None => self.number_and_remember(name, short),
+        let short = ShortName::of(name.as_bytes());
+        if let Some(short) = short
+            && let Some(number) = self.recent.find(short)
+        {
+            return Ok(number as usize);
         }
+        self.number_anew(name, short)
     }
 
-    /// The same of a name that isn't short.
+    /// The same of a name that isn't among the recent short ones, after which it is found without a hash.
     #[inline(never)]
-    fn number_of_long(&mut self, name: &str) -> Result<usize, AllocError>
+    fn number_anew(&mut self, name: &str, short: Option<ShortName>) -> Result<usize, AllocError>
+        requires { IfSome short (λ short. bytes_of short ≡ name.now) }
         ensures number { IfOk result (λ n. n ≡ number_of self.old name.now) }
         ensures ok { OnOk result (self.new ≡ with_name self.old name.now) }
         ensures err { OnErr result (self.new ≡ self.old) }
@@ -160,28 +161,18 @@ impl CachedNames {
         ensures within { IfOk result (λ n. n < most_names) }
         ensures full { most_names ≤ length self.old → is_known self.old name.now ≡ false → IsErr result }
     {
-        let hint = self.hints.hint(name);
+        if let Some(short) = short {
+            let number = self.list.number(name)?;
+            self.recent.remember(short, number as u32);
+            return Ok(number);
+        }
+        let ending = ending_of(name);
+        let hint = self.hints.hint(ending);
         if self.list.is_at(hint, name) {
             return Ok(hint);
         }
         let number = self.list.number(name)?;
-        self.hints.note(name, number as u32);
-        Ok(number)
-    }
-
-    /// The same, after which the name is among the recent ones.
-    #[inline(never)]
-    fn number_and_remember(&mut self, name: &str, short: ShortName) -> Result<usize, AllocError>
-        requires { bytes_of short ≡ name.now }
-        ensures number { IfOk result (λ n. n ≡ number_of self.old name.now) }
-        ensures ok { OnOk result (self.new ≡ with_name self.old name.now) }
-        ensures err { OnErr result (self.new ≡ self.old) }
-        ensures known { IsTrue (is_known self.old name.now) → IsOk result }
-        ensures within { IfOk result (λ n. n < most_names) }
-        ensures full { most_names ≤ length self.old → is_known self.old name.now ≡ false → IsErr result }
-    {
-        let number = self.list.number(name)?;
-        self.recent.remember(short, number as u32);
+        self.hints.note(ending, number);
         Ok(number)
     }
 
@@ -204,6 +195,16 @@ impl CachedNames {
             numbers.push(number)?;
         }
         Ok(numbers)
+    }
+}
+
+// A number for the last 16 bytes of a name, in which names of sites and locks differ most.
+fn ending_of(name: &str) -> u64 {
+    let bytes = name.as_bytes();
+    let start = bytes.len().saturating_sub(16);
+    match ShortName::of(&bytes[start..]) {
+        Some(end) => end.slot() as u64,
+        None => 0,
     }
 }
 

@@ -50,18 +50,9 @@ pub(crate) struct ShortName {
 }
 
 impl ShortName {
-    /// The name, if it is short.
-    #[inline(always)]
-    pub(crate) fn of(name: &str) -> Option<ShortName>
-        ensures bytes { IfSome result (λ short. bytes_of short ≡ name.now) }
-        ensures some { IfSome result (λ short. 0 < short.len) }
-    {
-        ShortName::of_bytes(name.as_bytes())
-    }
-
     /// The name of these bytes, if it is short.
     #[inline(always)]
-    pub(crate) fn of_bytes(bytes: &[u8]) -> Option<ShortName>
+    pub(crate) fn of(bytes: &[u8]) -> Option<ShortName>
         ensures bytes { IfSome result (λ short. bytes_of short ≡ bytes.now) }
         ensures some { IfSome result (λ short. 0 < short.len) }
     {

@@ -9,9 +9,8 @@ ghost use Rattle.er_triage.specs.Inner.Counting.{with_one_more, with_race, with_
 ghost use Rattle.er_triage.specs.Sound.{IsSound};
 
 use er_event::{Kind, PageRange, Site, ThreadId, Word};
-use er_report::{Line, Report, Reports};
+use er_report::{Line, Report, Reports, name_of};
 use er_rules::{Rule, Suppressions, WordSpan};
-use er_sites::name_of;
 use er_trace::Names;
 use std::alloc::{AllocError, Global};
 

@@ -23,7 +23,7 @@ use Rattle.er_model.specs.Answers.{answer_unless}
 use Rattle.er_model.proofs.Prefixes.{holdings-grow, holdings-empty}
 use Rattle.er_explain.specs.Racing.{is_race}
 use Rattle.er_order.specs.Order.{Act, Effect, Local, sync_of, act_unless, acts_of}
-use Rattle.er_order.specs.Clocks.{OfThread, clocks_after, clocks_at, own_count}
+use Rattle.er_order.specs.Clocks.{Clocks, OfThread, clocks_after, clocks_at}
 use Rattle.er_order.specs.Races.{order_answer, reuse_reply}
 use Rattle.er_order.specs.Reasons.{unordered_with, word_raced}
 use Rattle.er_order.proofs.Searches.{least-there}
@@ -38,9 +38,11 @@ use Rattle.er_held.specs.Held.{nothing_held}
 use Rattle.er_clock.specs.Clock.{Counts}
 use Rattle.er_clock.specs.Counts.{count_by}
 use Rattle.er_clock.specs.declared.clock.NoTick.{NoTick}
-use Rattle.er_clock.specs.declared.clock.NoTick.TheVariants.{ThreadsFull}
-use Rattle.er_clock.specs.Crowding.{crowds, crowds_by}
-use Rattle.er_clock.specs.Standing.{ClockMaps, counts, Moves, StandsForClocksOf, act_flows}
+use Rattle.er_clock.specs.declared.clock.NoTick.TheVariants.{Beyond}
+use Rattle.er_clock.specs.declared.clock.Limit.{Limit}
+use Rattle.er_clock.specs.declared.clock.Limit.TheVariants.{Threads}
+use Rattle.er_clock.specs.Crowding.{IsBeyond, crowds, crowds_by}
+use Rattle.er_clock.specs.Standing.{ClockMaps, counts, Moves, StandsForClocksOf}
 use Rattle.er_epochs.specs.Epochs.{Stored, IsStoredBy, is_raced, tag_found, tagged}
 use Rattle.er_epochs.specs.Standing.{Follows, IsStoredMoved, ServesFor, stored_at}
 use Rattle.er_epochs.specs.Words.{AllWords, stored_among, IsLowest}
@@ -49,7 +51,7 @@ use Rattle.er_epochs.proofs.FoundLemmas.{some_raced}
 use Rattle.er_epochs.proofs.ReasonLemmas.{reason-found, use-found}
 use Rattle.er_epochs.proofs.Serving.{clock}
 use Rattle.er_unordered.specs.declared.machine.OrderAnswer.{OrderAnswer}
-use Rattle.er_unordered.specs.Standing.{Ordered, holding, clock_of, stored_of, Stands, Changes, IsSame, HasFullCount, IsFullAfter, is_crowding, crowds_after, answered_by, holds_alone, names_none, reply_by, rival_by, use_found, word_used}
+use Rattle.er_unordered.specs.Standing.{Ordered, holding, clock_of, stored_of, Stands, Changes, IsSame, IsBeyondBy, IsBeyondAfter, is_crowding, crowds_after, answered_by, holds_alone, names_none, reply_by, rival_by, use_found, word_used}
 
 -- an accepted event
 module _ {A : Type 0} (before after : Ordered A) (tag : A) (t : ℕ) (e : Event) (accepted : refused_by (holding before t) e ≡ None) where
@@ -371,33 +373,23 @@ in-range w range b passes =
     let high = leb-true w range.hi (and_parts (nat_le range.lo w) (nat_le w range.hi) parts.0).1 in
     omega arith
 
--- a count that is full before a step is full after the list that the machine stands for
-pub full-after : {A : Type 0} (tags : ℕ → A) (before : Ordered A) (past : List Step) (step : Step) → Stands tags before past → HasFullCount before step → IsFullAfter past step
-unfolding own_count
-full-after tags before past step stands full = (
-  full.0,
-  ap (λ (o : Option Act). act_flows o full.0)
-      (act-step (past ++ step ∷ []) (length past) step (get_last past step)
-      ∙ ap (λ h. act_by h step) (held-front past (step ∷ []) step.thread (length past) (omega arith) ∙ sym (stands.held step.thread)))
-      ∙ full.1,
-  sym (stands.clocks (OfThread full.0) full.0) ∙ full.2,
-)
+-- the act of a step, by what the machine holds and behind the list that it stands for
+act-same : {A : Type 0} (tags : ℕ → A) (before : Ordered A) (past : List Step) (step : Step) → Stands tags before past → act_by (holding before step.thread) step ≡ acts_of (past ++ step ∷ []) (length past)
+act-same tags before past step stands =
+    ap (λ h. act_by h step) (stands.held step.thread ∙ sym (held-front past (step ∷ []) step.thread (length past) (omega arith)))
+    ∙ sym (act-step (past ++ step ∷ []) (length past) step (get_last past step))
 
--- the same of one for which there is no room
-crowds-same : {A : Type 0} (tags : ℕ → A) (before : Ordered A) (past : List Step) (step : Step) → Stands tags before past → is_crowding before step ≡ crowds_after past step
-crowds-same tags before past step stands =
-    ap crowds
-    (ap (λ h. act_by h step) (stands.held step.thread ∙ sym (held-front past (step ∷ []) step.thread (length past) (omega arith)))
-    ∙ sym (act-step (past ++ step ∷ []) (length past) step (get_last past step)))
-
-pub crowded-after : {A : Type 0} (tags : ℕ → A) (before : Ordered A) (past : List Step) (step : Step) → Stands tags before past → is_crowding before step ≡ true → crowds_after past step ≡ true
-crowded-after tags before past step stands crowded = sym (crowds-same tags before past step stands) ∙ crowded
+-- what may be beyond a limit before a step is so after the list
+pub beyond-after : {A : Type 0} (tags : ℕ → A) (before : Ordered A) (past : List Step) (step : Step) → Stands tags before past → (limit : Limit) → IsBeyondBy before step limit → IsBeyondAfter past step limit
+beyond-after tags before past step stands limit is =
+    subst (λ (o : Option Act). IsBeyond limit (clocks_at (acts_of past) (length past)) o) (act-same tags before past step stands)
+    (subst (λ (clocks : Clocks). IsBeyond limit clocks (act_by (holding before step.thread) step)) (fun_ext (λ k. fun_ext (λ u. stands.clocks k u))) is)
 
 pub room-after : {A : Type 0} (tags : ℕ → A) (before : Ordered A) (past : List Step) (step : Step) → Stands tags before past → is_crowding before step ≡ false → crowds_after past step ≡ false
-room-after tags before past step stands room = sym (crowds-same tags before past step stands) ∙ room
+room-after tags before past step stands room = ap crowds (sym (act-same tags before past step stands)) ∙ room
 
 -- what isn't refused for a crowd has room
-pub has_room : {T : Type 0} (r : Result T NoTick) (b : Bool) → (IsErrOf r ThreadsFull ↔ (b ≡ true)) → OnOk r (b ≡ false)
+pub has_room : {T : Type 0} (r : Result T NoTick) (b : Bool) → (IsErrOf r (Beyond Threads) ↔ (b ≡ true)) → OnOk r (b ≡ false)
 has_room (Ok v) true crowded = let never = crowded.1 refl in cc
 has_room (Ok v) false crowded = refl
 has_room (Err e) b crowded = tt

@@ -1,19 +1,18 @@
--- A count that is full at a step is full there whatever steps come behind it, so is a step that crowds, and an analyst goes on by a batch or stops in it.
-use Rattle.std.proofs.Common.{◌≡◌, ◌<◌, ◌+◌, ◌∙◌, ◌++◌, ◌||◌, ◌∷◌, [], ℕ, Bool, true, false, List, length, slice_get, length-append, take, drop, is_some, Option, Some, None, IfSome, refl, sym, ap, arith}
-use Rattle.std.proofs.lemmas.List.{take-append-drop, length-take-le}
+-- A step that may be beyond a limit is so whatever steps come behind it, and an analyst goes on by a batch or stops in it.
+use Rattle.std.proofs.Common.{◌≡◌, ◌<◌, ◌+◌, ◌∙◌, ◌++◌, ◌||◌, ◌∷◌, [], ℕ, Bool, true, false, List, length, slice_get, length-append, take, drop, is_some, Option, Some, None, IfSome, refl, sym, ap, subst, arith}
+use Rattle.std.proofs.lemmas.List.{take-append-drop}
 use Rattle.std.proofs.lemmas.List.Folds.{list_any-append}
-use Rattle.std.proofs.lemmas.Option.{slice_get_within}
 use Rattle.std.proofs.lemmas.List.Elements.{All-nil}
 use Rattle.er_batch.proofs.StepLemmas.{past-next}
 use Rattle.er_batch.specs.Analysts.{Asked}
-use Rattle.er_unordered.specs.Standing.{IsFullAfter, Ordered, Stands, crowds_after}
+use Rattle.er_unordered.specs.Standing.{IsBeyondAfter, Ordered, Stands}
 use Rattle.er_clock.specs.declared.clock.NoTick.{NoTick}
-use Rattle.er_clock.specs.declared.clock.NoTick.TheVariants.{CountFull, ThreadsFull, OutOfMemory}
+use Rattle.er_clock.specs.declared.clock.NoTick.TheVariants.{Beyond, OutOfMemory}
+use Rattle.er_clock.specs.declared.clock.Limit.{Limit}
 use Rattle.er_event.specs.declared.steps.Step.{Step}
-use Rattle.er_clock.specs.Crowding.{CrowdsIn, crowds}
-use Rattle.er_clock.specs.Standing.{act_flows}
+use Rattle.er_clock.specs.Crowding.{BeyondIn, IsBeyond}
 use Rattle.er_order.proofs.StepLemmas.{acts-front, clocks-front}
-use Rattle.er_order.specs.Clocks.{Clocks, OfThread, clocks_at, own_count}
+use Rattle.er_order.specs.Clocks.{Clocks, clocks_at}
 use Rattle.er_order.specs.Order.{Act, acts_of}
 use Rattle.er_explain.specs.Racing.{places_below}
 use Rattle.er_order.specs.Races.{order_answer}
@@ -27,75 +26,40 @@ use Rattle.er_unordered.specs.Inner.Reasons.{tag_at, told_at}
 use Rattle.er_unordered.specs.Ordered.{HasGatheredFor, HasOrdered, OrderRan}
 use Rattle.er_unordered.specs.Reports.{has_order, is_order}
 use Rattle.er_unordered.specs.declared.ordering.Machines.{Machines}
-use Rattle.er_unordered.specs.Stops.{IsStopIn, OverflowsIn}
+use Rattle.er_unordered.specs.Stops.{IsStopIn}
 
 -- more steps come behind
-pub overflows-on : (steps more : List Step) → OverflowsIn steps → OverflowsIn (steps ++ more)
-unfolding own_count
-overflows-on steps more is = record {
-  at = is.at;
-  within = (let low : is.at < length steps = is.within in omega (arith, length-append steps more));
-  thread = is.thread;
-  flows = (let low : is.at < length steps = is.within in ap (λ (o : Option Act). act_flows o is.thread) (acts-front steps more is.at low) ∙ is.flows);
-  full = (let low : is.at < length steps = is.within in
-      ap (λ (clocks : Clocks). clocks (OfThread is.thread) is.thread) (clocks-front steps more is.at (omega arith)) ∙ is.full);
-}
-
--- a count that is full behind the first n steps, and would rise at the next one
-pub full-here : (steps : List Step) (n : ℕ) (step : Step) → slice_get steps n ≡ Some step → IsFullAfter (take n steps) step → OverflowsIn steps
-unfolding own_count
-full-here steps n step here full =
-    let within : n < length steps = slice_get_within steps n step here in
-    let size : length (take n steps) ≡ n = length-take-le n steps (omega arith) in
-    let longer : length (take (n + 1) steps) ≡ n + 1 = length-take-le (n + 1) steps (omega arith) in
+pub beyond-on : (limit : Limit) (steps more : List Step) → BeyondIn limit steps → BeyondIn limit (steps ++ more)
+beyond-on limit steps more is =
+    let low : is.at < length steps = is.within in
     record {
-      at = n;
-      within = within;
-      thread = full.0;
-      flows = ap (λ (s : List Step). act_flows (acts_of s n) full.0) (sym (take-append-drop (n + 1) steps))
-          ∙ ap (λ (o : Option Act). act_flows o full.0) (acts-front (take (n + 1) steps) (drop (n + 1) steps) n (omega (arith, longer)))
-          ∙ ap (λ (s : List Step). act_flows (acts_of s n) full.0) (sym (past-next steps n step here))
-          ∙ ap (λ (k : ℕ). act_flows (acts_of (take n steps ++ step ∷ []) k) full.0) (sym size)
-          ∙ full.1;
-      full = ap (λ (s : List Step). clocks_at (acts_of s) n (OfThread full.0) full.0) (sym (take-append-drop n steps))
-          ∙ (ap (λ (clocks : Clocks). clocks (OfThread full.0) full.0) (clocks-front (take n steps) (drop n steps) n (omega (arith, size)))
-          ∙ (ap (λ (k : ℕ). clocks_at (acts_of (take n steps)) k (OfThread full.0) full.0) (sym size) ∙ full.2));
+      at = is.at;
+      within = omega (arith, low, length-append steps more);
+      beyond = subst (λ (o : Option Act). IsBeyond limit (clocks_at (acts_of (steps ++ more)) is.at) o) (sym (acts-front steps more is.at low))
+          (subst (λ (clocks : Clocks). IsBeyond limit clocks (acts_of steps is.at)) (sym (clocks-front steps more is.at (omega (arith, low)))) is.beyond);
     }
 
--- more steps come behind
-pub crowds-on : (steps more : List Step) → CrowdsIn steps → CrowdsIn (steps ++ more)
-crowds-on steps more is = record {
-  at = is.at;
-  within = (let low : is.at < length steps = is.within in omega (arith, length-append steps more));
-  full = (let low : is.at < length steps = is.within in ap crowds (acts-front steps more is.at low) ∙ is.full);
-}
-
--- the next step behind the first n orders a thread that clocks have no room for
-pub crowds-here : (steps : List Step) (n : ℕ) (step : Step) → slice_get steps n ≡ Some step → crowds_after (take n steps) step ≡ true → CrowdsIn steps
-crowds-here steps n step here full =
-    let within : n < length steps = slice_get_within steps n step here in
-    let size : length (take n steps) ≡ n = length-take-le n steps (omega arith) in
-    let longer : length (take (n + 1) steps) ≡ n + 1 = length-take-le (n + 1) steps (omega arith) in
-    record {
-      at = n;
-      within = within;
-      full = ap (λ (s : List Step). crowds (acts_of s n)) (sym (take-append-drop (n + 1) steps))
-          ∙ ap crowds (acts-front (take (n + 1) steps) (drop (n + 1) steps) n (omega (arith, longer)))
-          ∙ ap (λ (s : List Step). crowds (acts_of s n)) (sym (past-next steps n step here))
-          ∙ ap (λ (k : ℕ). crowds (acts_of (take n steps ++ step ∷ []) k)) (sym size)
-          ∙ full;
+-- a step that may be beyond a limit behind the first n steps
+pub beyond-here : (limit : Limit) (steps : List Step) (n : ℕ) (step : Step) → slice_get steps n ≡ Some step → IsBeyondAfter (take n steps) step limit → BeyondIn limit steps
+beyond-here limit steps n step here is =
+    subst (λ (s : List Step). BeyondIn limit s) (take-append-drop (n + 1) steps)
+    (beyond-on limit (take (n + 1) steps) (drop (n + 1) steps) (subst (λ (s : List Step). BeyondIn limit s) (past-next steps n step here) (next (take n steps) is)))
+  where
+    next : (past : List Step) → IsBeyondAfter past step limit → BeyondIn limit (past ++ step ∷ [])
+    next past is = record {
+      at = length past;
+      within = omega (arith, length-append past (step ∷ []));
+      beyond = subst (λ (clocks : Clocks). IsBeyond limit clocks (acts_of (past ++ step ∷ []) (length past))) (sym (clocks-front past (step ∷ []) (length past) (omega arith))) is;
     }
 
 -- why a step isn't answered
-pub stop-by : (steps : List Step) (why : NoTick) → (why ≡ CountFull → OverflowsIn steps) → (why ≡ ThreadsFull → CrowdsIn steps) → IsStopIn steps why
-stop-by steps CountFull full crowd = full refl
-stop-by steps ThreadsFull full crowd = crowd refl
-stop-by steps OutOfMemory full crowd = tt
+pub stop-by : (steps : List Step) (why : NoTick) → ((limit : Limit) → why ≡ Beyond limit → BeyondIn limit steps) → IsStopIn steps why
+stop-by steps (Beyond limit) beyond = beyond limit refl
+stop-by steps OutOfMemory beyond = tt
 
 -- why one of the steps can't be answered stays so
 pub stop-on : (steps more : List Step) (why : NoTick) → IsStopIn steps why → IsStopIn (steps ++ more) why
-stop-on steps more CountFull is = overflows-on steps more is
-stop-on steps more ThreadsFull is = crowds-on steps more is
+stop-on steps more (Beyond limit) is = beyond-on limit steps more is
 stop-on steps more OutOfMemory is = tt
 
 -- before any step

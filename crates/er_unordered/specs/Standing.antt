@@ -13,12 +13,13 @@ use Rattle.er_model.specs.Holdings.{Holdings, refused_by, after_step, holdings_a
 use Rattle.er_model.specs.Answers.{answer_unless}
 use Rattle.er_model.specs.Following.{marked}
 use Rattle.er_held.specs.ThreadLocks.{holding_among}
-use Rattle.er_order.specs.Clocks.{OfThread, own_count}
+use Rattle.er_order.specs.Clocks.{OfThread, clocks_at}
 use Rattle.er_order.specs.Order.{acts_of}
 use Rattle.er_order.specs.Races.{reuse_reply}
 use Rattle.er_order.specs.Following.{act_by}
-use Rattle.er_clock.specs.Crowding.{crowds}
-use Rattle.er_clock.specs.Standing.{ClockMaps, counts, SameCounts, Moves, StandsForClocksOf, act_flows}
+use Rattle.er_clock.specs.Crowding.{IsBeyond, crowds}
+use Rattle.er_clock.specs.Standing.{ClockMaps, counts, SameCounts, Moves, StandsForClocksOf}
+use Rattle.er_clock.specs.declared.clock.Limit.{Limit}
 use Rattle.er_epochs.specs.Epochs.{Stored, is_raced, tag_found}
 use Rattle.er_epochs.specs.Standing.{Follows, IsStoredMoved}
 use Rattle.er_epochs.specs.Words.{AllWords, stored_among}
@@ -57,13 +58,13 @@ wants_nothing h (Show w) = true
 wants_nothing h IgnoreOff = true
 wants_nothing h _ = false
 
--- the step makes the clock of a thread flow into another one, and that thread's own count is the greatest
-abbrev pub HasFullCount : {A : Type 0} → Ordered A → Step → Type 0
-HasFullCount machine step = (t : ℕ) × IsTrue (act_flows (act_by (holding machine step.thread) step) t) × (clock_of machine t t ≡ 2 ^ 32 - 1)
+-- the step may be beyond the limit of the clocks
+abbrev pub IsBeyondBy : {A : Type 0} → Ordered A → Step → Limit → Type 0
+IsBeyondBy machine step limit = IsBeyond limit (counts machine.clocks) (act_by (holding machine step.thread) step)
 
 -- the same of a step that comes after the list
-abbrev pub IsFullAfter : List Step → Step → Type 0
-IsFullAfter steps step = (t : ℕ) × IsTrue (act_flows (acts_of (steps ++ step ∷ []) (length steps)) t) × (own_count (acts_of steps) (length steps) t ≡ 2 ^ 32 - 1)
+abbrev pub IsBeyondAfter : List Step → Step → Limit → Type 0
+IsBeyondAfter steps step limit = IsBeyond limit (clocks_at (acts_of steps) (length steps)) (acts_of (steps ++ step ∷ []) (length steps))
 
 -- the step does to the order what clocks have no room for
 abbrev pub is_crowding : {A : Type 0} → Ordered A → Step → Bool

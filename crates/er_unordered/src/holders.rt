@@ -6,10 +6,9 @@ ghost use Rattle.er_held.specs.Held.{nothing_held};
 ghost use Rattle.er_held.specs.ThreadLocks.{holding_among};
 
 use er_clock::Hints;
-use er_epochs::index_of;
 use er_event::{Event, LockId, Mode, Refusal, ThreadId};
 use er_held::Held;
-use er_keys::{HashKeys, NumberHasher};
+use er_keys::{HashKeys, NumberHasher, index_of};
 use indexmap::IndexMap;
 use std::alloc::{AllocError, Global};
 use std::marker::Model;

@@ -3,6 +3,7 @@ ghost use Rattle.std.specs.Prelude.{◌≡◌, ◌<◌, ℕ, List, ◌++◌, ◌
 ghost use Rattle.std.specs.Option.{option_map};
 ghost use Rattle.er_model.specs.Holdings.{refused_by, holdings_end};
 ghost use Rattle.er_event.specs.declared.steps.Step.{Step as Steps};
+ghost use Rattle.er_clock.specs.declared.clock.Limit.{Limit as Limits};
 ghost use Rattle.er_explain.specs.Racing.{is_race};
 ghost use Rattle.er_order.specs.Races.{order_answer, reuse_reply};
 ghost use Rattle.er_order.specs.Reasons.{unordered_with};
@@ -46,7 +47,7 @@ impl<A> Model for OrderMachine<A> {
 }
 
 impl<A: Copy> OrderMachine<A> {
-    ghost use Rattle.er_unordered.specs.Standing.{Stands, Changes, IsSame, HasFullCount, IsFullAfter, is_crowding, crowds_after, wants_nothing, holding, answered_by, holds_alone, names_none};
+    ghost use Rattle.er_unordered.specs.Standing.{Stands, Changes, IsSame, IsBeyondBy, IsBeyondAfter, crowds_after, wants_nothing, holding, answered_by, holds_alone, names_none};
 
     /// A machine that has taken no step, and finds each word and each thread by these keys. Whoever knows them can make it slow.
     pub fn keyed(alloc: Global, keys: HashKeys) -> Self
@@ -62,16 +63,14 @@ impl<A: Copy> OrderMachine<A> {
     /// Takes one step and says what it is answered: a reply, or why it is refused. An access gets the tag.
     ///
     /// # Errors
-    /// `CountFull`: a thread's own count would rise, and is the greatest, 2^32 - 1. `ThreadsFull`: a step that orders threads is by a
-    /// thread whose number is 65,536 or more, or starts or joins one. `OutOfMemory`: memory was refused. The step may be tried again. A
-    /// refused step has none of these, nor has an access inside a bracket, a reuse, a show or the end of a bracket.
+    /// `Beyond`: the step is beyond a limit of the clocks, as [`Clocks::follow`] says. `OutOfMemory`: memory was refused. The step may be tried
+    /// again. A refused step has none of these, nor has an access inside a bracket, a reuse, a show or the end of a bracket.
     pub fn step(&mut self, step: &Step, tag: A) -> Result<OrderAnswer<A>, NoTick>
         ensures answer { (past : List Steps) (tags : ℕ → A) → Stands tags self.old past
             → IfOk result (λ answer. answer.reply ≡ order_answer (past ++ step.now ∷ []) (length past)) }
         ensures goes_on { (past : List Steps) (tags : ℕ → A) → Stands tags self.old past → tags (length past) ≡ tag → OnOk result (Stands tags self.new (past ++ step.now ∷ [])) }
         ensures err { (past : List Steps) (tags : ℕ → A) → Stands tags self.old past → OnErr result (Stands tags self.new past) }
-        ensures full { (past : List Steps) (tags : ℕ → A) → Stands tags self.old past → IsErrOf result NoTick.CountFull → IsFullAfter past step.now }
-        ensures threads { (past : List Steps) (tags : ℕ → A) → Stands tags self.old past → IsErrOf result NoTick.ThreadsFull → IsTrue (crowds_after past step.now) }
+        ensures limit { (past : List Steps) (tags : ℕ → A) → Stands tags self.old past → (limit : Limits) → IsErrOf result (NoTick.Beyond limit) → IsBeyondAfter past step.now limit }
         ensures room { (past : List Steps) (tags : ℕ → A) → Stands tags self.old past → IsOk result → crowds_after past step.now ≡ false }
 
         // A race names the access that it is unordered with, and nothing else names one.
@@ -87,8 +86,7 @@ impl<A: Copy> OrderMachine<A> {
         ensures answered { IfOk result (λ answer. answer ≡ answered_by self.old step.now) }
         ensures changes { OnOk result (Changes self.old step.now tag self.new) }
         ensures same { OnErr result (IsSame self.old self.new) }
-        ensures full_count { IsErrOf result NoTick.CountFull → HasFullCount self.old step.now }
-        ensures crowded { IsErrOf result NoTick.ThreadsFull → IsTrue (is_crowding self.old step.now) }
+        ensures beyond { (limit : Limits) → IsErrOf result (NoTick.Beyond limit) → IsBeyondBy self.old step.now limit }
     {
         self.take(step.thread, step.event, tag)
     }
@@ -129,8 +127,7 @@ impl<A: Copy> OrderMachine<A> {
         ensures same { OnErr result (IsSame self.old self.new) }
         ensures refused { (why : Refusal) → refused_by (holding self.old thread) event ≡ Some why → result ≡ Ok (record { reply = Err why; rival = None }) }
         ensures free { IsTrue (wants_nothing (holding self.old thread) event) → IsOk result }
-        ensures full { IsErrOf result NoTick.CountFull → HasFullCount self.old (record { thread = thread; event = event }) }
-        ensures crowded { IsErrOf result NoTick.ThreadsFull → IsTrue (is_crowding self.old (record { thread = thread; event = event })) }
+        ensures limit { (limit : Limits) → IsErrOf result (NoTick.Beyond limit) → IsBeyondBy self.old (record { thread = thread; event = event }) limit }
     {
         match event {
             Event::Access(kind, word, _) => self.access(thread, kind, word, tag),
@@ -151,8 +148,7 @@ impl<A: Copy> OrderMachine<A> {
         ensures same { OnErr result (IsSame self.old self.new) }
         ensures refused { (why : Refusal) → refused_by (holding self.old thread) event ≡ Some why → result ≡ Ok (record { reply = Err why; rival = None }) }
         ensures free { IsTrue (wants_nothing (holding self.old thread) event) → IsOk result }
-        ensures full { IsErrOf result NoTick.CountFull → HasFullCount self.old (record { thread = thread; event = event }) }
-        ensures crowded { IsErrOf result NoTick.ThreadsFull → IsTrue (is_crowding self.old (record { thread = thread; event = event })) }
+        ensures limit { (limit : Limits) → IsErrOf result (NoTick.Beyond limit) → IsBeyondBy self.old (record { thread = thread; event = event }) limit }
     {
         if let Some(why) = self.holders.refusal(thread, &event) {
             return Ok(OrderAnswer {
@@ -171,8 +167,7 @@ impl<A: Copy> OrderMachine<A> {
         ensures changes { (tag : A) → OnOk result (Changes self.old (record { thread = thread; event = event }) tag self.new) }
         ensures same { OnErr result (IsSame self.old self.new) }
         ensures free { IsTrue (wants_nothing (holding self.old thread) event) → IsOk result }
-        ensures full { IsErrOf result NoTick.CountFull → HasFullCount self.old (record { thread = thread; event = event }) }
-        ensures crowded { IsErrOf result NoTick.ThreadsFull → IsTrue (is_crowding self.old (record { thread = thread; event = event })) }
+        ensures limit { (limit : Limits) → IsErrOf result (NoTick.Beyond limit) → IsBeyondBy self.old (record { thread = thread; event = event }) limit }
     {
         match event {
             Event::Acquire(lock, mode) => self.acquire(thread, lock, mode),
@@ -199,8 +194,7 @@ impl<A: Copy> OrderMachine<A> {
         ensures changes { OnOk result (Changes self.old (record { thread = thread; event = Event.Access kind word 0 }) tag self.new) }
         ensures same { OnErr result (IsSame self.old self.new) }
         ensures free { 0 < (holding self.old thread).depth → IsOk result }
-        ensures full { IsErrOf result NoTick.CountFull → ⊥ }
-        ensures crowded { IsErrOf result NoTick.ThreadsFull → ⊥ }
+        ensures limit { (limit : Limits) → IsErrOf result (NoTick.Beyond limit) → ⊥ }
     {
         if self.holders.get(thread).ignoring() {
             return Ok(answer(None, Reply::Ignored));
@@ -226,8 +220,7 @@ impl<A: Copy> OrderMachine<A> {
         requires { refused_by (holding self.old thread) (Event.Acquire lock mode) ≡ None }
         ensures changes { (tag : A) → OnOk result (Changes self.old (record { thread = thread; event = Event.Acquire lock mode }) tag self.new) }
         ensures same { OnErr result (IsSame self.old self.new) }
-        ensures full { IsErrOf result NoTick.CountFull → HasFullCount self.old (record { thread = thread; event = Event.Acquire lock mode }) }
-        ensures crowded { IsErrOf result NoTick.ThreadsFull → IsTrue (is_crowding self.old (record { thread = thread; event = Event.Acquire lock mode })) }
+        ensures limit { (limit : Limits) → IsErrOf result (NoTick.Beyond limit) → IsBeyondBy self.old (record { thread = thread; event = Event.Acquire lock mode }) limit }
     {
         self.holders.change(thread, Event::Acquire(lock, mode))?;
         let step = Step {
@@ -248,8 +241,7 @@ impl<A: Copy> OrderMachine<A> {
         requires { refused_by (holding self.old thread) (Event.Release lock mode) ≡ None }
         ensures changes { (tag : A) → OnOk result (Changes self.old (record { thread = thread; event = Event.Release lock mode }) tag self.new) }
         ensures same { OnErr result (IsSame self.old self.new) }
-        ensures full { IsErrOf result NoTick.CountFull → HasFullCount self.old (record { thread = thread; event = Event.Release lock mode }) }
-        ensures crowded { IsErrOf result NoTick.ThreadsFull → IsTrue (is_crowding self.old (record { thread = thread; event = Event.Release lock mode })) }
+        ensures limit { (limit : Limits) → IsErrOf result (NoTick.Beyond limit) → IsBeyondBy self.old (record { thread = thread; event = Event.Release lock mode }) limit }
     {
         let step = Step {
             thread,
@@ -268,8 +260,7 @@ impl<A: Copy> OrderMachine<A> {
     fn synchronize(&mut self, thread: ThreadId, sync: Sync) -> Result<(), NoTick>
         ensures changes { (tag : A) → OnOk result (Changes self.old (record { thread = thread; event = Event.Sync sync }) tag self.new) }
         ensures same { OnErr result (IsSame self.old self.new) }
-        ensures full { IsErrOf result NoTick.CountFull → HasFullCount self.old (record { thread = thread; event = Event.Sync sync }) }
-        ensures crowded { IsErrOf result NoTick.ThreadsFull → IsTrue (is_crowding self.old (record { thread = thread; event = Event.Sync sync })) }
+        ensures limit { (limit : Limits) → IsErrOf result (NoTick.Beyond limit) → IsBeyondBy self.old (record { thread = thread; event = Event.Sync sync }) limit }
     {
         let step = Step {
             thread,
@@ -285,8 +276,7 @@ impl<A: Copy> OrderMachine<A> {
         ensures changes { (tag : A) → OnOk result (Changes self.old (record { thread = thread; event = event }) tag self.new) }
         ensures same { OnErr result (IsSame self.old self.new) }
         ensures free { event ≡ Event.IgnoreOff → IsOk result }
-        ensures full { IsErrOf result NoTick.CountFull → ⊥ }
-        ensures crowded { IsErrOf result NoTick.ThreadsFull → ⊥ }
+        ensures limit { (limit : Limits) → IsErrOf result (NoTick.Beyond limit) → ⊥ }
     {
         self.holders.change(thread, event)?;
         Ok(())

@@ -4,7 +4,7 @@ use Rattle.std.specs.Io.KnownBytes.{Appends, Keeps}
 use Rattle.er_exit.specs.declared.faults.Fault.{Fault}
 use Rattle.er_exit.specs.declared.faults.Fault.TheVariants as fault
 use Rattle.er_forms.specs.Forms.{IsForm}
-use Rattle.er_html.specs.declared.excerpts.Excerpt.{Excerpt}
+use Rattle.er_forms.specs.declared.excerpts.Excerpt.{Excerpt}
 use Rattle.er_parallel.specs.declared.faults.ReplayFault.TheVariants as replaying
 use Rattle.er_places.specs.Places.{PlaceTable}
 use Rattle.er_print.specs.Written.{WritesReport}
@@ -142,7 +142,6 @@ failed-before X read write why failed unfailed = subst (λ (w : Bool). FailsFor 
     by_case (running.Replay replaying.TableFull) failed = failed
     by_case (running.Replay replaying.WorkerNotStarted) failed = failed
     by_case (running.Replay replaying.WorkerLost) failed = failed
-    by_case running.CountFull failed = failed
-    by_case running.ThreadsFull failed = failed
+    by_case (running.Beyond limit) failed = failed
     by_case running.Memory failed = failed
     by_case (running.Damaged damage) failed = failed

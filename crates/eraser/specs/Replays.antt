@@ -11,7 +11,7 @@ use Rattle.er_exit.specs.Writes.{GetsLine}
 use Rattle.er_exit.specs.declared.faults.Fault.{Fault}
 use Rattle.er_exit.specs.declared.faults.Fault.TheVariants as fault
 use Rattle.er_forms.specs.Forms.{IsForm}
-use Rattle.er_html.specs.declared.excerpts.Excerpt.{Excerpt}
+use Rattle.er_forms.specs.declared.excerpts.Excerpt.{Excerpt}
 use Rattle.er_places.specs.Places.{ArePlaces, PlaceTable, place_at}
 use Rattle.er_places.specs.Wanted.{are_asked}
 use Rattle.er_report.specs.declared.report.Report.{Report}

@@ -13,16 +13,12 @@ use std::io::Write;
 use std::rt::Files;
 
 /// Writes the line of a fault, and returns its status. What helps people follows if it is asked for, as far as it is known.
-pub(crate) fn report_replay_fault<R, E>(
+pub(crate) fn report_replay_fault<R: Files + AllocGlobal, E: Write>(
     rt: &R,
     replay: &Replay<'_>,
     fault: Fault,
     errors: &mut Device<E>,
 ) -> u8
-where
-    R: Files + AllocGlobal,
-    E: Write,
-    requires { has_failed errors.old ≡ false }
     ensures status { result ≡ fault_status fault }
     ensures line { replay.now.hints ≡ false → GetsLine (E.contents (inner_of errors.old)) (E.contents (inner_of errors.new)) (fault_line fault) (has_failed errors.new) }
 {
@@ -38,21 +34,9 @@ where
 // What a fault has to do with a file whose path is known, if it has.
 fn trouble_of<'a, R: Files>(rt: &R, replay: &Replay<'a>, fault: Fault) -> Option<Trouble<'a>> {
     let lost = match fault {
-        Fault::Text(fault) => {
-            let path = trace_path(replay);
-            return Some(Trouble::Text {
-                path,
-                of_rules: false,
-                fault,
-            });
-        }
+        Fault::Text(fault) => return Some(Trouble::Trace(trace_path(replay), fault)),
         Fault::Suppressions(file, fault) => {
-            let path = rules_path(replay, file);
-            return Some(Trouble::Text {
-                path,
-                of_rules: true,
-                fault,
-            });
+            return Some(Trouble::Rules(rules_path(replay, file), fault));
         }
         Fault::OpenTrace => replay.trace,
         Fault::OpenSuppressions(file) => rules_path(replay, file)?,
@@ -66,10 +50,7 @@ fn trouble_of<'a, R: Files>(rt: &R, replay: &Replay<'a>, fault: Fault) -> Option
 
 /// The path of the trace, if it isn't the standard input.
 pub(crate) fn trace_path<'a>(replay: &Replay<'a>) -> Option<&'a str> {
-    if replay.trace == "-" {
-        return None;
-    }
-    Some(replay.trace)
+    (replay.trace != "-").then_some(replay.trace)
 }
 
 // The path of a file of rules, by its number from 1, or of the only one.

@@ -14,7 +14,7 @@ use crate::advice::trace_path;
 use crate::meter::Meter;
 use crate::notes::notes_of;
 use crate::replaying::{Ended, Job};
-use crate::rules::suppressions_of;
+use crate::rules::rules_of;
 use crate::stories::explain_step;
 use crate::until::{Cut, cut_by, replay_trace, report_cut};
 use clap::error::ErrorKind;
@@ -52,7 +52,6 @@ where
     P: Write,
     requires input { has_failed input.old ≡ false }
     requires output { has_failed output.old ≡ false }
-    requires errors { has_failed errors.old ≡ false }
     ensures status { result ≤ 4 }
 
     // `replay -` has written the report that the definitions give of the input's text, and its status says whether the report has a race or
@@ -82,11 +81,8 @@ where
         }
         Ok(Request::Demo(demo)) => {
             let workload = Workload::ALL[demo.place];
-            end(
-                rt.alloc(),
-                run_demo(rt, rt.alloc(), workload, output),
-                errors,
-            )
+            let made = run_demo(rt, rt.alloc(), workload, output);
+            end(rt.alloc(), made, errors)
         }
         Err(error) => {
             let status = refused(rt.alloc(), &error, output, errors);
@@ -138,7 +134,7 @@ where
     ensures unwatched { replay.now.progress ≡ false → Keeps (P.contents (inner_of progress.old)) (P.contents (inner_of progress.new)) }
 {
     let options = options_of(replay, keys_from(rt));
-    let suppressions = match suppressions_of(rt, &replay.suppressions, options.byte_limit) {
+    let suppressions = match rules_of(rt, &replay.suppressions, options.byte_limit) {
         Ok(suppressions) => suppressions,
         Err(fault) => return Err(cut_by(rt.alloc(), fault)),
     };
@@ -157,16 +153,12 @@ where
 }
 
 // Writes the notes of a replay, or its fault and what helps people.
-fn end_replay<R, E>(
+fn end_replay<R: Files + AllocGlobal, E: Write>(
     rt: &R,
     replay: &Replay<'_>,
     replayed: Result<Ended, Cut>,
     errors: &mut Device<E>,
 ) -> u8
-where
-    R: Files + AllocGlobal,
-    E: Write,
-    requires errors { has_failed errors.old ≡ false }
     requires notes { IfOk replayed (λ ended. AreNotes ended.notes.items) }
     ensures status { IfOk replayed (λ ended. ended.status ≤ 4) → result ≤ 4 }
     ensures usual { (text : List ℕ) (read written : Bool) (old new : Option (List ℕ)) → EndsUsually text read written old new replayed → ComesTo replay.now.hints text read written old new (E.contents (inner_of errors.old)) (E.contents (inner_of errors.new)) (has_failed errors.new) result }
@@ -186,7 +178,6 @@ where
 
 // Ends a story or a demo: with its status, or with its fault.
 fn end<E: Write>(alloc: Global, ended: Result<u8, Fault>, errors: &mut Device<E>) -> u8
-    requires errors { has_failed errors.old ≡ false }
     ensures given { IfOk ended (λ status. result ≡ status) }
     ensures status { IfOk ended (λ status. status ≤ 1) → result ≤ 4 }
     ensures quiet { result ≤ 1 → Keeps (E.contents (inner_of errors.old)) (E.contents (inner_of errors.new)) }
@@ -200,7 +191,6 @@ fn end<E: Write>(alloc: Global, ended: Result<u8, Fault>, errors: &mut Device<E>
 
 // Writes the notes, for people more of them, and returns the status.
 fn note<E: Write>(alloc: Global, ended: Ended, hints: bool, errors: &mut Device<E>) -> u8
-    requires errors { has_failed errors.old ≡ false }
     requires notes { AreNotes ended.notes.items }
     ensures status { result ≡ ended.status }
     ensures notes { GetsNotes hints (E.contents (inner_of errors.old)) (E.contents (inner_of errors.new)) (has_failed errors.new) }
@@ -236,7 +226,6 @@ fn refused<O: Write, E: Write>(
     errors: &mut Device<E>,
 ) -> u8
     requires output { has_failed output.old ≡ false }
-    requires errors { has_failed errors.old ≡ false }
     ensures status { result ≤ 4 }
     ensures quiet { result ≤ 1 → Keeps (E.contents (inner_of errors.old)) (E.contents (inner_of errors.new)) }
     ensures written { result ≤ 1 → has_failed output.new ≡ false }

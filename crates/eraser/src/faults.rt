@@ -20,8 +20,7 @@ pub(crate) fn fault_of(fault: RunFault) -> Fault
         RunFault::Replay(ReplayFault::TableFull) => Fault::TableFull,
         RunFault::Replay(ReplayFault::WorkerNotStarted) => Fault::WorkerNotStarted,
         RunFault::Replay(ReplayFault::WorkerLost) => Fault::WorkerLost,
-        RunFault::CountFull => Fault::CountFull,
-        RunFault::ThreadsFull => Fault::ThreadsFull,
+        RunFault::Beyond(limit) => Fault::Beyond(limit),
         RunFault::Damaged(damage) => Fault::Damaged(damage),
     }
 }

@@ -2,6 +2,7 @@
 //!
 //! The clock is here and nowhere below, so a replay can't depend on it.
 use er_device::Device;
+use er_exit::put;
 use er_run::{Progress, Watch};
 use std::alloc::AllocError;
 use std::io::Write;
@@ -41,7 +42,7 @@ impl<'a, R: Clock + AllocGlobal, P: Write> Meter<'a, R, P> {
         writer: Option<&'a mut Device<P>>,
         on_one_line: bool,
         size: Option<u64>,
-    ) -> Meter<'a, R, P> {
+    ) -> Self {
         Meter {
             rt,
             writer,
@@ -56,34 +57,27 @@ impl<'a, R: Clock + AllocGlobal, P: Write> Meter<'a, R, P> {
 
     // How many milliseconds the replay has taken. None if the clock can't be read.
     fn millis(&self) -> Option<u128> {
-        let start = self.start?;
-        let taken: Duration = start.elapsed(self.rt).ok()?;
+        let taken: Duration = self.start?.elapsed(self.rt).ok()?;
         Some(taken.as_millis())
     }
 
     // Writes the line of this moment. If there is no memory for it, or a write has failed, there is no line.
     fn show(&mut self, progress: Progress, millis: u128) {
         self.unshown = None;
-        let Ok(line) = self.line_of(progress, millis) else {
-            return;
-        };
-        self.write(line.as_bytes());
-        self.has_line = true;
+        if let Ok(line) = self.line_of(progress, millis) {
+            self.write(line.as_bytes());
+            self.has_line = true;
+        }
     }
 
     // How far a replay has come after so many milliseconds, in words. On one line it takes the place of what stands there.
     fn line_of(&self, progress: Progress, millis: u128) -> Result<String, AllocError> {
-        let Progress {
-            bytes,
-            steps,
-            races,
-        } = progress;
+        let (bytes, steps, races) = (progress.bytes, progress.steps, progress.races);
         let rate = u128::from(steps) * 1000 / millis.max(1);
         let share = self.share_of(bytes)?;
-        let (front, back) = if self.on_one_line {
-            ("\r", "\x1b[K")
-        } else {
-            ("", "\n")
+        let (front, back) = match self.on_one_line {
+            true => ("\r", "\x1b[K"),
+            false => ("", "\n"),
         };
         format!(in self.rt.alloc();
             "{front}progress: {bytes} bytes, {steps} steps, {rate} steps a second, {races} races{share}{back}"
@@ -101,11 +95,10 @@ impl<'a, R: Clock + AllocGlobal, P: Write> Meter<'a, R, P> {
         }
     }
 
+    // Writes these bytes, unless a write has failed.
     fn write(&mut self, bytes: &[u8]) {
-        if let Some(writer) = &mut self.writer
-            && !writer.failed()
-        {
-            let _ = writer.write_all(bytes);
+        if let Some(writer) = &mut self.writer {
+            put(writer, bytes);
         }
     }
 }

@@ -5,17 +5,14 @@ ghost use Rattle.eraser.specs.Replays.{AreOptionsOf, MayHavePlaces, shows_places
 
 use crate::replaying::Job;
 use er_device::Device;
-use er_exit::size_of;
+use er_exit::open_ordinary;
 use er_places::{Places, places_of_reports};
 use er_report::{Form, Reports};
 use er_request::Replay;
-use std::fs::File;
 use std::rt::Files;
 
 /// The places of the accesses that the reports' reasons name. None is known if they aren't shown, and if the trace can't be read again.
-pub(crate) fn places_of<R>(rt: &R, job: Job<'_>, reports: &Reports) -> Places
-where
-    R: Files + AllocGlobal,
+pub(crate) fn places_of<R: Files + AllocGlobal>(rt: &R, job: Job<'_>, reports: &Reports) -> Places
     ensures { AreOptionsOf job.entry.replay.now job.entry.options.now → MayHavePlaces R.File.remaining job.entry.replay.now reports.now result }
 {
     let alloc = rt.alloc();
@@ -36,13 +33,11 @@ fn open_again<R: Files>(rt: &R, replay: &Replay<'_>) -> Option<Device<R::File>>
     ensures open { IfSome result (λ again. has_failed again ≡ false) }
     ensures shown { IfSome result (λ again. shows_places replay.now ≡ true) }
 {
-    if !shows_places(replay) || size_of(rt, replay.trace).is_none() {
+    if !shows_places(replay) {
         return None;
     }
-    match File::open(rt, replay.trace) {
-        Ok(file) => Some(Device::new(file)),
-        Err(_) => None,
-    }
+    let file = open_ordinary(rt, replay.trace)?;
+    Some(Device::new(file))
 }
 
 // Whether places are shown, and the trace may be a file that is read whole.

@@ -78,15 +78,8 @@ where
     ensures nothing { IfErr result (LeavesOutput (O.contents (inner_of output.old)) (O.contents (inner_of output.new))) }
     ensures failed { FailsBy (has_failed source.new) (has_failed output.new) result }
 {
-    match replay_reports(
-        rt,
-        rt.alloc(),
-        source,
-        job.suppressions,
-        job.options,
-        job.replay.analysis,
-        watcher,
-    ) {
+    let (rules, options, analysis) = (job.suppressions, job.options, job.replay.analysis);
+    match replay_reports(rt, rt.alloc(), source, rules, options, analysis, watcher) {
         Ok(
             ReplayedTrace {
                 reports,
@@ -104,7 +97,7 @@ where
 }
 
 // Writes the reports of a trace as they are asked for, and then the file of rules.
-fn deliver<R, O>(
+fn deliver<R: Files + AllocGlobal, O: Write>(
     rt: &R,
     job: Job<'_>,
     reports: Reports,
@@ -113,9 +106,6 @@ fn deliver<R, O>(
     has_order: bool,
     output: &mut Device<O>,
 ) -> Result<Ended, Fault>
-where
-    R: Files + AllocGlobal,
-    O: Write,
     requires output { has_failed output.old ≡ false }
     requires named { HaveNames names.now reports }
     requires locks { is_some reports.lockset ≡ asks_locks job.replay.now.analysis }
@@ -161,16 +151,13 @@ fn unordered_of(reports: &Reports, has_order: bool) -> u64
 }
 
 // Writes the reports in the form that is asked for, with the places and the lines of source files that are shown and found.
-fn write_reports<R, O>(
+fn write_reports<R: Files + AllocGlobal, O: Write>(
     rt: &R,
     job: Job<'_>,
     reports: &Reports,
     names: &Names,
     output: &mut Device<O>,
 ) -> Result<(), Fault>
-where
-    R: Files + AllocGlobal,
-    O: Write,
     requires output { has_failed output.old ≡ false }
     requires named { HaveNames names.now reports.now }
     ensures nothing { IfErr result (LeavesOutput (O.contents (inner_of output.old)) (O.contents (inner_of output.new))) }
@@ -179,15 +166,8 @@ where
 {
     let excerpts = excerpts_of(rt, job.replay.source, reports, names)?;
     let places = places_of(rt, job, reports);
-    let text = render(
-        rt.alloc(),
-        job.replay.form,
-        reports,
-        names,
-        &places,
-        job.suppressions,
-        &excerpts,
-    );
+    let (form, rules) = (job.replay.form, job.suppressions);
+    let text = render(rt.alloc(), form, reports, names, &places, rules, &excerpts);
     drop(places);
     drop(excerpts);
     match write_text(output, text) {

@@ -10,14 +10,10 @@ use er_triage::append_rules;
 use std::fs::File;
 use std::rt::Files;
 
+type Rules = Result<Suppressions, Fault>;
+
 /// The rules of these files, in their order, and from file to file.
-pub(crate) fn suppressions_of<R>(
-    rt: &R,
-    paths: &[&str],
-    byte_limit: u64,
-) -> Result<Suppressions, Fault>
-where
-    R: Files + AllocGlobal,
+pub(crate) fn rules_of<R: Files + AllocGlobal>(rt: &R, paths: &[&str], byte_limit: u64) -> Rules
     requires { byte_limit ≤ 2 ^ 62 }
     ensures none { paths.now ≡ [] → IfOk result (λ rules. targets_of rules ≡ []) }
     ensures some { paths.now ≡ [] → IsOk result }
@@ -26,56 +22,24 @@ where
         return Ok(Suppressions::new(rt.alloc()));
     };
     let number = (!others.is_empty()).then_some(1);
-    let mut rules = suppressions_at(rt, first, number, byte_limit)?;
-    match append_all(rt, others, byte_limit, &mut rules) {
-        Ok(()) => Ok(rules),
-        Err(fault) => {
-            drop(rules);
-            Err(fault)
-        }
+    let mut rules = rules_at(rt, first, number, byte_limit)?;
+    for (place, path) in others.iter().enumerate() {
+        let found = rules_at(rt, path, Some(place as u64 + 2), byte_limit)?;
+        append_rules(&mut rules, &found)?;
     }
-}
-
-// Appends the rules of these files, of which the first is the second that was asked for.
-fn append_all<R>(
-    rt: &R,
-    paths: &[&str],
-    byte_limit: u64,
-    rules: &mut Suppressions,
-) -> Result<(), Fault>
-where
-    R: Files + AllocGlobal,
-    requires { byte_limit ≤ 2 ^ 62 }
-{
-    for (place, path) in paths.iter().enumerate() {
-        let found = suppressions_at(rt, path, Some(place as u64 + 2), byte_limit)?;
-        let added = append_rules(rules, &found);
-        drop(found);
-        if added.is_err() {
-            return Err(Fault::Memory);
-        }
-    }
-    Ok(())
+    Ok(rules)
 }
 
 // The rules of one file, which has this number if there are several.
-fn suppressions_at<R>(
-    rt: &R,
-    path: &str,
-    number: Option<u64>,
-    byte_limit: u64,
-) -> Result<Suppressions, Fault>
-where
-    R: Files + AllocGlobal,
+fn rules_at<R: Files + AllocGlobal>(rt: &R, path: &str, file: Option<u64>, byte_limit: u64) -> Rules
     requires { byte_limit ≤ 2 ^ 62 }
 {
-    let Ok(file) = File::open(rt, path) else {
-        return Err(Fault::OpenSuppressions(number));
+    let Ok(opened) = File::open(rt, path) else {
+        return Err(Fault::OpenSuppressions(file));
     };
-    let mut source = Device::new(file);
-    match read_suppressions(rt.alloc(), &mut source, byte_limit) {
+    match read_suppressions(rt.alloc(), &mut Device::new(opened), byte_limit) {
         Ok(suppressions) => Ok(suppressions),
-        Err(fault) => Err(Fault::of_suppressions(number, fault)),
+        Err(fault) => Err(Fault::of_suppressions(file, fault)),
     }
 }
 

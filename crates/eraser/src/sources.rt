@@ -3,61 +3,47 @@ ghost use Rattle.std.specs.Prelude.{◌≡◌, [], None, IfErr, IfOk};
 ghost use Rattle.er_exit.specs.declared.faults.Fault.TheVariants.{Memory};
 ghost use Rattle.er_report.specs.Reports.{HaveNames};
 
-use er_exit::{Fault, size_of};
-use er_html::{Excerpt, excerpt_around, place_of, sites_of};
+use er_exit::{Fault, open_ordinary};
+use er_forms::{Excerpt, excerpt_around, place_of, sites_of};
 use er_report::Reports;
 use er_trace::Names;
 use std::alloc::AllocError;
-use std::fs::File;
 use std::io::{ErrorKind, Read};
 use std::rt::Files;
 
 // How many bytes of a file are read.
 const MOST_BYTES: u64 = 16_777_216;
 
+type Found<T> = Result<Option<T>, AllocError>;
+
 /// The lines around the sites of the reports' races, of each file that is found below the folder. Without a folder there are none.
-pub(crate) fn excerpts_of<R>(
+pub(crate) fn excerpts_of<R: Files + AllocGlobal>(
     rt: &R,
     folder: Option<&str>,
     reports: &Reports,
     names: &Names,
 ) -> Result<Vec<Excerpt>, Fault>
-where
-    R: Files + AllocGlobal,
     requires named { HaveNames names.now reports.now }
     ensures none { folder.entry ≡ None → IfOk result (λ excerpts. excerpts.items ≡ []) }
     ensures fault { IfErr result (λ fault. fault ≡ Memory) }
 {
-    let Some(folder) = folder else {
-        return Ok(Vec::new(rt.alloc()));
-    };
-    let Ok(sites) = sites_of(rt.alloc(), reports, names) else {
-        return Err(Fault::Memory);
-    };
-    match excerpts_below(rt, folder, &sites) {
-        Ok(excerpts) => Ok(excerpts),
-        Err(_) => Err(Fault::Memory),
-    }
-}
-
-fn excerpts_below<R>(rt: &R, folder: &str, sites: &[&str]) -> Result<Vec<Excerpt>, AllocError>
-where
-    R: Files + AllocGlobal,
-{
     let mut excerpts = Vec::new(rt.alloc());
-    for site in sites {
+    let Some(folder) = folder else {
+        return Ok(excerpts);
+    };
+    let sites = sites_of(rt.alloc(), reports, names)?;
+    for site in &sites {
         if let Some(excerpt) = excerpt_of(rt, folder, site)? {
-            excerpts.push(excerpt)?;
+            let Ok(()) = excerpts.push(excerpt) else {
+                return Err(Fault::Memory);
+            };
         }
     }
     Ok(excerpts)
 }
 
 // The lines around a site, if its file is found and has that line.
-fn excerpt_of<R>(rt: &R, folder: &str, site: &str) -> Result<Option<Excerpt>, AllocError>
-where
-    R: Files + AllocGlobal,
-{
+fn excerpt_of<R: Files + AllocGlobal>(rt: &R, folder: &str, site: &str) -> Found<Excerpt> {
     let Some((file, line)) = place_of(site) else {
         return Ok(None);
     };
@@ -70,14 +56,8 @@ where
 }
 
 // The beginning of an ordinary file. None if it can't be opened or read.
-fn text_at<R>(rt: &R, path: &str) -> Result<Option<Vec<u8>>, AllocError>
-where
-    R: Files + AllocGlobal,
-{
-    if size_of(rt, path).is_none() {
-        return Ok(None);
-    }
-    let Ok(file) = File::open(rt, path) else {
+fn text_at<R: Files + AllocGlobal>(rt: &R, path: &str) -> Found<Vec<u8>> {
+    let Some(file) = open_ordinary(rt, path) else {
         return Ok(None);
     };
     let mut text = Vec::new(rt.alloc());

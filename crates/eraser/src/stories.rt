@@ -18,17 +18,15 @@ use std::io::{Read, Write};
 use std::random::RandomSource;
 use std::rt::Files;
 
+type Told = Result<u8, Fault>;
+
 /// Writes the story of the step that was asked for. Returns the exit status.
-pub(crate) fn explain_step<R, I, O>(
+pub(crate) fn explain_step<R: Files + RandomSource + AllocGlobal, I: Read, O: Write>(
     rt: &R,
     asked: &Explain<'_>,
     input: &mut Device<I>,
     output: &mut Device<O>,
-) -> Result<u8, Fault>
-where
-    R: Files + RandomSource + AllocGlobal,
-    I: Read,
-    O: Write,
+) -> Told
     requires input { has_failed input.old ≡ false }
     requires output { has_failed output.old ≡ false }
     ensures status { IfOk result (λ status. status ≡ 0) }
@@ -54,7 +52,7 @@ fn explain_from<D: Read, O: Write>(
     keys: NameKeys,
     source: &mut Device<D>,
     output: &mut Device<O>,
-) -> Result<u8, Fault>
+) -> Told
     requires source { has_failed source.old ≡ false }
     requires output { has_failed output.old ≡ false }
     ensures status { IfOk result (λ status. status ≡ 0) }
@@ -74,12 +72,7 @@ fn explain_from<D: Read, O: Write>(
 }
 
 // Writes the story of the step on a line of a trace.
-fn explain_in<O: Write>(
-    alloc: Global,
-    trace: &Trace,
-    line: u64,
-    output: &mut Device<O>,
-) -> Result<u8, Fault>
+fn explain_in<O: Write>(alloc: Global, trace: &Trace, line: u64, output: &mut Device<O>) -> Told
     requires { has_failed output.old ≡ false }
     ensures status { IfOk result (λ status. status ≡ 0) }
     ensures story { OnOk result (WritesStory (O.contents (inner_of output.old)) (O.contents (inner_of output.new)) trace.now line) }

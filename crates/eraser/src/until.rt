@@ -18,7 +18,7 @@ use crate::notes::notes_of;
 use crate::replaying::{Ended, Job, replay_from};
 use er_damage::Damage;
 use er_device::{Device, Keeping, Prefix};
-use er_exit::{Fault, put, report_fault, size_of};
+use er_exit::{Fault, is_ordinary, put, report_fault};
 use er_request::Replay;
 use er_run::Watch;
 use er_text::TextFault;
@@ -50,23 +50,21 @@ enum Again<'a> {
 }
 
 /// Writes the notes, then the damage, and then the fault with what helps people. If a write fails, the rest is left out.
-pub(crate) fn report_cut<R, E>(rt: &R, replay: &Replay<'_>, cut: &Cut, errors: &mut Device<E>) -> u8
-where
-    R: Files + AllocGlobal,
-    E: Write,
-    requires { has_failed errors.old ≡ false }
+pub(crate) fn report_cut<R: Files + AllocGlobal, E: Write>(
+    rt: &R,
+    replay: &Replay<'_>,
+    cut: &Cut,
+    errors: &mut Device<E>,
+) -> u8
     ensures status { result ≡ fault_status cut.now.fault }
     ensures range { (2 ≤ result) × (result ≤ 4) }
     ensures line { cut.now.notes.items ≡ [] → cut.now.damage ≡ None → replay.now.hints ≡ false → GetsLine (E.contents (inner_of errors.old)) (E.contents (inner_of errors.new)) (fault_line cut.now.fault) (has_failed errors.new) }
 {
-    put(errors, &cut.notes);
-    if let Some(damage) = cut.damage
-        && !errors.failed()
-    {
-        report_fault(rt.alloc(), Fault::Damaged(damage), errors);
+    if !cut.notes.is_empty() {
+        put(errors, &cut.notes);
     }
-    if errors.failed() {
-        return cut.fault.status();
+    if let Some(damage) = cut.damage {
+        report_fault(rt.alloc(), Fault::Damaged(damage), errors);
     }
     report_replay_fault(rt, replay, cut.fault, errors)
 }
@@ -124,7 +122,7 @@ where
         return Err(cut_by(rt.alloc(), Fault::OpenTrace));
     };
     let mut source = Device::new(file);
-    if replay.until_fault && size_of(rt, replay.trace).is_none() {
+    if replay.until_fault && !is_ordinary(rt, replay.trace) {
         return replay_keeping(rt, job, &mut source, output, watcher);
     }
     match replay_from(rt, job, &mut source, output, watcher) {
@@ -139,18 +137,13 @@ where
 
 // Replays what is read only once, and keeps it for the lines before a fault. Without memory to keep it, a fault of the text becomes a want
 // of memory.
-fn replay_keeping<R, D, O, V>(
+fn replay_keeping<R: Files + AllocGlobal + Threads + Wait + Sync, D: Read, O: Write, V: Watch>(
     rt: &R,
     job: Job<'_>,
     source: &mut Device<D>,
     output: &mut Device<O>,
     watcher: &mut V,
 ) -> Result<Ended, Cut>
-where
-    R: Files + AllocGlobal + Threads + Wait + Sync,
-    D: Read,
-    O: Write,
-    V: Watch,
     requires source { has_failed source.old ≡ false }
     requires output { has_failed output.old ≡ false }
     ensures status { IfOk result (λ ended. (ended.status ≤ 4) × (ended.status ≢ 2)) }
@@ -181,19 +174,14 @@ where
 
 // If the fault is one of the text, replays the lines before it. A text that ends there may lack its line `end`: that is no damage of these
 // lines, so if it is all that a strict replay finds, they have their report.
-fn replay_before<R, O, V>(
+fn replay_before<R: Files + AllocGlobal + Threads + Wait + Sync, O: Write, V: Watch>(
     rt: &R,
     job: Job<'_>,
     fault: Fault,
     again: Again<'_>,
     output: &mut Device<O>,
     watcher: &mut V,
-) -> Cut
-where
-    R: Files + AllocGlobal + Threads + Wait + Sync,
-    O: Write,
-    V: Watch,
-{
+) -> Cut {
     let Fault::Text(first) = fault else {
         return cut_by(rt.alloc(), fault);
     };
@@ -214,19 +202,14 @@ where
 }
 
 // Replays the first lines of a text that is read again. A failed write is final.
-fn replay_lines<R, O, V>(
+fn replay_lines<R: Files + AllocGlobal + Threads + Wait + Sync, O: Write, V: Watch>(
     rt: &R,
     job: Job<'_>,
     lines: u64,
     again: Again<'_>,
     output: &mut Device<O>,
     watcher: &mut V,
-) -> Result<Ended, Fault>
-where
-    R: Files + AllocGlobal + Threads + Wait + Sync,
-    O: Write,
-    V: Watch,
-{
+) -> Result<Ended, Fault> {
     if output.failed() {
         return Err(Fault::Write);
     }
@@ -256,10 +239,7 @@ fn damage_of_lines(damage: Damage) -> Damage {
 
 // Whether a strict replay found nothing but that the text lacks its end.
 fn lacks_end_alone(replayed: &Result<Ended, Fault>) -> bool {
-    match replayed {
-        Err(Fault::Damaged(damage)) => !damage_of_lines(*damage).is_any(),
-        _ => false,
-    }
+    matches!(replayed, Err(Fault::Damaged(damage)) if !damage_of_lines(*damage).is_any())
 }
 
 // What a replay of the lines before a fault comes to. That they lack their end is not noted: the text goes on. If they have no header, they have no report, and the fault is all that there is.

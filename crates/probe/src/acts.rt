@@ -127,7 +127,6 @@ fn ask_detectors<R: Host>(
         "entries" => {
             let shard = shard_at(rt, detectors, work.side()?, work.count()?)?;
             let entries = shard.journal().len();
-            drop(shard);
             Ok(write!(work.answer, "{entries}")?)
         }
         "journal" => {
@@ -136,9 +135,7 @@ fn ask_detectors<R: Host>(
         }
         "races" => {
             let races = detector_at(detectors, work.side()?)?.races(rt)?;
-            let put = put_entries(&mut work.answer, races.as_slice());
-            drop(races);
-            Ok(put?)
+            Ok(put_entries(&mut work.answer, races.as_slice())?)
         }
         "state" => {
             let detector = detector_at(detectors, work.side()?)?;
@@ -152,7 +149,5 @@ fn ask_detectors<R: Host>(
 }
 
 fn put_state(state: WordState, work: &mut Work<'_>) -> Made {
-    let put = put_known(&mut work.answer, &state);
-    drop(state);
-    Ok(put?)
+    Ok(put_known(&mut work.answer, &state)?)
 }

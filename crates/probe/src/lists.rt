@@ -11,7 +11,6 @@ use er_gate::OpenGate;
 use er_journal::Outcome;
 use er_parallel::{ReplayConfig, ReplayFault, replay_parallel};
 use er_replay::{Machine, run};
-use er_table::LocksetTable;
 use std::alloc::{AllocError, Global};
 use std::fmt::Write;
 use std::sync::Wait;
@@ -49,28 +48,14 @@ fn event_of(work: &mut Work<'_>) -> Result<Event, Fault> {
 /// `run SETS`: the answers of a new machine, over a table of so many sets, up to where it stops.
 pub(crate) fn replayed<R: Host>(rt: &R, steps: &[Step], work: &mut Work<'_>) -> Made {
     let table = table_of(rt.alloc(), work.count()?)?;
-    let outcome = outcome_over(rt, &table, steps);
-    drop(table);
-    Ok(put_outcome(&mut work.answer, outcome?)?)
-}
-
-fn outcome_over<R: Host>(
-    rt: &R,
-    table: &LocksetTable,
-    steps: &[Step],
-) -> Result<Outcome, AllocError> {
-    let mut machine = Machine::new(rt.alloc(), table)?;
+    let mut machine = Machine::new(rt.alloc(), &table)?;
     let outcome = run(rt, rt.alloc(), &mut machine, steps);
-    drop(machine);
-    Ok(outcome)
+    Ok(put_outcome(&mut work.answer, outcome)?)
 }
 
 fn put_outcome(out: &mut String, outcome: Outcome) -> Result<(), AllocError> {
-    let Outcome { answers, stopped } = outcome;
-    let put = put_answers(out, &answers);
-    drop(answers);
-    put?;
-    match stopped {
+    put_answers(out, &outcome.answers)?;
+    match outcome.stopped {
         Some(stopped) => write!(out, "; stopped at {}: {}", stopped.at, stopped.cause),
         None => Ok(()),
     }
@@ -85,18 +70,17 @@ pub(crate) fn replayed_in_parallel<R: Host>(rt: &R, steps: &[Step], work: &mut W
     }
     match replay_parallel(rt, rt.alloc(), config, steps, workers, &OpenGate) {
         Ok(outcome) => Ok(put_outcome(&mut work.answer, outcome)?),
+        Err(ReplayFault::Memory) => Err(AllocError.into()),
         Err(ReplayFault::TableFull) => Err(Refusal::TableFull.into()),
-        // Nothing but memory keeps a worker of a test from its start.
-        Err(_) => Err(Refusal::OutOfMemory.into()),
+        Err(ReplayFault::WorkerNotStarted) => work.say("worker not started"),
+        Err(ReplayFault::WorkerLost) => Err(Fault::System),
     }
 }
 
 /// `explain K`: why step K is a race.
 pub(crate) fn explained(alloc: Global, steps: &[Step], work: &mut Work<'_>) -> Made {
     let found = explain(alloc, steps, work.number()?)?;
-    let put = put_explanation(&mut work.answer, found.as_ref());
-    drop(found);
-    Ok(put?)
+    Ok(put_explanation(&mut work.answer, found.as_ref())?)
 }
 
 /// `check K FIRST JOIN WRITE LOCK@PLACE ..`: whether this explains step K.
@@ -108,9 +92,8 @@ pub(crate) fn check(alloc: Global, steps: &[Step], work: &mut Work<'_>) -> Made 
         write: work.number()?,
         uncovered: uncovered_of(alloc, work)?,
     };
-    let is_accepted = check_explanation(alloc, steps, place, &explanation);
-    drop(explanation);
-    work.say(if is_accepted? { "yes" } else { "no" })
+    let is_accepted = check_explanation(alloc, steps, place, &explanation)?;
+    work.say(if is_accepted { "yes" } else { "no" })
 }
 
 fn uncovered_of(alloc: Global, work: &mut Work<'_>) -> Result<Vec<Uncovered>, Fault> {

@@ -53,13 +53,11 @@ fn main(rt: HostRuntime) -> ExitCode {
     }
 }
 
-// Goes over all rows. The line is that of the row at work. Of these functions each owns one thing, which is short to prove.
+// Goes over all rows. The line is that of the row at work. Of these functions each owns one thing.
 fn probe<R: Host>(rt: &R, line: &mut usize) -> Made {
     let text = io::read_to_string(rt.alloc(), rt.reader())?;
     let rows = rows_of(rt.alloc(), text.as_str())?;
-    let played = play(rt, rows.as_slice(), line);
-    drop(rows);
-    played
+    play(rt, rows.as_slice(), line)
 }
 
 fn play<R: Host>(rt: &R, rows: &[Row<'_>], line: &mut usize) -> Made {
@@ -71,9 +69,7 @@ fn play<R: Host>(rt: &R, rows: &[Row<'_>], line: &mut usize) -> Made {
         return Err(Fault::BadRow);
     };
     let table = table_of(rt.alloc(), count_of(sets)?)?;
-    let played = play_over(rt, &table, rows, line);
-    drop(table);
-    played
+    play_over(rt, &table, rows, line)
 }
 
 fn play_over<R: Host>(rt: &R, table: &LocksetTable, rows: &[Row<'_>], line: &mut usize) -> Made {
@@ -85,9 +81,7 @@ fn play_over<R: Host>(rt: &R, table: &LocksetTable, rows: &[Row<'_>], line: &mut
         machine: Machine::new(alloc, table)?,
         steps: Vec::new(alloc),
     };
-    let played = play_at(rt, &mut world, rows, line);
-    drop(world);
-    played
+    play_at(rt, &mut world, rows, line)
 }
 
 fn play_at<R: Host>(rt: &R, world: &mut World<'_>, rows: &[Row<'_>], line: &mut usize) -> Made {

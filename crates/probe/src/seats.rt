@@ -123,12 +123,8 @@ pub(crate) fn enter<R: Host>(
 fn held_of(alloc: Global, work: &mut Work<'_>) -> Result<HeldLocks, Fault> {
     let mut held = Lockset::new(alloc);
     let mut write_held = Lockset::new(alloc);
-    let added = add_locks(&mut held, &mut write_held, work);
-    let locks = HeldLocks::new(alloc, &held, &write_held);
-    drop(held);
-    drop(write_held);
-    added?;
-    Ok(locks?)
+    add_locks(&mut held, &mut write_held, work)?;
+    Ok(HeldLocks::new(alloc, &held, &write_held)?)
 }
 
 fn add_locks(held: &mut Lockset, write_held: &mut Lockset, work: &mut Work<'_>) -> Made {

@@ -14,15 +14,9 @@ use std::fmt::Write;
 pub(crate) fn meet(alloc: Global, work: &mut Work<'_>) -> Made {
     let mut locks = Lockset::new(alloc);
     let mut others = Lockset::new(alloc);
-    let added = add_both(&mut locks, &mut others, work);
-    let both = locks.intersect(&others);
-    drop(locks);
-    drop(others);
-    added?;
-    let both = both?;
-    let put = put_locks(&mut work.answer, &both);
-    drop(both);
-    Ok(put?)
+    add_both(&mut locks, &mut others, work)?;
+    let both = locks.intersect(&others)?;
+    Ok(put_locks(&mut work.answer, &both)?)
 }
 
 fn add_both(locks: &mut Lockset, others: &mut Lockset, work: &mut Work<'_>) -> Made {

@@ -88,9 +88,7 @@ fn view(reply: &Reply) -> Answer<'_> {
 }
 
 pub(crate) fn put_reply(out: &mut String, reply: Reply) -> Result<(), AllocError> {
-    let put = put_view(out, view(&reply));
-    drop(reply);
-    put
+    put_view(out, view(&reply))
 }
 
 fn kind_text(kind: Kind) -> &'static str {

@@ -1,5 +1,5 @@
 //! Reports of more steps than 32 bits number. A text of so many would be too long for a test.
-use crate::fixtures::table_of_hundred;
+use crate::sets::table_of_hundred;
 use er_batch::answer_batch;
 use er_device::Device;
 use er_replay::Machine;
@@ -10,30 +10,6 @@ use er_text::read_trace;
 use er_trace::Trace;
 use std::process::Abort;
 use std::sync::Wait;
-
-// These say nothing of what they return, so that a test's proof has little to carry.
-
-fn trace_of<R: Abort + AllocGlobal>(rt: &R) -> Trace {
-    let mut text = Device::new(b"eraser trace 1\nt1 write 0x1000\nt2 write 0x1000\n".as_slice());
-    match read_trace(rt.alloc(), &mut text, 100) {
-        Ok(trace) => trace,
-        Err(_) => rt.abort(),
-    }
-}
-
-fn machine_of<'t, R: Abort + AllocGlobal>(rt: &R, table: &'t LocksetTable) -> Machine<'t> {
-    match Machine::new(rt.alloc(), table) {
-        Ok(machine) => machine,
-        Err(_) => rt.abort(),
-    }
-}
-
-fn builder_of<'r, R: Abort + AllocGlobal>(rt: &R, rules: &'r Suppressions) -> ReportBuilder<'r> {
-    match ReportBuilder::new(rt.alloc(), rules) {
-        Ok(builder) => builder,
-        Err(_) => rt.abort(),
-    }
-}
 
 // Whether there is room for the steps of a trace in a report that has so many before them.
 fn has_room<R: Wait>(
@@ -58,32 +34,20 @@ fn counted<R: Wait + Abort + AllocGlobal>(
     before: u64,
 ) -> (bool, u64, u64) {
     let rules = Suppressions::new(rt.alloc());
-    let mut machine = machine_of(rt, table);
-    let mut builder = builder_of(rt, &rules);
+    let mut machine = Machine::new(rt.alloc(), table).expect(rt, "memory");
+    let mut builder = ReportBuilder::new(rt.alloc(), &rules).expect(rt, "memory");
     let has_room = has_room(rt, &mut machine, trace, &mut builder, before);
-    let counted = (has_room, builder.steps(), builder.races());
-    drop(builder);
-    drop(machine);
-    drop(rules);
-    counted
+    (has_room, builder.steps(), builder.races())
 }
 
 #[test]
 fn more_steps_than_32_bits_number(rt: HostRuntime) {
     let table = table_of_hundred(&rt);
-    let trace = trace_of(&rt);
-    for before in [
-        0,
-        u64::from(u32::MAX) - 2,
-        u64::from(u32::MAX) - 1,
-        1 << 33,
-        u64::MAX - 2,
-    ] {
-        assert_eq!(rt;
-            counted(&rt, &table, &trace, before),
-            (true, before + 2, 1),
-            "behind {before}"
-        );
+    let mut text = Device::new(b"eraser trace 1\nt1 write 0x1000\nt2 write 0x1000\n".as_slice());
+    let trace = read_trace(rt.alloc(), &mut text, 100).expect(&rt, "a trace");
+    for before in [0, (1 << 32) - 3, (1 << 32) - 2, 1 << 33, u64::MAX - 2] {
+        let found = counted(&rt, &table, &trace, before);
+        assert_eq!(rt; found, (true, before + 2, 1), "behind {before}");
     }
     for before in [u64::MAX - 1, u64::MAX] {
         let (has_room, steps, _) = counted(&rt, &table, &trace, before);

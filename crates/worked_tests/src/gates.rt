@@ -1,49 +1,11 @@
 //! Gates at which two threads meet.
 use er_gate::{Gate, OpenGate, PairGate};
-use std::sync::atomic::{AtomicBool, Ordering};
 use std::thread::{Threads, join};
 
-/// Pieces 0 and 1 wait here for each other, however long one of them has to wait for a processor. Where they never are at work at once,
-/// the test has no end, and fails by its limit of time. Other pieces pass at once.
-#[derive(Drop)]
-pub(crate) struct MeetingGate {
-    first: AtomicBool,
-    second: AtomicBool,
-}
-
-impl MeetingGate {
-    /// A gate at which neither piece is yet.
-    pub(crate) fn new() -> MeetingGate {
-        MeetingGate {
-            first: AtomicBool::new(false),
-            second: AtomicBool::new(false),
-        }
-    }
-
-    /// Whether both pieces came. Neither left before the other was there.
-    pub(crate) fn met(&self) -> bool {
-        self.first.load(Ordering::SeqCst) && self.second.load(Ordering::SeqCst)
-    }
-}
-
-impl Gate for MeetingGate {
-    fn enter(&self, piece: u32) {
-        match piece {
-            0 => wait_for(&self.first, &self.second),
-            1 => wait_for(&self.second, &self.first),
-            _ => {}
-        }
-    }
-}
-
-// More turns than any test has time for.
-fn wait_for(mine: &AtomicBool, other: &AtomicBool) {
-    mine.store(true, Ordering::SeqCst);
-    for _ in 0..u64::MAX {
-        if other.load(Ordering::SeqCst) {
-            return;
-        }
-    }
+/// A gate at which pieces 0 and 1 wait for each other, however long one of them has to wait for a processor. If they never are at work at
+/// once, the test has no end, and fails by its limit of time.
+pub(crate) fn meeting_gate() -> PairGate {
+    PairGate::with_looks(0, 1, u64::MAX)
 }
 
 // Whether two threads met at a gate. A busy machine may run one behind the other, so a gate at which they didn't meet says nothing, and

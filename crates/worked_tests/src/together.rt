@@ -1,10 +1,10 @@
 //! Calls at one detector, by two threads at once or beside a shard whose lock is held. Two threads wait for each other first, so that mostly
 //! neither is done before the other begins; the answers are the same in whatever order they come.
-use crate::fixtures::table_of_hundred;
-use crate::gates::MeetingGate;
+use crate::gates::meeting_gate;
+use crate::sets::table_of_hundred;
 use er_detector::{Config, Detector, settle};
 use er_event::{Kind, LockId, Mode, Refusal, Site, Word, WordRange};
-use er_gate::Gate;
+use er_gate::{Gate, PairGate};
 use er_seat::Seat;
 use er_table::LocksetTable;
 use std::alloc::Global;
@@ -14,33 +14,16 @@ use std::test::*;
 use std::thread;
 use std::thread::Threads;
 
-// These say nothing of what they return, so that a test's proof has little to carry. A way out that drops a detector or a seat is long to
-// prove, so one function owns the detector, and no other returns early with one.
+// A way out that drops a detector or a seat is long to prove, so one function owns the detector, and no other returns early with one.
 
 // A detector of so many shards and seats.
-fn config_of<R: Abort>(rt: &R, shards: u32, seats: u32) -> Config {
-    match Config::new(7, shards, 100_000, seats) {
-        Some(config) => config,
-        None => rt.abort(),
-    }
-}
-
 fn detector<'t, R: Abort + AllocGlobal>(
     rt: &R,
     table: &'t LocksetTable,
-    config: Config,
+    (shards, seats): (u32, u32),
 ) -> Detector<'t> {
-    match Detector::new(rt.alloc(), table, config) {
-        Ok(detector) => detector,
-        Err(_) => rt.abort(),
-    }
-}
-
-fn open_seat<R: Abort>(rt: &R, detector: &Detector) -> Seat {
-    match detector.open_seat() {
-        Ok(seat) => seat,
-        Err(_) => rt.abort(),
-    }
+    let config = Config::new(7, shards, 100_000, seats).expect(rt, "a configuration");
+    Detector::new(rt.alloc(), table, config).expect(rt, "memory")
 }
 
 // How many seats each of two threads opens: as long as it takes for both to be at work at once, also on a busy machine.
@@ -48,14 +31,11 @@ const SEATS: u32 = 50_000;
 
 // The thread of a new seat.
 fn next_thread(detector: &Detector) -> Result<u32, Refusal> {
-    match detector.open_seat() {
-        Ok(seat) => Ok(seat.thread().number()),
-        Err(why) => Err(why),
-    }
+    Ok(detector.open_seat()?.thread().number())
 }
 
 // The threads of seats that are opened one after the other, behind the gate.
-fn open_all(alloc: Global, detector: &Detector, gate: &MeetingGate, piece: u32) -> Vec<u32> {
+fn open_all(alloc: Global, detector: &Detector, gate: &PairGate, piece: u32) -> Vec<u32> {
     let mut threads = Vec::new(alloc);
     gate.enter(piece);
     for _ in 0..SEATS {
@@ -86,7 +66,7 @@ fn is_each_once(first: &[u32], second: &[u32], count: u32) -> bool {
 
 // Whether two threads at once get each seat once, and then no one gets one more.
 fn opens_each_seat_once<R: Threads + AllocGlobal + Sync>(rt: &R, detector: &Detector) -> bool {
-    let gate = MeetingGate::new();
+    let gate = meeting_gate();
     let alloc = rt.alloc();
     let (first, second) = thread::join(
         rt,
@@ -108,7 +88,7 @@ fn goes_on_beside_a_guard<R: Wait + Abort>(rt: &R, detector: &Detector) -> bool 
     if detector.config().shards == 0 {
         return false;
     }
-    let mut seat = open_seat(rt, detector);
+    let mut seat = detector.open_seat().expect(rt, "a seat");
     let _kept = detector.shard(rt, 0);
     seat.acquire(LockId::new(5), Mode::Write).is_ok() && writes(rt, detector, &mut seat)
 }
@@ -128,7 +108,7 @@ fn ends_well<R: Threads + Wait + Abort + AllocGlobal + Sync>(
     trial: Trial,
 ) -> bool {
     let table = table_of_hundred(rt);
-    let detector = detector(rt, &table, config_of(rt, shards, seats));
+    let detector = detector(rt, &table, (shards, seats));
     match trial {
         Trial::OpensEachSeatOnce => opens_each_seat_once(rt, &detector),
         Trial::GoesOnBesideAGuard => goes_on_beside_a_guard(rt, &detector),
@@ -156,7 +136,7 @@ fn reuse_once<R: Wait>(rt: &R, detector: &Detector, seat: &mut Seat) -> bool {
     }
 }
 
-fn reuse_all<R: Wait>(rt: &R, detector: &Detector, gate: &MeetingGate, mut seat: Seat) -> Seat {
+fn reuse_all<R: Wait>(rt: &R, detector: &Detector, gate: &PairGate, mut seat: Seat) -> Seat {
     gate.enter(seat.thread().number());
     for _ in 0..REUSES {
         if !reuse_once(rt, detector, &mut seat) {
@@ -169,9 +149,9 @@ fn reuse_all<R: Wait>(rt: &R, detector: &Detector, gate: &MeetingGate, mut seat:
 fn open_two<R: Abort + AllocGlobal>(rt: &R, detector: &Detector) -> Vec<Seat> {
     let mut seats = Vec::new(rt.alloc());
     for _ in 0..2u32 {
-        if seats.push(open_seat(rt, detector)).is_err() {
-            rt.abort();
-        }
+        seats
+            .push(detector.open_seat().expect(rt, "a seat"))
+            .expect(rt, "memory");
     }
     seats
 }
@@ -181,27 +161,21 @@ fn reuse_together<R: Threads + Wait + Abort + AllocGlobal + Sync>(
     rt: &R,
     detector: &Detector,
 ) -> Vec<Seat> {
-    let gate = MeetingGate::new();
+    let gate = meeting_gate();
     let seats = open_two(rt, detector);
-    match thread::map_vec(rt, seats, &|seat| reuse_all(rt, detector, &gate, seat)) {
-        Ok(played) => played,
-        Err(_) => rt.abort(),
-    }
+    thread::map_vec(rt, seats, &|seat| reuse_all(rt, detector, &gate, seat)).expect(rt, "memory")
 }
 
 // How many steps the run has, or none if it doesn't settle.
 fn settled_steps(alloc: Global, detector: Detector, seats: Vec<Seat>) -> usize {
-    match settle(alloc, detector, seats) {
-        Ok(run) => run.steps.len(),
-        Err(_) => 0,
-    }
+    settle(alloc, detector, seats).map_or(0, |run| run.steps.len())
 }
 
 // A reuse draws its ticket under the lock of its shard, so that its journal is in the order of tickets.
 #[test]
 fn reuses_of_one_page_settle(rt: HostRuntime) {
     let table = table_of_hundred(&rt);
-    let detector = detector(&rt, &table, config_of(&rt, 1, 2));
+    let detector = detector(&rt, &table, (1, 2));
     let seats = reuse_together(&rt, &detector);
     assert_eq!(rt; settled_steps(rt.alloc(), detector, seats), 20_000);
 }

@@ -1,14 +1,12 @@
--- The sites that have races of each kind.
-use Rattle.std.specs.Prelude.{ℕ, nat_eq, Bool, List}
+-- The sites that have races of each kind, each as a number.
+use Rattle.std.specs.Prelude.{ℕ, ◌+◌, ◌*◌, nat_eq, Bool, List}
 use Rattle.std.specs.List.{list_any}
 use Rattle.er_event.specs.declared.steps.Kind.{Kind}
 use Rattle.er_event.specs.declared.steps.Kind.TheVariants as kind
 
--- the sites of reads, and of writes
-pub record SiteSets : Type 0 where
-  pub reads : List ℕ
-  pub writes : List ℕ
+abbrev pub site_key : ℕ → Kind → ℕ
+site_key s kind.Read = 2 * s
+site_key s kind.Write = 2 * s + 1
 
-abbrev pub has_site : SiteSets → ℕ → Kind → Bool
-has_site sets s kind.Read = list_any (nat_eq s) sets.reads
-has_site sets s kind.Write = list_any (nat_eq s) sets.writes
+abbrev pub has_site : List ℕ → ℕ → Kind → Bool
+has_site keys s k = list_any (nat_eq (site_key s k)) keys

@@ -3,7 +3,7 @@ use Rattle.std.specs.Prelude.{List, [], ◌∷◌, drop, Option, Some, None}
 use Rattle.er_trace.specs.Trace.{Recording}
 use Rattle.er_model.specs.Explanations.{Explanation}
 use Rattle.er_report.specs.Kept.{Kept}
-use Rattle.er_report.specs.Lines.{LineView, RaceView, ReusedView, RefusedView, ShownView}
+use Rattle.er_report.specs.Lines.{LineView, RacedView, RefusedView, ShownView}
 use Rattle.er_report.specs.Reasons.{reasons_of}
 use Rattle.er_report.specs.declared.report.Because.{Because}
 
@@ -14,15 +14,13 @@ next_reasons r (e ∷ rest) reasons = reasons_of r e
 
 -- the line of a race has the reasons of the next explanation
 abbrev pub line_with : Recording → List Explanation → LineView → LineView
-line_with r to_come (RaceView number thread kind word site held reasons) = RaceView number thread kind word site held (next_reasons r to_come reasons)
-line_with r to_come (ReusedView number thread range site held reasons) = ReusedView number thread range site held (next_reasons r to_come reasons)
+line_with r to_come (RacedView race) = RacedView (record race { explained = next_reasons r to_come race.explained })
 line_with r to_come (RefusedView number step refusal) = RefusedView number step refusal
 line_with r to_come (ShownView number word state) = ShownView number word state
 
 -- and uses it up
 abbrev pub left_after : List Explanation → LineView → List Explanation
-left_after to_come (RaceView number thread kind word site held reasons) = drop 1 to_come
-left_after to_come (ReusedView number thread range site held reasons) = drop 1 to_come
+left_after to_come (RacedView race) = drop 1 to_come
 left_after to_come (RefusedView number step refusal) = to_come
 left_after to_come (ShownView number word state) = to_come
 
@@ -42,15 +40,13 @@ next_told [] reasons = reasons
 next_told (told ∷ rest) reasons = told
 
 abbrev pub line_told : List (List Because) → LineView → LineView
-line_told to_come (RaceView number thread kind word site held reasons) = RaceView number thread kind word site held (next_told to_come reasons)
-line_told to_come (ReusedView number thread range site held reasons) = ReusedView number thread range site held (next_told to_come reasons)
+line_told to_come (RacedView race) = RacedView (record race { explained = next_told to_come race.explained })
 line_told to_come (RefusedView number step refusal) = RefusedView number step refusal
 line_told to_come (ShownView number word state) = ShownView number word state
 
 -- and uses them up
 abbrev pub told_left : List (List Because) → LineView → List (List Because)
-told_left to_come (RaceView number thread kind word site held reasons) = drop 1 to_come
-told_left to_come (ReusedView number thread range site held reasons) = drop 1 to_come
+told_left to_come (RacedView race) = drop 1 to_come
 told_left to_come (RefusedView number step refusal) = to_come
 told_left to_come (ShownView number word state) = to_come
 

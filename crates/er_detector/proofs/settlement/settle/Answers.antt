@@ -2,6 +2,6 @@ use Rattle.er_detector.specs.Settlement.{journals_of}
 use Rattle.er_detector.proofs.OpenedLemmas.{err_shown}
 use Rattle.er_detector.proofs.settlement.settle.Goals as goal
 
-pub returns-in-Ok-clause-first : goal.returns-in-Ok-clause-first
-returns-in-Ok-clause-first c =
-    rw (← c.in-Ok.ensures.name) (err_shown c.in-Ok.parts.name c.in-Ok.parts.opened c.args.detector.max_threads c.args.seats.items (journals_of c.in-Ok.parts.shards.items) c.in-Ok.ensures.opened c.settle_parts.result c.settle_parts.ensures.first)
+pub returns-clause-first : goal.returns-clause-first
+returns-clause-first c =
+    rw (← c.in_ok-parts.ensures.name) (err_shown c.in_ok-parts.parts.name c.in_ok-parts.parts.opened c.args.detector.max_threads c.args.seats.items (journals_of c.in_ok-parts.parts.shards.items) c.in_ok-parts.ensures.opened c.settle_parts.result c.settle_parts.ensures.first)

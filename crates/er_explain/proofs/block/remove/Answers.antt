@@ -6,10 +6,10 @@ use Rattle.er_explain.proofs.PlaceLemmas.{apart-as, apart-less, book_less, numbe
 use Rattle.er_explain.proofs.block.remove.Goals as goal
 
 -- the books, up to the last one
-was : (g : _) (c : goal.After-keep g) → AreApart c.args.places.now (c.len-last.result - 1 + 1)
+was : (g : _) (c : goal.After-keep_joining g) → AreApart c.args.places.now (c.len-last.result - 1 + 1)
 was g c = apart-as c.args.places.now (length c.args.books.now.items) (c.len-last.result - 1 + 1) (omega (arith, c.len-last.ensures, c.requires.within)) c.requires.apart
 
-within : (g : _) (c : goal.After-keep g) → c.args.number ≤ c.len-last.result - 1
+within : (g : _) (c : goal.After-keep_joining g) → c.args.number ≤ c.len-last.result - 1
 within g c = omega (arith, c.len-last.ensures, c.requires.within)
 
 pub returns-clause-apart : goal.returns-clause-apart

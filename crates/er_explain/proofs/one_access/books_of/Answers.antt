@@ -14,7 +14,7 @@ use Rattle.er_explain.proofs.one_access.books_of.Goals as goal
 
 pub loop-at-init : goal.loop-at-init
 loop-at-init c w =
-    subst (λ book. HasFollowed c.args.steps.now w c.new-locks.result (named_book name_of book) 0) (sym (c.new-books.ensures w))
+    subst (λ book. HasFollowed c.args.steps.now w c.new-locks.result (named_book name_of book) 0) (sym (c.keyed-books.ensures w))
     (followed-start c.args.steps.now w c.new-locks.result c.new-locks.ensures)
 
 pub loop-at-preserved : goal.loop-at-preserved

@@ -7,10 +7,10 @@ use Rattle.er_journal.specs.declared.entries.Entry.{Entry}
 use Rattle.er_settle.proofs.PairLemmas.{deal-more, deal-not}
 use Rattle.er_settle.proofs.entry_groups.group_by_thread.Goals as goal
 
-pub returns-in_default-copied-clause-fault : goal.returns-in_default-copied-clause-fault
-returns-in_default-copied-clause-fault c =
+pub returns-in_default-clause-fault : goal.returns-in_default-clause-fault
+returns-in_default-clause-fault c =
     let here = slice_get_read c.args.order.now _ _ c.placed-item.result refl c.loop-placed-test.true c.placed-item.is in
-    let none : get nat_cmp c.args.index.now c.number-thread.result ≡ None = sym c.get.ensures.value ∙ (sym c.copied.ensures ∙ c.in_default-copied.is) in
+    let none : get nat_cmp c.args.index.now c.number-thread.result ≡ None = sym c.get.ensures.value ∙ (sym c.copied.ensures ∙ c.in_default.is) in
     inr (refl, deal-not c.args.seats.now c.args.order.now c.args.index.now c.loop-placed.placed-index c.placed-item.result c.requires.index here (rw (← c.entry.ensures, ← c.number-thread.ensures.value) none))
 
 pub index_mut-requires : goal.index_mut-requires
@@ -30,5 +30,5 @@ loop-placed-preserved c =
     let had = slice_get_read c.loop-placed.groups.items _ _ c.index_mut.result.now refl inside c.index_mut.ensures.value in
     let thread = seat.2 ∙ (c.number-thread.ensures.value ∙ ap (λ (e : Entry). e.thread) c.entry.ensures) in
     let r = deal-more c.args.seats.now c.args.order.now c.loop-placed.placed-index c.in-Some.at c.placed-item.result c.loop-placed.groups.items _ c.index_mut.result.now c.add.new.self seat.0
-    c.requires.once c.loop-placed.invariant.dealt c.loop-placed.invariant.given here seat.1 thread had (rw c.copy.ensures at c.in-Ok-add.ensures.ok) refl in
+    c.requires.once c.loop-placed.invariant.dealt c.loop-placed.invariant.given here seat.1 thread had (rw c.copy.ensures at c.in_ok-add.ensures.ok) refl in
     record { dealt = r.0; given = r.1 }

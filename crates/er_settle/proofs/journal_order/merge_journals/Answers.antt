@@ -28,11 +28,11 @@ loop-place-preserved c =
     let next : IsNext c.args.journals.now c.loop-place.read.items c.in-Some.place c.index-journal-at.result =
     next_at _ _ _ c.index-journals-place.result _ c.index-at.result.now _ least c.index-journals-place.is c.entries-journal.ensures.entries c.loop-place.invariant.places c.index-at.ensures c.index-journal-at.is in
     order-step c.args.journals.now c.loop-place.read.items _ c.loop-place.order.items c.push.new.self.items c.loop-place.last c.in-Some.place c.index-at.result.now c.index-journal-at.result c.loop-place.invariant least next
-    (c.if-not-is_above.ensures.0 refl) c.index-at.ensures refl c.in-Ok-push.ensures.items
+    (c.if-not-is_above.ensures.0 refl) c.index-at.ensures refl c.in-Ok.ensures.items
 
 pub returns-clause-order : goal.returns-clause-order
-returns-clause-order c = order-done c.args.journals.now c.loop-place.read.items c.loop-place.order.items c.loop-place.last c.loop-place.invariant (rw c.as_slice.ensures.value at c.in_default-next_journal.ensures.none)
+returns-clause-order c = order-done c.args.journals.now c.loop-place.read.items c.loop-place.order.items c.loop-place.last c.loop-place.invariant (rw c.as_slice.ensures.value at c.in_default.ensures.none)
 
 pub returns-clause-rise : goal.returns-clause-rise
 returns-clause-rise c = order-rises c.args.journals.now c.loop-place.order.items
-    (order-done c.args.journals.now c.loop-place.read.items c.loop-place.order.items c.loop-place.last c.loop-place.invariant (rw c.as_slice.ensures.value at c.in_default-next_journal.ensures.none))
+    (order-done c.args.journals.now c.loop-place.read.items c.loop-place.order.items c.loop-place.last c.loop-place.invariant (rw c.as_slice.ensures.value at c.in_default.ensures.none))

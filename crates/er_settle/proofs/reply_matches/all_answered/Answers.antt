@@ -11,7 +11,7 @@ pub returns-then-not-branch : goal.returns-then-not-branch
 returns-then-not-branch c =
     let here = slice_get_read c.args.seats.now _ _ c.index-seats-at.result refl c.loop-at-test.true c.index-seats-at.is in
     let group = group-read c.args.seats.now c.args.order.now c.args.groups.now c.loop-at.at c.index-seats-at.result c.index-groups-at.result c.requires.dealt here c.index-groups-at.is in
-    (λ t. cc, λ all. absurd (let e = c.in_ok-is_answered.ensures.1 (rw (c.as_slice.ensures, group) (all c.loop-at.at c.index-seats-at.result here)) in cc))
+    (λ t. cc, λ all. absurd (let e = c.in_ok-is_answered.ensures.1 (rw (c.as_slice.ensures, group) (all c.loop-at.at c.index-seats-at.result here)) in let no = c.if-not-branch.true in cc (e, no)))
 
 pub loop-at-preserved : goal.loop-at-preserved
 loop-at-preserved c =

@@ -3,4 +3,4 @@ use Rattle.er_sites.specs.Text.{held_text}
 use Rattle.er_sites.proofs.stories.put_locks.Given as goal
 
 abbrev pub invariant-loop-lock : goal.invariant-loop-lock
-invariant-loop-lock l = l.out.items ≡ l.fn.out.items ++ flat_map (held_text l.names l.line l.thread (option_copied l.own) l.explained) (take l.lock-index l.locks)
+invariant-loop-lock l = l.out.items ≡ l.fn.out.items ++ flat_map (held_text l.names l.race (option_copied l.own)) (take l.lock-index l.race.held)

@@ -13,7 +13,7 @@ use Rattle.er_unordered.specs.Inner.Passes.{HasComeTo}
 use Rattle.er_unordered.specs.Inner.Reasons.{tag_at}
 use Rattle.er_unordered.specs.Standing.{Ordered, Stands}
 use Rattle.er_unordered.proofs.PassLemmas.{come-to, plain-here, start, step-here, told-plain, whole}
-use Rattle.er_unordered.proofs.StoppingLemmas.{crowds-here, full-here, stop-by}
+use Rattle.er_unordered.proofs.StoppingLemmas.{beyond-here, stop-by}
 use Rattle.er_unordered.proofs.answering.answer_steps.Goals as goal
 use Rattle.er_unordered.proofs.answering.answer_steps.Goals.{then-is_plain, else-is_plain+in_ok-add_told}
 
@@ -93,5 +93,5 @@ returns-in_err-answer-clause-full g c = λ past lines sites names kept run.
     let here : slice_get r.steps at ≡ Some step = get_behind past c.args.trace.now.steps c.loop-k.k at refl ∙ (rw c.steps-steps.ensures.value at read) in
     let stands : Stands (tag_at g.T.Tag.tag_of r) c.look_ahead.new.self (take at r.steps) = subst (λ (m : Ordered g.row.T.Denot). Stands (tag_at g.T.Tag.tag_of r) m (take at r.steps)) (sym c.look_ahead.ensures) come.stands in
     err_from c.from_residual.result _ _ c.from_residual.ensures.1 (λ e is.
-    rw is (stop-by r.steps c.in_err-answer.field-0.0 (λ full. full-here r.steps at step here (c.in_err-answer.ensures.full (take at r.steps) (tag_at g.T.Tag.tag_of r) stands (ap Err full)))
-    (λ crowd. crowds-here r.steps at step here (c.in_err-answer.ensures.threads (take at r.steps) (tag_at g.T.Tag.tag_of r) stands (ap Err crowd)))))
+    rw is (stop-by r.steps c.in_err-answer.field-0.0 (λ limit beyond. beyond-here limit r.steps at step here
+    (c.in_err-answer.ensures.limit (take at r.steps) (tag_at g.T.Tag.tag_of r) stands limit (ap Err beyond)))))

@@ -27,5 +27,5 @@ returns-in-Access c =
           ∙ ap (λ sync. clocks_after (counts c.args.self.now) (Some (record { thread = c.args.thread; sync = sync })) k u) (sym (nothing c));
       err = tt;
       full = λ full. absurd (let never = full in cc);
-      threads = λ full. absurd (let never = full in cc);
+      others = λ limit full. absurd (let never = full in cc);
     }

@@ -13,7 +13,7 @@ returns g c =
     ∙ ap (λ d. count_in_row g.P.Part.counts g.P.Part.WIDTH c.args.self.now at + cond d 1 0) (same_place g.P.Part.WIDTH c.args.place at g.met.P.Part.is_wide))
   where
     within : c.args.place / g.P.Part.WIDTH < length c.in_ok-parts.parts.items
-    within = rw (← c.WIDTH.ensures) (let room = c.in_ok-parts.ensures.room in let done : c.args.place / c.WIDTH.result < length c.in_ok-parts.parts.items = omega (arith, room) in done)
+    within = rw (← c.WIDTH.ensures) (let room = c.in_ok-parts.ensures.least in let done : c.args.place / c.WIDTH.result < length c.in_ok-parts.parts.items = omega (arith, room) in done)
 
     read : c.index.result.now ≡ get_or c.in_ok-parts.parts.items (c.args.place / g.P.Part.WIDTH) c.index.result.now
     read = rw (← c.WIDTH.ensures) c.index.ensures

@@ -17,7 +17,7 @@ given c u =
     ∙ ap (λ (clocks : ClockMap). known_to clocks c.args.thread u) c.self.view_is
 
 pub join-requires : goal.join-requires
-join-requires c covered u = let same = given c u in let less = c.requires covered u in omega (arith, same, less)
+join-requires c covered u = let same = given (goal.at.join-requires c).After-get u in let less = c.requires covered u in omega (arith, same, less)
 
 pub returns-clause-ok : goal.returns-clause-ok
 returns-clause-ok c t u =

@@ -5,7 +5,8 @@ use Rattle.er_clock.specs.Counts.{count_by}
 use Rattle.indexmap.specs.IndexMap.{with_value_at}
 use Rattle.er_epochs.specs.Epochs.{tag_found, tagged, IsStoredBy}
 use Rattle.er_epochs.specs.Words.{list_of, said, stored_in}
-use Rattle.er_epochs.proofs.Maps.{Puts, entry_found, entry_put}
+use Rattle.er_epochs.proofs.Maps.{Puts}
+use Rattle.er_keys.proofs.MapLemmas.{entry_found, entry_put}
 use Rattle.er_epochs.proofs.Listed.{list_found, list_put, list_others, goes_on, if_ok}
 use Rattle.er_epochs.proofs.lists.ReadLists.advance.Goals as goal
 

@@ -2,7 +2,7 @@ use Rattle.std.proofs.Common.{◌∙◌, ap}
 use Rattle.er_clock.specs.Counts.{count_by}
 use Rattle.er_epochs.specs.Epochs.{tag_of_first}
 use Rattle.er_epochs.specs.Words.{list_of}
-use Rattle.er_epochs.proofs.Maps.{entry_found}
+use Rattle.er_keys.proofs.MapLemmas.{entry_found}
 use Rattle.er_epochs.proofs.Listed.{list_found}
 use Rattle.er_epochs.proofs.lists.ReadLists.find.Goals as goal
 

@@ -5,7 +5,7 @@ use Rattle.er_epochs.specs.Epochs.{Accesses, untouched, is_raced, tag_found}
 use Rattle.er_clock.specs.Counts.{count_by}
 use Rattle.er_epochs.specs.Words.{AllWords, stored_among, is_place_in, IsLowest}
 use Rattle.indexmap.specs.IndexMap.{with_value_at}
-use Rattle.er_epochs.proofs.Maps.{entry_found, entry_put}
+use Rattle.er_keys.proofs.MapLemmas.{entry_found, entry_put}
 use Rattle.er_epochs.proofs.Blocks.{reset_block, absent_block}
 use Rattle.er_epochs.proofs.Lowest.{found_in, lowest_in_block, named_in_block, none_in_absent}
 use Rattle.er_epochs.proofs.words.OrderWords.empty.Goals as goal

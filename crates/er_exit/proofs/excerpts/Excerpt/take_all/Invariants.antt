@@ -1,5 +1,5 @@
 use Rattle.std.proofs.Common.{◌≡◌, ◌++◌, ℕ, List, drop}
-use Rattle.er_exit.specs.Excerpts.{line_with}
+use Rattle.er_exit.specs.Inner.Excerpts.{line_with}
 use Rattle.er_exit.proofs.excerpts.Excerpt.take_all.Given as goal
 
 abbrev pub invariant-loop-byte : goal.invariant-loop-byte

@@ -8,6 +8,6 @@ use Rattle.er_places.proofs.wanted.Wanted.add_reasons.Given as goal
 
 abbrev pub invariant-loop-line : goal.invariant-loop-line
 invariant-loop-line l = record {
-  sites : (s : ℕ) (k : Kind) → has_site l.sites s k ≡ list_any (is_race_at s k) (take l.line-index l.lines);
+  sites : (s : ℕ) (k : Kind) → has_site l.sites.keys s k ≡ list_any (is_race_at s k) (take l.line-index l.lines);
   lines : (line : ℕ) → is_wanted l.self line ≡ (is_wanted l.fn.self line || asked_below l.lines line l.line-index);
 }

@@ -1,26 +1,29 @@
 use Rattle.std.proofs.Common.{◌≡◌, ℕ, nat_eq, cond, Some, slice_get, ap, ◌∙◌, sym}
 use Rattle.std.specs.Map.{lookup}
-use Rattle.indexmap.specs.IndexMap.{values, with_value_at}
+use Rattle.indexmap.specs.IndexMap.{keys, values, with_value_at}
 use Rattle.er_held.specs.ThreadLocks.{holding_among}
 use Rattle.er_held.specs.Held.{nothing_held}
 use Rattle.er_model.specs.Holdings.{Holdings}
 use Rattle.er_replay.proofs.ThreadsLemmas.{err_from, err_is, holding_rewritten}
 use Rattle.er_replay.proofs.threads.Threads.change.Goals as goal
 use Rattle.er_held.proofs.MapLemmas.{holding_found, holding_absent, holding_written}
-use Rattle.er_shadow.proofs.PageLemmas.{page_found, page_put}
+use Rattle.er_keys.proofs.MapLemmas.{entry_found, entry_put}
 use Rattle.er_event.proofs.Results.{on_ok, on_err}
 use Rattle.er_replay.proofs.threads.Threads.change.Goals.{In-Some, In-None}
 
 module _ (c : In-Some) (was : Holdings) (is : slice_get (values c.self.inside.held) c.in-Some.index ≡ Some was) where
+  key : slice_get (keys c.self.inside.held) c.in-Some.index ≡ Some c.args.thread
+  key = c.in-Some.ensures.key ∙ ap Some (c.from-key.ensures ∙ c.number.ensures.value)
+
   -- the holdings that stand there are the thread's
   here : was ≡ holding_among c.self.inside.held.entries c.args.thread
-  here = holding_found c.self.inside.held.entries c.args.thread was (page_found c.self.inside.held c.in-Some.index c.args.thread was c.in-Some.ensures.unique c.in-Some.ensures.key is)
+  here = holding_found c.self.inside.held.entries c.args.thread was (entry_found c.self.inside.held c.in-Some.index c.args.thread was c.in-Some.ensures.unique key is)
 
   found : was ≡ holding_among c.args.self.now c.args.thread
   found = here ∙ ap (λ threads. holding_among threads c.args.thread) c.self.view_is
 
   put : (w : Holdings) (q : ℕ) → lookup (nat_eq q) (with_value_at c.self.inside.held c.in-Some.index w).entries ≡ cond (nat_eq c.args.thread q) (Some w) (lookup (nat_eq q) c.self.inside.held.entries)
-  put = page_put c.self.inside.held c.in-Some.index c.args.thread was c.in-Some.ensures.unique c.in-Some.ensures.key is
+  put = entry_put c.self.inside.held c.in-Some.index c.args.thread was c.in-Some.ensures.unique key is
 
 pub returns-in-Some-clause-accepted : goal.returns-in-Some-clause-accepted
 returns-in-Some-clause-accepted c = rw (← found (goal.at.returns-in-Some-clause-accepted c).In-Some c.index_mut-held.result.now c.index_mut-held.ensures.value) c.change.ensures.accepted
@@ -49,7 +52,8 @@ returns-in-Some-clause-err c =
 
 absent : (c : In-None) → nothing_held ≡ holding_among c.args.self.now c.args.thread
 absent c =
-    holding_absent c.self.inside.held.entries c.args.thread (sym c.in-None.ensures.none)
+    let key = c.from-key.ensures ∙ c.number.ensures.value in
+    holding_absent c.self.inside.held.entries c.args.thread (rw key at (sym c.in-None.ensures.none))
     ∙ ap (λ threads. holding_among threads c.args.thread) c.self.view_is
 
 pub returns-in_ok-insert-in-None-clause-accepted : goal.returns-in_ok-insert-in-None-clause-accepted
@@ -59,8 +63,9 @@ returns-in_ok-insert-in-None-clause-accepted c =
 pub returns-in_ok-insert-in-None-clause-ok : goal.returns-in_ok-insert-in-None-clause-ok
 returns-in_ok-insert-in-None-clause-ok c =
     let none = absent (goal.at.returns-in_ok-insert-in-None-clause-ok c).In-None in
+    let key = c.from-key.ensures ∙ c.number.ensures.value in
     rw (← none, ← c.self.view_is, ← c.new-held.ensures, ← c.in_ok-change-in-None.ensures.ok)
-    (holding_written c.self.inside.held.entries _ c.args.thread c.change-in-None.new.held c.in_ok-insert-in-None.ensures.updates.0)
+    (holding_written c.self.inside.held.entries _ c.args.thread c.change-in-None.new.held (rw key at c.in_ok-insert-in-None.ensures.updates.0))
 
 pub returns-in_err-change-in-None-clause-refused : goal.returns-in_err-change-in-None-clause-refused
 returns-in_err-change-in-None-clause-refused c =

@@ -23,9 +23,9 @@ returns-clause-explained c = λ r k built explained here number.
     elim c.match-self.branch [
       | in-Some+in_ok-follow w ↦
           let follows : Follows w.in-Some.explainer r before.rules k = subst (λ (o : Option Kept). IfSome o (λ kept. Follows kept r before.rules k)) w.in-Some.is was_explained in
-          let printed = is-printed r before.rules k w.told.result c.count-races.result
+          let printed = is-printed r before.rules k w.told.result (length c.as_slice-races.result.now)
           (w.told.ensures ∙ ap (λ (all : List (List Because)). length all) follows.told)
-          (c.count-races.ensures ∙ ap (λ (all : List ℕ). length all) (c.deref.ensures.value ∙ was_built.races)) in
+          (ap (λ (all : List ℕ). length all) (c.as_slice-races.ensures.value ∙ was_built.races)) in
           subst (λ inside. IsReported (seen inside) r (k + 1)) (sym w.self-inside-is)
           (record {
             built = record { report = was_built.report; races = was_built.races };

@@ -15,39 +15,39 @@ returns-in-Some-clause-next g c = λ absent. absurd (absent (Contains-meet _ _ _
 pub returns-clause-next : goal.returns-clause-next
 returns-clause-next g c =
     let P : List (List ℕ) → Type 0 = λ s. IfOk c.number_anew.result (λ n. ¬ Contains s (meet (set_at s c.args.first) (set_at s c.args.second)) → n ≡ length s) in
-    subst P c.self.view_is c.number_anew.ensures.next
+    subst P c.self.view_is c.number_anew.ensures.numbered.next
 
 pub returns-clause-full_only_if_new : goal.returns-clause-full_only_if_new
 returns-clause-full_only_if_new g c =
     let P : List (List ℕ) → Type 0 = λ s. IsErrOf c.number_anew.result TableFull → ¬ Contains s (meet (set_at s c.args.first) (set_at s c.args.second)) in
-    subst P c.self.view_is c.number_anew.ensures.full_only_if_new
+    subst P c.self.view_is c.number_anew.ensures.numbered.full_only_if_new
 
 pub returns-clause-ok : goal.returns-clause-ok
 returns-clause-ok g c =
     let P : List (List ℕ) → Type 0 = λ s. OnOk c.number_anew.result (c.number_anew.new.numbers ≡ with_set s (meet (set_at s c.args.first) (set_at s c.args.second))) in
-    subst P c.self.view_is c.number_anew.ensures.ok
+    subst P c.self.view_is c.number_anew.ensures.numbered.ok
 
 pub returns-clause-names : goal.returns-clause-names
 returns-clause-names g c =
     let P : List (List ℕ) → Type 0 = λ s. IfOk c.number_anew.result (λ n. set_at c.number_anew.new.numbers n ≡ meet (set_at s c.args.first) (set_at s c.args.second)) in
-    subst P c.self.view_is c.number_anew.ensures.names
+    subst P c.self.view_is c.number_anew.ensures.numbered.names
 
 pub returns-clause-empty : goal.returns-clause-empty
 returns-clause-empty g c =
     let P : List (List ℕ) → Type 0 = λ s. IfOk c.number_anew.result (λ n. meet (set_at s c.args.first) (set_at s c.args.second) ≡ [] → n ≡ 0) in
-    subst P c.self.view_is c.number_anew.ensures.empty
+    subst P c.self.view_is c.number_anew.ensures.numbered.empty
 
 pub returns-clause-only_empty : goal.returns-clause-only_empty
 returns-clause-only_empty g c =
     let P : List (List ℕ) → Type 0 = λ s. IfOk c.number_anew.result (λ n. n ≡ 0 → meet (set_at s c.args.first) (set_at s c.args.second) ≡ []) in
-    subst P c.self.view_is c.number_anew.ensures.only_empty
+    subst P c.self.view_is c.number_anew.ensures.numbered.only_empty
 
 pub returns-clause-err : goal.returns-clause-err
 returns-clause-err g c =
     let P : List (List ℕ) → Type 0 = λ s. OnErr c.number_anew.result (c.number_anew.new.numbers ≡ s) in
-    subst P c.self.view_is c.number_anew.ensures.err
+    subst P c.self.view_is c.number_anew.ensures.numbered.err
 
 pub returns-clause-full_only_if_some : goal.returns-clause-full_only_if_some
 returns-clause-full_only_if_some g c =
     let P : List (List ℕ) → Type 0 = λ s. IsErrOf c.number_anew.result TableFull → meet (set_at s c.args.first) (set_at s c.args.second) ≢ [] in
-    subst P c.self.view_is c.number_anew.ensures.full_only_if_some
+    subst P c.self.view_is c.number_anew.ensures.numbered.full_only_if_some

@@ -1,7 +1,7 @@
 use Rattle.std.proofs.Common.{◌≡◌, ◌∙◌, ℕ, nat_eq, cond, None, Some, slice_get, IsTrue, ap, ap₂, sym}
 use Rattle.std.specs.Map.{lookup}
 use Rattle.indexmap.specs.IndexMap.{values, with_value_at}
-use Rattle.er_epochs.proofs.Maps.{entry_found, entry_put}
+use Rattle.er_keys.proofs.MapLemmas.{entry_found, entry_put}
 use Rattle.er_event.specs.Lockset.{has}
 use Rattle.er_event.proofs.Results.{on_ok, on_err}
 use Rattle.er_event.specs.declared.refusals.Refusal.TheVariants.{IgnoreNotOn}

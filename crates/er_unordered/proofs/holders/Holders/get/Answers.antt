@@ -1,5 +1,5 @@
 use Rattle.std.proofs.Common.{ap, sym, ◌∙◌}
-use Rattle.er_epochs.proofs.Maps.{entry_found}
+use Rattle.er_keys.proofs.MapLemmas.{entry_found}
 use Rattle.er_held.specs.ThreadLocks.{holding_among}
 use Rattle.er_held.proofs.MapLemmas.{holding_found, holding_absent}
 use Rattle.er_unordered.proofs.holders.Holders.get.Goals as goal

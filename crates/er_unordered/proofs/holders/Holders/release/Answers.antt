@@ -1,7 +1,7 @@
 use Rattle.std.proofs.Common.{◌≡◌, ◌∙◌, ℕ, Bool, true, false, nat_eq, cond, None, Some, slice_get, refl, ap, ap₂, sym, subst}
 use Rattle.std.specs.Map.{lookup}
 use Rattle.indexmap.specs.IndexMap.{values, with_value_at}
-use Rattle.er_epochs.proofs.Maps.{entry_found, entry_put}
+use Rattle.er_keys.proofs.MapLemmas.{entry_found, entry_put}
 use Rattle.er_event.specs.Lockset.{is_level_lock}
 use Rattle.er_event.specs.declared.steps.Event.TheVariants.{Release}
 use Rattle.er_event.specs.declared.steps.Mode.{Mode}

@@ -2,7 +2,7 @@ use Rattle.std.proofs.Common.{◌∙◌, is_some, ap, sym}
 use Rattle.er_event.proofs.Results.{on_ok}
 use Rattle.er_explain.specs.Racing.{is_race}
 use Rattle.er_unordered.specs.declared.machine.OrderAnswer.{OrderAnswer}
-use Rattle.er_unordered.proofs.StandingLemmas.{stands-on, answer-stands, rival-stands, names-race, full-after, crowded-after, room-after, once_ok, if_ok}
+use Rattle.er_unordered.proofs.StandingLemmas.{stands-on, answer-stands, rival-stands, names-race, beyond-after, room-after, once_ok, if_ok}
 use Rattle.er_unordered.proofs.machine.OrderMachine.step.Goals as goal
 
 pub returns-clause-answer : goal.returns-clause-answer
@@ -23,11 +23,8 @@ pub returns-clause-goes_on : goal.returns-clause-goes_on
 returns-clause-goes_on g c past tags stands last =
     on_ok c.take.result _ _ c.take.ensures.changes (λ changed. stands-on tags c.args.self.now past c.args.step.now stands c.args.tag c.take.new.self last changed)
 
-pub returns-clause-full : goal.returns-clause-full
-returns-clause-full g c past tags stands full = full-after tags c.args.self.now past c.args.step.now stands (c.take.ensures.full full)
-
-pub returns-clause-threads : goal.returns-clause-threads
-returns-clause-threads g c past tags stands crowded = crowded-after tags c.args.self.now past c.args.step.now stands (c.take.ensures.crowded crowded)
+pub returns-clause-limit : goal.returns-clause-limit
+returns-clause-limit g c past tags stands limit is = beyond-after tags c.args.self.now past c.args.step.now stands limit (c.take.ensures.limit limit is)
 
 pub returns-clause-room : goal.returns-clause-room
 returns-clause-room g c past tags stands = once_ok c.take.result _ _ c.take.ensures.changes (λ changed. room-after tags c.args.self.now past c.args.step.now stands changed.room)

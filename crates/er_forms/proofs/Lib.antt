@@ -1,0 +1,2 @@
+pub mod InertLemmas
+pub mod JoinLemmas

@@ -1,6 +1,0 @@
-use Rattle.std.proofs.Common.{◌≡◌, ◌++◌, take, decimal}
-use Rattle.er_print.specs.Values.{values_text}
-use Rattle.er_json.proofs.document.put_count_list.Given as goal
-
-abbrev pub invariant-loop-place : goal.invariant-loop-place
-invariant-loop-place l = l.out.items ≡ l.fn.out.items ++ values_text decimal (take l.place l.counts)

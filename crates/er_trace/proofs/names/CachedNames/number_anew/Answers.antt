@@ -1,0 +1,17 @@
+use Rattle.std.proofs.Common.{◌≡◌, List, ℕ, sym, subst}
+use Rattle.er_trace.specs.Inner.Recent.{bytes_of, AreRight}
+use Rattle.er_trace.proofs.RecentLemmas.{still_right, knows_new, right_after}
+use Rattle.er_trace.proofs.names.CachedNames.number_anew.Goals as goal
+
+pub invariant_of-self-in-Some : goal.invariant_of-self-in-Some
+invariant_of-self-in-Some c =
+    let done = c.in_ok-number.ensures in
+    let bytes : bytes_of c.in-Some.short ≡ c.args.name.now = rw c.in-Some.is at c.requires in
+    let P : List (List ℕ) → Type 0 = λ names. AreRight names c.self.inside.recent in
+    c.remember.ensures c.number.new.self
+    (subst P (sym done.ok) (still_right c.self.inside.list c.args.name.now c.self.inside.recent c.self.invariant))
+    (knows_new c.self.inside.list c.number.new.self c.args.name.now (bytes_of c.in-Some.short) c.in_ok-number.number done.ok bytes done.number done.within)
+
+pub invariant_of-self-2 : goal.invariant_of-self-2
+invariant_of-self-2 c =
+    right_after c.number-2.result c.self.inside.list c.number-2.new.self c.args.name.now c.self.inside.recent c.self.invariant c.number-2.ensures.ok c.number-2.ensures.err
