@@ -84,19 +84,12 @@ fn names_accesses(steps: &[Step], word: Word, start: u64, k: u64, explanation: &
     requires { k < length steps.now }
     ensures { IsTrue result ↔ NamesAccesses steps.now word start k explanation.now }
 {
-    is_access(steps, word, start, k, explanation.first)
-        && is_access(steps, word, start, k, explanation.join)
-        && is_access(steps, word, explanation.join, k, explanation.write)
-        && pairs_name_accesses(steps, word, k, explanation)
-}
-
-// Whether each pair names the position of an access after the joining.
-fn pairs_name_accesses(steps: &[Step], word: Word, k: u64, explanation: &Explanation) -> bool
-    requires last { k < length steps.now }
-    requires join { explanation.now.join ≤ k }
-    ensures { IsTrue result
-        ↔ All (λ pair. IsAccess steps.now word (suc explanation.now.join) k pair.1) explanation.now.uncovered }
-{
+    if !is_access(steps, word, start, k, explanation.first)
+        || !is_access(steps, word, start, k, explanation.join)
+        || !is_access(steps, word, explanation.join, k, explanation.write)
+    {
+        return false;
+    }
     for pair in &explanation.uncovered {
         if !is_access(steps, word, explanation.join + 1, k, pair.at) {
             return false;

@@ -74,13 +74,9 @@ fn list_once(explanation: &Explanation, locks: &Lockset) -> bool
     ensures { IsTrue result ↔ ListsOnce explanation.now.uncovered locks.now }
 {
     let locks = locks.as_slice();
-    explanation.uncovered.len() == locks.len() && list_each_once(explanation, locks)
-}
-
-// Whether the pairs list each of these locks once.
-fn list_each_once(explanation: &Explanation, locks: &[LockId]) -> bool
-    ensures { IsTrue result ↔ All (λ l. times_listed explanation.now.uncovered l ≡ 1) locks.now }
-{
+    if explanation.uncovered.len() != locks.len() {
+        return false;
+    }
     for lock in locks {
         if times_listed(explanation, *lock) != 1 {
             return false;

@@ -1,6 +1,6 @@
 use Rattle.std.proofs.Common.{◌≡◌, ◌<◌, ℕ, suc, slice_get, Some}
 use Rattle.er_check.specs.Claims.{IsAccess}
-use Rattle.er_check.proofs.checking.pairs_name_accesses.Given as goal
+use Rattle.er_check.proofs.checking.names_accesses.Given as goal
 
 abbrev pub invariant-loop-pair : goal.invariant-loop-pair
 invariant-loop-pair l =
