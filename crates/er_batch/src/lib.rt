@@ -14,8 +14,7 @@
 //! let report = found.analyst.finish();
 //! ```
 //!
-//! [`Options`] says how a replay is run, a [`Watch`] sees how far it has come, and a [`Verdict`] is what it comes to,
-//! with how the text ended in [`Replayed`].
+//! [`Options`] says how a replay is run, a [`Watch`] sees how far it has come, and a [`Verdict`] is what it comes to.
 #![tactic(auto)]
 
 pub use analyst::{Analyst, Pair};
@@ -24,7 +23,7 @@ pub use crew::CrewAnalyst;
 pub use lockset::LocksetAnalyst;
 pub use options::Options;
 pub use passes::{Analysed, analyse};
-pub use verdict::{Replayed, Verdict};
+pub use verdict::Verdict;
 pub use watching::{Progress, Unwatched, Watch};
 
 mod analyst;

@@ -46,18 +46,7 @@ impl<A: Drop> Pass<A> {
         ensures limit { IfOk result (λ pass. pass.lines.place.limit ≡ options.now.byte_limit) }
         ensures taken { IfOk result (λ pass. taken_by pass.lines.place ≡ 0) }
     {
-        let lines = match PieceReader::new(
-            alloc,
-            options.byte_limit,
-            options.keys,
-            options.workers,
-        ) {
-            Ok(lines) => lines,
-            Err(refused) => {
-                drop(analyst);
-                return Err(refused);
-            }
-        };
+        let lines = PieceReader::new(alloc, options.byte_limit, options.keys, options.workers)?;
         Ok(Pass {
             lines,
             trace: Trace::keyed(alloc, options.keys),

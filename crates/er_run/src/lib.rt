@@ -22,7 +22,7 @@
 //! limit and 1,025 bytes were taken from the reader (`taken`).
 #![tactic(auto)]
 
-pub use er_batch::{Options, Progress, Replayed, Unwatched, Verdict, Watch};
+pub use er_batch::{Options, Progress, Unwatched, Verdict, Watch};
 pub use er_report::{Analysis, Reports};
 pub use fault::RunFault;
 pub use outcome::ReplayedTrace;

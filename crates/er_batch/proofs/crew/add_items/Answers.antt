@@ -1,5 +1,5 @@
 -- Each step of the batch is counted, or added behind those that were counted.
-use Rattle.std.proofs.Common.{◌≡◌, ◌∙◌, ◌+◌, ◌++◌, ℕ, List, length, slice_get, slice_index, Some, refl, sym, subst, arith}
+use Rattle.std.proofs.Common.{◌≡◌, ◌∙◌, ◌+◌, ℕ, length, slice_get, slice_index, Some, refl, sym, subst, arith}
 use Rattle.std.proofs.lemmas.Option.{slice_get_read}
 use Rattle.er_event.specs.declared.steps.Step.{Step}
 use Rattle.er_batch.specs.Inner.Answering.{Lags}

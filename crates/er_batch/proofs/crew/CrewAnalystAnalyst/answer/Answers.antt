@@ -1,5 +1,5 @@
 -- Workers that have stopped stay so, and others go on to the end of the batch or stop in it.
-use Rattle.std.proofs.Common.{◌∙◌, List, is_some, sym, subst}
+use Rattle.std.proofs.Common.{◌∙◌, is_some, sym, subst}
 use Rattle.er_batch.specs.Analysts.{Asked, CrewRan, HasCrewRun}
 use Rattle.er_batch.specs.Inner.Items.{AreItems}
 use Rattle.er_batch.specs.Runs.{IsWellFormed, recorded}

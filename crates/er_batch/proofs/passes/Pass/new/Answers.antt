@@ -4,4 +4,4 @@ use Rattle.er_batch.proofs.passes.Pass.new.Goals as goal
 
 pub returns-clause-come : goal.returns-clause-come
 returns-clause-come g c = λ asked stands told.
-    begun (g.A.Analyst.stands c.args.analyst asked) c.in-Ok.lines c.keyed.result c.keyed.ensures c.in-Ok.ensures.starts stands told
+    begun (g.A.Analyst.stands c.args.analyst asked) c.in_ok-lines.lines c.keyed.result c.keyed.ensures c.in_ok-lines.ensures.starts stands told
