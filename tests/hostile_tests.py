@@ -63,7 +63,7 @@ COSTS = {
     "many-objects": (16_000, [[], HAPPENS_BEFORE]),
     "started": (16_000, [[], HAPPENS_BEFORE]),
     "two-signals": (4000, [[], HAPPENS_BEFORE]),
-    "some-signals": (2000, [[], HAPPENS_BEFORE]),
+    "some-signals": (4000, [[], HAPPENS_BEFORE]),
     "freed": (2000, [[], HAPPENS_BEFORE]),
 }
 # The clocks of these have each other counts than all others: the longer text ends with a fault.

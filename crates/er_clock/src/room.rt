@@ -33,6 +33,7 @@ impl Room {
     }
 
     /// Makes room for one step more.
+    #[inline(always)]
     pub(crate) fn grow(&mut self) -> Result<(), AllocError> {
         self.most = self.most.saturating_add(Room::EACH);
         begin(&mut self.blocks, self.alloc)?;
@@ -40,6 +41,7 @@ impl Room {
     }
 
     /// Whether the clocks have as many blocks and rows as there is room for.
+    #[inline(always)]
     pub(crate) fn is_full(&self) -> bool {
         let rows = count(&self.rows);
         let blocks = count(&self.blocks);
@@ -58,6 +60,7 @@ impl Room {
 }
 
 // Makes the first mark, unless it is there.
+#[inline(always)]
 fn begin(marks: &mut Mark, alloc: Global) -> Result<(), AllocError> {
     if marks.is_none() {
         match Rc::new(alloc, ()) {
@@ -75,6 +78,7 @@ fn another(marks: &Mark) -> Result<Mark, AllocError> {
     }
 }
 
+#[inline(always)]
 fn count(marks: &Mark) -> usize {
     match marks {
         Some(first) => Rc::strong_count(first),

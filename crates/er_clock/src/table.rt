@@ -127,12 +127,7 @@ impl ClockTable {
 }
 
 // Takes of each thread the greater count.
-fn take(
-    clock: &mut Clock,
-    other: &Clock,
-    is_covered: bool,
-    room: &Room,
-) -> Result<(), AllocError>
+fn take(clock: &mut Clock, other: &Clock, is_covered: bool, room: &Room) -> Result<(), AllocError>
     requires { IsTrue is_covered → (u : ℕ) → count_in clock.old u ≤ count_in other.now u }
     ensures ok { OnOk result (Joins clock.old other.now clock.new) }
     ensures err { OnErr result (Stays clock.old clock.new) }

@@ -95,6 +95,7 @@ impl ThreadClocks {
     }
 
     /// Makes room for what one step more may add to the clocks.
+    #[inline(always)]
     pub(crate) fn grow(&mut self) -> Result<(), AllocError>
         ensures { self.new ≡ self.old }
     {
@@ -102,6 +103,7 @@ impl ThreadClocks {
     }
 
     /// Whether there is no room, and the thread knows a step of one after the first 128. A thread that knows none adds little.
+    #[inline(always)]
     pub(crate) fn is_large(&self, thread: ThreadId) -> bool
         ensures { IsTrue result → (u : ℕ) × (128 ≤ u) × (0 < known_to self.now thread u) }
     {
