@@ -27,7 +27,7 @@ use std::rt::Runtime;
 use std::sync::Wait;
 use std::thread::Threads;
 use work::{Work, count_of};
-use world::{World, table_of};
+use world::{Detectors, World, table_of};
 
 /// What rows are played on.
 pub(crate) trait Host: Runtime + AllocGlobal + Threads + Wait + Sync {}
@@ -76,7 +76,9 @@ fn play_over<R: Host>(rt: &R, table: &LocksetTable, rows: &[Row<'_>], line: &mut
     let alloc = rt.alloc();
     let mut world = World {
         table,
-        detectors: Vec::new(alloc),
+        detectors: Detectors {
+            list: Vec::new(alloc),
+        },
         seats: Vec::new(alloc),
         machine: Machine::new(alloc, table)?,
         steps: Vec::new(alloc),

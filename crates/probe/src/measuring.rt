@@ -94,13 +94,8 @@ fn write_all<R: Wait>(rt: &R, detector: &Detector<'_>, shape: Shape) -> Result<(
     let mut seat = open(detector)?;
     for page in 0..shape.pages() {
         for call in 0..Word::PER_PAGE {
-            detector.access(
-                rt,
-                &mut seat,
-                word_on(page, call),
-                Kind::Write,
-                Site::MISSING,
-            )?;
+            let word = word_on(page, call);
+            detector.access(rt, &mut seat, word, Kind::Write, Site::MISSING)?;
         }
     }
     Ok(())
