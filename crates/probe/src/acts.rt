@@ -126,8 +126,7 @@ fn ask_detectors<R: Host>(
         "swap" => swap_shards(rt, detectors, work),
         "entries" => {
             let shard = detectors.shard(rt, work.side()?, work.count()?)?;
-            let entries = shard.journal().len();
-            Ok(write!(work.answer, "{entries}")?)
+            Ok(write!(work.answer, "{}", shard.journal().len())?)
         }
         "journal" => {
             let shard = detectors.shard(rt, work.side()?, work.count()?)?;

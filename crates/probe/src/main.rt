@@ -61,9 +61,7 @@ fn probe<R: Host>(rt: &R, line: &mut usize) -> Made {
 }
 
 fn play<R: Host>(rt: &R, rows: &[Row<'_>], line: &mut usize) -> Made {
-    let [head, rows @ ..] = rows else {
-        return Err(Fault::BadRow);
-    };
+    let (head, rows) = rows.split_first().ok_or(Fault::BadRow)?;
     *line = head.line;
     let ["table", sets] = head.words.as_slice() else {
         return Err(Fault::BadRow);

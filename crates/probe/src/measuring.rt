@@ -112,11 +112,7 @@ fn make_all<R: Wait>(
     let thread = u64::from(seat.thread().number());
     let mut races: u32 = 0;
     for call in 0..u64::from(calls) {
-        let kind = if call % 2 == 0 {
-            Kind::Read
-        } else {
-            Kind::Write
-        };
+        let kind = [Kind::Read, Kind::Write][(call % 2) as usize];
         let word = word_on(shape.page(thread, call), call);
         let reply = detector.access(rt, seat, word, kind, Site::MISSING)?;
         if matches!(reply, Reply::Race) {

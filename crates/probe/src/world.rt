@@ -52,9 +52,8 @@ pub(crate) struct World<'t> {
 
 /// A table that takes so many sets.
 pub(crate) fn table_of(alloc: Global, sets: u32) -> Result<LocksetTable, Fault> {
-    if sets >= 1 && sets <= 1_048_576 {
-        Ok(LocksetTable::new(alloc, sets)?)
-    } else {
-        Err(Fault::BadRow)
+    match sets {
+        1..=1_048_576 => Ok(LocksetTable::new(alloc, sets)?),
+        _ => Err(Fault::BadRow),
     }
 }

@@ -1,6 +1,6 @@
 //! What stands in answers: replies, states, locks, steps, entries and seats in words.
 use er_detector::Run;
-use er_event::{Event, Kind, LockId, Lockset, Mode, Reply, Site, WordState};
+use er_event::{Event, Kind, LockId, Lockset, Mode, PageRange, Reply, Site, WordState};
 use er_explain::Explanation;
 use er_journal::{Answer, Answers, Entry, Stamp, What};
 use er_owner::{NumberedState, Shadow};
@@ -112,10 +112,7 @@ fn put_event(out: &mut String, event: Event) -> Put {
             }
             Ok(())
         }
-        Event::Reuse(range) => {
-            let (lo, hi) = (range.lo.address(), range.hi.address());
-            write!(out, "reuse {lo:#x} to {hi:#x}")
-        }
+        Event::Reuse(range) => put_range(out, "reuse", &range),
         Event::IgnoreOn => out.push_str("ignore-on"),
         Event::IgnoreOff => out.push_str("ignore-off"),
         Event::Level(level) => write!(out, "level {}", level.number()),
@@ -131,6 +128,11 @@ fn put_lock_event(out: &mut String, verb: &str, lock: LockId, mode: Mode) -> Put
         Mode::Read => " read",
         Mode::Write => " write",
     })
+}
+
+fn put_range(out: &mut String, verb: &str, range: &PageRange) -> Put {
+    let (lo, hi) = (range.lo.address(), range.hi.address());
+    write!(out, "{verb} {lo:#x} to {hi:#x}")
 }
 
 /// What a seat is, and what it holds.
@@ -161,10 +163,7 @@ fn put_entry(out: &mut String, entry: &Entry) -> Put {
     write!(out, "ticket {ticket} thread {thread} ")?;
     match &entry.what {
         What::Access(stamp) => put_stamp(out, stamp)?,
-        What::Reset(range) => {
-            let (lo, hi) = (range.lo.address(), range.hi.address());
-            write!(out, "reset {lo:#x} to {hi:#x}")?
-        }
+        What::Reset(range) => put_range(out, "reset", range)?,
     }
     out.push_str(" ")?;
     put_reply(out, entry.reply.reply())
