@@ -14,7 +14,7 @@ ghost use Rattle.er_trace.specs.Trace.{Recording};
 use er_event::{Event, Lockset, NoRoom, Refusal, Reply, Site, Step};
 use er_journal::Stopped;
 use er_replay::{Machine, no_room};
-use er_report::ReportBuilder;
+use er_report::{ReportBuilder, view_of};
 use er_trace::{Names, Trace};
 use std::alloc::AllocError;
 use std::sync::Wait;
@@ -96,7 +96,7 @@ fn add_answer(
         builder.add_plain(1);
         return Ok(());
     }
-    builder.add(names, line, site, step, answer, held)
+    builder.add(names, line, site, step, view_of(answer), held)
 }
 
 /// Adds `plain` steps at once that the report has no line for, and then one that has a line.

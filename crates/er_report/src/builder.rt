@@ -19,7 +19,7 @@ use crate::reasons::{explain_lines, give_reasons};
 use crate::rules::first_rule;
 use crate::{Because, Line, Made, Report};
 use er_event::{Event, Lockset, NoRoom, Refusal, Reply, Site, Step};
-use er_journal::{Answer, Stopped};
+use er_journal::Answer;
 use er_keys::HashKeys;
 use er_rules::Suppressions;
 use er_trace::{Names, Trace};
@@ -109,31 +109,9 @@ impl<'r> ReportBuilder<'r> {
         self.explainer.is_some()
     }
 
-    /// Adds the next step: the line of the text that it came from, the site that the line names, its answer, and the locks that its thread holds, in any mode,
-    /// which are looked at for a race alone. `AllocError`: memory was refused, and the builder is as it was.
+    /// Adds the next step: the line of the text that it came from, the site that the line names, a view of its answer, and the locks that its thread holds, in
+    /// any mode, which are looked at for a race alone. `AllocError`: memory was refused, and the builder is as it was.
     pub fn add(
-        &mut self,
-        names: &Names,
-        line: u64,
-        site: Site,
-        step: &Step,
-        answer: &Result<Reply, Refusal>,
-        held: &Lockset,
-    ) -> Result<(), AllocError>
-        requires room { self.old.report.steps + 1 < 2 ^ 64 }
-        requires site { HasSiteName names.now step.now.event }
-        requires at { site ≤ length names.now.sites }
-        ensures rules { OnOk result (self.new.rules ≡ self.old.rules) }
-        ensures steps { OnOk result (self.new.report.steps ≡ self.old.report.steps + 1) }
-        ensures built_by { (a : Answering) (r : Recording) (k : ℕ) → IsBuiltBy a self.old r k → IsStepBy a r k names.now line site step.now answer.now held.now → OnOk result (IsBuiltBy a self.new r (k + 1)) }
-        ensures kept { OnOk result (self.new.kept ≡ self.old.kept) }
-        ensures err { OnErr result (self.new ≡ self.old) }
-    {
-        self.add_answer(names, line, site, step, view_of(answer), held)
-    }
-
-    /// The same, by a view of the answer.
-    pub fn add_answer(
         &mut self,
         names: &Names,
         line: u64,
@@ -231,19 +209,6 @@ impl<'r> ReportBuilder<'r> {
         give_reasons(reasons, &mut report.lines);
         report
     }
-
-    /// The report of a run of a trace, whose answered steps were added and explained.
-    pub fn finish_for(self, trace: &Trace, stopped: Option<Stopped>) -> Report
-        requires stop { IfSome stopped (λ stop. stop.at < length trace.now.steps) }
-        requires built { IsReported self trace.now (length (answered_steps trace.now.steps stopped)) }
-        ensures report { told result ≡ report_of trace.now self.entry.rules (is_some self.entry.kept) stopped }
-        ensures named { All (HasNames trace.now.names) result.lines.items }
-    {
-        prove!(trace.lines().len() == trace.steps().len());
-        prove!(trace.sites().len() == trace.lines().len());
-        let stop = stop_line(trace, stopped);
-        self.finish_explained(stop)
-    }
 }
 
 // What finds reasons, if they are wanted.
@@ -274,8 +239,8 @@ fn empty_report(alloc: Global, rules: usize) -> Made<Report>
     })
 }
 
-// A view of the answer.
-fn view_of(answer: &Result<Reply, Refusal>) -> Answer<'_>
+/// A view of an answer.
+pub fn view_of(answer: &Result<Reply, Refusal>) -> Answer<'_>
     ensures { shown result ≡ answer.now }
 {
     match answer {
@@ -372,15 +337,4 @@ fn line_of(
         }),
         _ => None,
     })
-}
-
-// The line of the step at which a run stopped, and why.
-fn stop_line(trace: &Trace, stopped: Option<Stopped>) -> Option<(u64, NoRoom)>
-    requires { IfSome stopped (λ stop. stop.at < length trace.now.steps) }
-    ensures { result ≡ stop_line trace.now stopped }
-{
-    match stopped {
-        Some(Stopped { at, cause }) => Some((trace.lines()[at as usize], cause)),
-        None => None,
-    }
 }

@@ -30,7 +30,7 @@
 //! ```
 #![tactic(auto)]
 
-pub use builder::ReportBuilder;
+pub use builder::{ReportBuilder, view_of};
 pub use er_check::check_explanation;
 pub use er_explain::{Explanation, Uncovered, an_explanation_explains, explain};
 pub use laws::{a_report_goes_on, each_reason_is_told, the_counts_add_up};

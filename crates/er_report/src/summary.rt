@@ -6,14 +6,14 @@ ghost use Rattle.er_journal.specs.AnswerList.{shown};
 ghost use Rattle.er_model.specs.Answers.{answers};
 ghost use Rattle.er_report.specs.Builder.{IsReported, IsStepAt};
 ghost use Rattle.er_report.specs.Names.{HasNames, HasSiteName};
-ghost use Rattle.er_report.specs.Report.{told, report_of, answered_steps};
+ghost use Rattle.er_report.specs.Report.{told, report_of, answered_steps, stop_line};
 ghost use Rattle.er_rules.specs.Rules.{targets_of};
 ghost use Rattle.er_trace.specs.Trace.{Recording};
 
 use crate::{Made, Report, ReportBuilder};
-use er_event::{Lockset, Site, Step, ThreadId};
+use er_event::{Lockset, NoRoom, Site, Step, ThreadId};
 use er_held::ThreadLocks;
-use er_journal::{Answer, Outcome};
+use er_journal::{Answer, Outcome, Stopped};
 use er_keys::HashKeys;
 use er_rules::Suppressions;
 use er_trace::{Names, Trace};
@@ -43,11 +43,26 @@ pub fn summarise(
     let added = add_steps(alloc, trace, outcome, &mut builder, &mut locks);
     drop(locks);
     match added {
-        Ok(()) => Ok(builder.finish_for(trace, outcome.stopped)),
+        Ok(()) => {
+            prove!(trace.lines().len() == trace.steps().len());
+            prove!(trace.sites().len() == trace.lines().len());
+            Ok(builder.finish_explained(stop_line(trace, outcome.stopped)))
+        }
         Err(refused) => {
             drop(builder);
             Err(refused)
         }
+    }
+}
+
+// The line of the step at which a run stopped, and why.
+fn stop_line(trace: &Trace, stopped: Option<Stopped>) -> Option<(u64, NoRoom)>
+    requires { IfSome stopped (λ stop. stop.at < length trace.now.steps) }
+    ensures { result ≡ stop_line trace.now stopped }
+{
+    match stopped {
+        Some(Stopped { at, cause }) => Some((trace.lines()[at as usize], cause)),
+        None => None,
     }
 }
 
@@ -104,7 +119,7 @@ fn add_one(
     ensures explains { OnOk result (is_some builder.new.kept ≡ is_some builder.old.kept) }
     ensures reported { (r : Recording) (k : ℕ) → IsReported builder.old r k → IsStepAt r k names.now line site step.now (shown answer.entry) held.now → OnOk result (IsReported builder.new r (k + 1)) }
 {
-    builder.add_answer(names, line, site, step, answer, held)?;
+    builder.add(names, line, site, step, answer, held)?;
     builder.explain(line, step)
 }
 

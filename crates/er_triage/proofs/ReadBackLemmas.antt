@@ -211,7 +211,7 @@ site_piece : (name : List ℕ) → SiteParts name → IsPiece 128 name
 site_piece name parts = record { few = parts.few; printed = weaker is_site_byte is_printed name site_printed parts.printed }
 
 site_target : (name : List ℕ) → NamesSite name → IsRule (words (codes "site " ++ name)) (AtSite (Some name))
-site_target name is = (name, site_words name (site_parts name is.0), (is.0, sym (ap (λ (b : Bool). cond b None (Some name)) is.1)))
+site_target name is = (name, site_words name (site_parts name is.0), is.0, sym (ap (λ (b : Bool). cond b None (Some name)) is.1))
 
 abbrev words_from : ℕ → ℕ → Option Span
 words_from first last = Some (record { first = first; last = last })

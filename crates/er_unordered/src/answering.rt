@@ -17,7 +17,7 @@ use crate::reasons::{Tag, Told};
 use er_batch::has_room;
 use er_clock::NoTick;
 use er_event::{Lockset, Refusal, Reply, Site, Step};
-use er_report::ReportBuilder;
+use er_report::{ReportBuilder, view_of};
 use er_trace::{Names, Trace};
 use std::alloc::AllocError;
 
@@ -87,7 +87,7 @@ fn add_told<T: Tag>(
         → OnOk result (told.new ≡ told.old ++ cond (is_printed_by (order_answer r.steps) r builder.old.rules k) (T.told_of answer.now.rival) []) }
 {
     let before = builder.races();
-    builder.add(names, line, site, step, &answer.reply, held)?;
+    builder.add(names, line, site, step, view_of(&answer.reply), held)?;
     if builder.races() > before {
         T::tell(answer.rival, told)?;
     }

@@ -7,7 +7,7 @@ use crate::rows::Row;
 use crate::seats::{call, detector, enter, open, settled, swap_shards};
 use crate::values::{meet, shadow, workload};
 use crate::work::{Work, kind_of};
-use crate::world::{World, detector_at, shard_at};
+use crate::world::{Detectors, World};
 use crate::writing::{put_entries, put_known, put_seat};
 use er_detector::Detector;
 use er_event::{Refusal, WordState};
@@ -65,7 +65,7 @@ fn answer<R: Host>(rt: &R, world: &mut World<'_>, work: &mut Work<'_>, line: usi
 // Writes what a refused call must leave as it was: how many seats and entries there are, and the seat or the word of the row.
 fn note<R: Wait>(rt: &R, world: &World<'_>, work: &mut Work<'_>) -> Made {
     write!(work.answer, "{}", world.seats.len())?;
-    for detector in world.detectors.iter().flatten() {
+    for detector in world.detectors.list.iter().flatten() {
         for number in 0..detector.config().shards {
             let entries = detector.shard(rt, number).journal().len();
             write!(work.answer, " {entries}")?;
@@ -111,13 +111,13 @@ fn ask<R: Host>(rt: &R, world: &World<'_>, verb: &str, work: &mut Work<'_>) -> M
         "meet" => meet(alloc, work),
         "shadow" => shadow(work),
         "workload" => workload(rt, work),
-        _ => ask_detectors(rt, world.detectors.as_slice(), verb, work),
+        _ => ask_detectors(rt, &world.detectors, verb, work),
     }
 }
 
 fn ask_detectors<R: Host>(
     rt: &R,
-    detectors: &[Option<Detector<'_>>],
+    detectors: &Detectors<'_>,
     verb: &str,
     work: &mut Work<'_>,
 ) -> Made {
@@ -125,25 +125,24 @@ fn ask_detectors<R: Host>(
         "enter" => enter(rt, detectors, work),
         "swap" => swap_shards(rt, detectors, work),
         "entries" => {
-            let shard = shard_at(rt, detectors, work.side()?, work.count()?)?;
-            let entries = shard.journal().len();
-            Ok(write!(work.answer, "{entries}")?)
+            let shard = detectors.shard(rt, work.side()?, work.count()?)?;
+            Ok(write!(work.answer, "{}", shard.journal().len())?)
         }
         "journal" => {
-            let shard = shard_at(rt, detectors, work.side()?, work.count()?)?;
+            let shard = detectors.shard(rt, work.side()?, work.count()?)?;
             Ok(put_entries(&mut work.answer, shard.journal())?)
         }
         "races" => {
-            let races = detector_at(detectors, work.side()?)?.races(rt)?;
+            let races = detectors.at(work.side()?)?.races(rt)?;
             Ok(put_entries(&mut work.answer, races.as_slice())?)
         }
         "state" => {
-            let detector = detector_at(detectors, work.side()?)?;
+            let detector = detectors.at(work.side()?)?;
             let word = work.word()?;
             let shard = detector.shard(rt, detector.shard_of(word));
             put_state(shard.state_of(word)?, work)
         }
-        "rate" => rate(rt, detector_at(detectors, 0)?, work),
+        "rate" => rate(rt, detectors.at(0)?, work),
         _ => Err(Fault::BadRow),
     }
 }

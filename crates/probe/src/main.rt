@@ -27,7 +27,7 @@ use std::rt::Runtime;
 use std::sync::Wait;
 use std::thread::Threads;
 use work::{Work, count_of};
-use world::{World, table_of};
+use world::{Detectors, World, table_of};
 
 /// What rows are played on.
 pub(crate) trait Host: Runtime + AllocGlobal + Threads + Wait + Sync {}
@@ -61,9 +61,7 @@ fn probe<R: Host>(rt: &R, line: &mut usize) -> Made {
 }
 
 fn play<R: Host>(rt: &R, rows: &[Row<'_>], line: &mut usize) -> Made {
-    let [head, rows @ ..] = rows else {
-        return Err(Fault::BadRow);
-    };
+    let (head, rows) = rows.split_first().ok_or(Fault::BadRow)?;
     *line = head.line;
     let ["table", sets] = head.words.as_slice() else {
         return Err(Fault::BadRow);
@@ -76,7 +74,9 @@ fn play_over<R: Host>(rt: &R, table: &LocksetTable, rows: &[Row<'_>], line: &mut
     let alloc = rt.alloc();
     let mut world = World {
         table,
-        detectors: Vec::new(alloc),
+        detectors: Detectors {
+            list: Vec::new(alloc),
+        },
         seats: Vec::new(alloc),
         machine: Machine::new(alloc, table)?,
         steps: Vec::new(alloc),

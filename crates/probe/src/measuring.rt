@@ -94,13 +94,8 @@ fn write_all<R: Wait>(rt: &R, detector: &Detector<'_>, shape: Shape) -> Result<(
     let mut seat = open(detector)?;
     for page in 0..shape.pages() {
         for call in 0..Word::PER_PAGE {
-            detector.access(
-                rt,
-                &mut seat,
-                word_on(page, call),
-                Kind::Write,
-                Site::MISSING,
-            )?;
+            let word = word_on(page, call);
+            detector.access(rt, &mut seat, word, Kind::Write, Site::MISSING)?;
         }
     }
     Ok(())
@@ -117,11 +112,7 @@ fn make_all<R: Wait>(
     let thread = u64::from(seat.thread().number());
     let mut races: u32 = 0;
     for call in 0..u64::from(calls) {
-        let kind = if call % 2 == 0 {
-            Kind::Read
-        } else {
-            Kind::Write
-        };
+        let kind = [Kind::Read, Kind::Write][(call % 2) as usize];
         let word = word_on(shape.page(thread, call), call);
         let reply = detector.access(rt, seat, word, kind, Site::MISSING)?;
         if matches!(reply, Reply::Race) {

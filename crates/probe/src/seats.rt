@@ -2,7 +2,7 @@
 use crate::Host;
 use crate::fault::{Fault, Made};
 use crate::work::{Work, count_of, kind_of};
-use crate::world::{World, detector_at, shard_at};
+use crate::world::{Detectors, World};
 use crate::writing::{put_reply, put_run, put_seat};
 use er_detector::{Config, Detector, settle};
 use er_event::{Kind, Level, LockId, Lockset, NoRoom, Site};
@@ -17,16 +17,16 @@ use std::sync::Wait;
 pub(crate) fn detector(alloc: Global, world: &mut World<'_>, work: &mut Work<'_>) -> Made {
     let name = work.number()?;
     let config = Config::new(name, work.count()?, work.count()?, work.count()?);
-    world.detectors.reserve(1)?;
+    world.detectors.list.reserve(1)?;
     let detector = Detector::new(alloc, world.table, config.ok_or(Fault::BadRow)?)?;
-    world.detectors.push_reserved(Some(detector));
+    world.detectors.list.push_reserved(Some(detector));
     work.say("done")
 }
 
 /// `open SIDE`: one more seat, which stands behind the others.
 pub(crate) fn open(world: &mut World<'_>, work: &mut Work<'_>) -> Made {
     world.seats.reserve(1)?;
-    let seat = detector_at(world.detectors.as_slice(), work.side()?)?.open_seat()?;
+    let seat = world.detectors.at(work.side()?)?.open_seat()?;
     world.seats.push_reserved(Some(seat));
     work.say("done")
 }
@@ -34,14 +34,14 @@ pub(crate) fn open(world: &mut World<'_>, work: &mut Work<'_>) -> Made {
 /// `seat K CALL`, or `seat K`, which asks what it holds.
 pub(crate) fn call<R: Wait>(rt: &R, world: &mut World<'_>, work: &mut Work<'_>) -> Made {
     match world.seats.get_mut(work.count()? as usize) {
-        Some(Some(seat)) => call_by(rt, world.detectors.as_slice(), seat, work),
+        Some(Some(seat)) => call_by(rt, &world.detectors, seat, work),
         _ => Err(Fault::BadRow),
     }
 }
 
 fn call_by<R: Wait>(
     rt: &R,
-    detectors: &[Option<Detector<'_>>],
+    detectors: &Detectors<'_>,
     seat: &mut Seat,
     work: &mut Work<'_>,
 ) -> Made {
@@ -56,7 +56,7 @@ fn call_by<R: Wait>(
         "level" => seat.set_level(Level::of_number(work.number()?)?)?,
         "reuse" => {
             let range = work.range()?;
-            let detector = detector_at(detectors, side_of(work)?)?;
+            let detector = detectors.at(side_of(work)?)?;
             if let Err(stopped) = detector.reuse(rt, seat, &range) {
                 let at = stopped.first_word_not_done.address();
                 return Err(Fault::Stopped(at, stopped.cause));
@@ -78,7 +78,7 @@ fn side_of(work: &mut Work<'_>) -> Result<usize, Fault> {
 // An access at a detector, or `in SIDE N` in a shard whose lock is taken here.
 fn access<R: Wait>(
     rt: &R,
-    detectors: &[Option<Detector<'_>>],
+    detectors: &Detectors<'_>,
     seat: &mut Seat,
     kind: Kind,
     work: &mut Work<'_>,
@@ -86,20 +86,20 @@ fn access<R: Wait>(
     let (word, site) = (work.word()?, work.site());
     let reply = if work.take("in").is_ok() {
         let side = work.side()?;
-        let mut shard = shard_at(rt, detectors, side, work.count()?)?;
-        detector_at(detectors, side)?.access_in(rt, &mut shard, seat, word, kind, site)?
+        let mut shard = detectors.shard(rt, side, work.count()?)?;
+        detectors
+            .at(side)?
+            .access_in(rt, &mut shard, seat, word, kind, site)?
     } else {
-        detector_at(detectors, side_of(work)?)?.access(rt, seat, word, kind, site)?
+        detectors
+            .at(side_of(work)?)?
+            .access(rt, seat, word, kind, site)?
     };
     Ok(put_reply(&mut work.answer, reply)?)
 }
 
 /// `enter SIDE N ticket T thread M ..`: an entry that no seat called for, an access or a reset.
-pub(crate) fn enter<R: Host>(
-    rt: &R,
-    detectors: &[Option<Detector<'_>>],
-    work: &mut Work<'_>,
-) -> Made {
+pub(crate) fn enter<R: Host>(rt: &R, detectors: &Detectors<'_>, work: &mut Work<'_>) -> Made {
     let (side, number) = (work.side()?, work.count()?);
     work.take("ticket")?;
     let ticket = work.ticket()?;
@@ -107,14 +107,14 @@ pub(crate) fn enter<R: Host>(
     let thread = work.thread()?;
     if work.take("reset").is_ok() {
         let part = work.part()?;
-        let mut shard = shard_at(rt, detectors, side, number)?;
+        let mut shard = detectors.shard(rt, side, number)?;
         shard.reset(ticket, thread, part).map_err(NoRoom::refusal)?;
         return work.say("done");
     }
     let (kind, word) = (kind_of(work.next()?)?, work.word()?);
     let locks = held_of(rt.alloc(), work)?;
     let stamp = Stamp::new(thread, word, kind, Site::MISSING, locks);
-    let mut shard = shard_at(rt, detectors, side, number)?;
+    let mut shard = detectors.shard(rt, side, number)?;
     let reply = shard.apply(rt, ticket, stamp).map_err(NoRoom::refusal)?;
     Ok(put_reply(&mut work.answer, reply)?)
 }
@@ -141,18 +141,14 @@ fn add_locks(held: &mut Lockset, write_held: &mut Lockset, work: &mut Work<'_>) 
 }
 
 /// `swap SIDE N SIDE M`: two shards change places, each under its lock.
-pub(crate) fn swap_shards<R: Wait>(
-    rt: &R,
-    detectors: &[Option<Detector<'_>>],
-    work: &mut Work<'_>,
-) -> Made {
+pub(crate) fn swap_shards<R: Wait>(rt: &R, detectors: &Detectors<'_>, work: &mut Work<'_>) -> Made {
     let here = (work.side()?, work.count()?);
     let there = (work.side()?, work.count()?);
     if here == there {
         return Err(Fault::BadRow);
     }
-    let mut mine = shard_at(rt, detectors, here.0, here.1)?;
-    let mut other = shard_at(rt, detectors, there.0, there.1)?;
+    let mut mine = detectors.shard(rt, here.0, here.1)?;
+    let mut other = detectors.shard(rt, there.0, there.1)?;
     swap::<Shard>(&mut *mine, &mut *other);
     work.say("done")
 }
@@ -190,7 +186,7 @@ fn take_all<'t>(
             None => return Err(Fault::BadRow),
         }
     }
-    match world.detectors.get_mut(side) {
+    match world.detectors.list.get_mut(side) {
         Some(detector) => detector.take().ok_or(Fault::BadRow),
         None => Err(Fault::BadRow),
     }

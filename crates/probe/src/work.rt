@@ -57,10 +57,9 @@ impl<'r> Work<'r> {
             Err(_) => (1, 0),
         };
         self.words = self.left;
-        if times.0 > 0 {
-            Ok(times)
-        } else {
-            Err(Fault::BadRow)
+        match times {
+            (0, _) => Err(Fault::BadRow),
+            _ => Ok(times),
         }
     }
 

@@ -1,6 +1,6 @@
 //! What stands in answers: replies, states, locks, steps, entries and seats in words.
 use er_detector::Run;
-use er_event::{Event, Kind, LockId, Lockset, Mode, Reply, Site, WordState};
+use er_event::{Event, Kind, LockId, Lockset, Mode, PageRange, Reply, Site, WordState};
 use er_explain::Explanation;
 use er_journal::{Answer, Answers, Entry, Stamp, What};
 use er_owner::{NumberedState, Shadow};
@@ -8,7 +8,10 @@ use er_seat::Seat;
 use std::alloc::AllocError;
 use std::fmt::Write;
 
-fn put_lock(out: &mut String, lock: LockId) -> Result<(), AllocError> {
+/// What putting a text into another one comes to.
+pub(crate) type Put = Result<(), AllocError>;
+
+fn put_lock(out: &mut String, lock: LockId) -> Put {
     match lock.number().checked_sub(LockId::BELOW_LEVELS) {
         Some(level) if level > 0 => write!(out, "level-{level}"),
         _ => write!(out, "{}", lock.number()),
@@ -16,7 +19,7 @@ fn put_lock(out: &mut String, lock: LockId) -> Result<(), AllocError> {
 }
 
 /// The locks, rising, or `none`.
-pub(crate) fn put_locks(out: &mut String, locks: &Lockset) -> Result<(), AllocError> {
+pub(crate) fn put_locks(out: &mut String, locks: &Lockset) -> Put {
     if locks.is_empty() {
         out.push_str("none")?;
     }
@@ -27,7 +30,7 @@ pub(crate) fn put_locks(out: &mut String, locks: &Lockset) -> Result<(), AllocEr
     Ok(())
 }
 
-pub(crate) fn put_known(out: &mut String, state: &WordState) -> Result<(), AllocError> {
+pub(crate) fn put_known(out: &mut String, state: &WordState) -> Put {
     match state {
         WordState::Virgin => out.push_str("virgin"),
         WordState::Exclusive(thread) => write!(out, "exclusive {}", thread.number()),
@@ -42,7 +45,7 @@ pub(crate) fn put_known(out: &mut String, state: &WordState) -> Result<(), Alloc
     }
 }
 
-pub(crate) fn put_shadow(out: &mut String, shadow: Shadow) -> Result<(), AllocError> {
+pub(crate) fn put_shadow(out: &mut String, shadow: Shadow) -> Put {
     write!(out, "{:#x} ", shadow.bits())?;
     match shadow.state() {
         NumberedState::Virgin => out.push_str("virgin"),
@@ -52,7 +55,7 @@ pub(crate) fn put_shadow(out: &mut String, shadow: Shadow) -> Result<(), AllocEr
     }
 }
 
-fn put_view(out: &mut String, answer: Answer<'_>) -> Result<(), AllocError> {
+fn put_view(out: &mut String, answer: Answer<'_>) -> Put {
     match answer {
         Answer::Done => out.push_str("done"),
         Answer::Quiet => out.push_str("quiet"),
@@ -64,7 +67,7 @@ fn put_view(out: &mut String, answer: Answer<'_>) -> Result<(), AllocError> {
 }
 
 /// Answers, or `no answers`.
-pub(crate) fn put_answers(out: &mut String, answers: &Answers) -> Result<(), AllocError> {
+pub(crate) fn put_answers(out: &mut String, answers: &Answers) -> Put {
     if answers.is_empty() {
         out.push_str("no answers")?;
     }
@@ -87,7 +90,7 @@ fn view(reply: &Reply) -> Answer<'_> {
     }
 }
 
-pub(crate) fn put_reply(out: &mut String, reply: Reply) -> Result<(), AllocError> {
+pub(crate) fn put_reply(out: &mut String, reply: Reply) -> Put {
     put_view(out, view(&reply))
 }
 
@@ -98,7 +101,7 @@ fn kind_text(kind: Kind) -> &'static str {
     }
 }
 
-fn put_event(out: &mut String, event: Event) -> Result<(), AllocError> {
+fn put_event(out: &mut String, event: Event) -> Put {
     match event {
         Event::Acquire(lock, mode) => put_lock_event(out, "acquire", lock, mode),
         Event::Release(lock, mode) => put_lock_event(out, "release", lock, mode),
@@ -109,10 +112,7 @@ fn put_event(out: &mut String, event: Event) -> Result<(), AllocError> {
             }
             Ok(())
         }
-        Event::Reuse(range) => {
-            let (lo, hi) = (range.lo.address(), range.hi.address());
-            write!(out, "reuse {lo:#x} to {hi:#x}")
-        }
+        Event::Reuse(range) => put_range(out, "reuse", &range),
         Event::IgnoreOn => out.push_str("ignore-on"),
         Event::IgnoreOff => out.push_str("ignore-off"),
         Event::Level(level) => write!(out, "level {}", level.number()),
@@ -121,12 +121,7 @@ fn put_event(out: &mut String, event: Event) -> Result<(), AllocError> {
     }
 }
 
-fn put_lock_event(
-    out: &mut String,
-    verb: &str,
-    lock: LockId,
-    mode: Mode,
-) -> Result<(), AllocError> {
+fn put_lock_event(out: &mut String, verb: &str, lock: LockId, mode: Mode) -> Put {
     write!(out, "{verb} ")?;
     put_lock(out, lock)?;
     out.push_str(match mode {
@@ -135,8 +130,13 @@ fn put_lock_event(
     })
 }
 
+fn put_range(out: &mut String, verb: &str, range: &PageRange) -> Put {
+    let (lo, hi) = (range.lo.address(), range.hi.address());
+    write!(out, "{verb} {lo:#x} to {hi:#x}")
+}
+
 /// What a seat is, and what it holds.
-pub(crate) fn put_seat(out: &mut String, seat: &Seat) -> Result<(), AllocError> {
+pub(crate) fn put_seat(out: &mut String, seat: &Seat) -> Put {
     let (thread, name, calls) = (seat.thread().number(), seat.name(), seat.calls().len());
     write!(out, "thread {thread} of {name}, calls {calls}, held ")?;
     put_locks(out, seat.held())?;
@@ -147,7 +147,7 @@ pub(crate) fn put_seat(out: &mut String, seat: &Seat) -> Result<(), AllocError> 
 }
 
 /// Entries, oldest first, or `none`.
-pub(crate) fn put_entries(out: &mut String, entries: &[Entry]) -> Result<(), AllocError> {
+pub(crate) fn put_entries(out: &mut String, entries: &[Entry]) -> Put {
     if entries.is_empty() {
         out.push_str("none")?;
     }
@@ -158,34 +158,28 @@ pub(crate) fn put_entries(out: &mut String, entries: &[Entry]) -> Result<(), All
     Ok(())
 }
 
-fn put_entry(out: &mut String, entry: &Entry) -> Result<(), AllocError> {
+fn put_entry(out: &mut String, entry: &Entry) -> Put {
     let (ticket, thread) = (entry.ticket, entry.thread.number());
     write!(out, "ticket {ticket} thread {thread} ")?;
     match &entry.what {
         What::Access(stamp) => put_stamp(out, stamp)?,
-        What::Reset(range) => {
-            let (lo, hi) = (range.lo.address(), range.hi.address());
-            write!(out, "reset {lo:#x} to {hi:#x}")?
-        }
+        What::Reset(range) => put_range(out, "reset", range)?,
     }
     out.push_str(" ")?;
     put_reply(out, entry.reply.reply())
 }
 
-fn put_stamp(out: &mut String, stamp: &Stamp) -> Result<(), AllocError> {
+fn put_stamp(out: &mut String, stamp: &Stamp) -> Put {
     let (thread, kind) = (stamp.thread().number(), kind_text(stamp.kind()));
-    write!(
-        out,
-        "by {thread} {kind} {:#x} holding ",
-        stamp.word().address()
-    )?;
+    let address = stamp.word().address();
+    write!(out, "by {thread} {kind} {address:#x} holding ")?;
     put_locks(out, stamp.held())?;
     out.push_str(" to write ")?;
     put_locks(out, stamp.write_held())
 }
 
 /// A settled run.
-pub(crate) fn put_run(out: &mut String, run: &Run) -> Result<(), AllocError> {
+pub(crate) fn put_run(out: &mut String, run: &Run) -> Put {
     write!(out, "steps {}", run.steps.len())?;
     for (step, reply) in run.steps.iter().zip(&run.replies) {
         write!(out, "; {} ", step.thread.number())?;
@@ -197,10 +191,7 @@ pub(crate) fn put_run(out: &mut String, run: &Run) -> Result<(), AllocError> {
 }
 
 /// Why an access is a race, or that it is none.
-pub(crate) fn put_explanation(
-    out: &mut String,
-    found: Option<&Explanation>,
-) -> Result<(), AllocError> {
+pub(crate) fn put_explanation(out: &mut String, found: Option<&Explanation>) -> Put {
     let Some(found) = found else {
         return out.push_str("no race");
     };

@@ -21,4 +21,4 @@ returns-then-is_plain-clause-built c r k built at =
 
 pub returns-clause-built : goal.returns-clause-built
 unfolding IsBuilt
-returns-clause-built c r k = c.add.ensures.built_by (answer r.steps) r k
+returns-clause-built c r k = rw c.view_of.ensures at c.add.ensures.built_by (answer r.steps) r k

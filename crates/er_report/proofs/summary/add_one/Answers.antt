@@ -6,5 +6,5 @@ use Rattle.er_report.proofs.summary.add_one.Goals as goal
 pub returns-clause-reported : goal.returns-clause-reported
 unfolding IsBuilt
 returns-clause-reported c = λ r k reported at.
-    c.explain.ensures.explained r k (c.in_ok-add_answer.ensures.built_by (answer r.steps) r k reported.built at)
-    (still-explained c.args.builder.now c.add_answer.new.self r k c.in_ok-add_answer.ensures.rules c.in_ok-add_answer.ensures.kept reported.explained) at.here at.line
+    c.explain.ensures.explained r k (c.in_ok-add.ensures.built_by (answer r.steps) r k reported.built at)
+    (still-explained c.args.builder.now c.add.new.self r k c.in_ok-add.ensures.rules c.in_ok-add.ensures.kept reported.explained) at.here at.line

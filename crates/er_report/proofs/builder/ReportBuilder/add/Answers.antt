@@ -9,7 +9,7 @@ use Rattle.er_report.specs.Inner.Adding.{with_answer}
 use Rattle.er_report.specs.Report.{told}
 use Rattle.er_rules.specs.Rules.{targets_of}
 use Rattle.er_report.proofs.BuilderLemmas.{built-next}
-use Rattle.er_report.proofs.builder.ReportBuilder.add_answer.Goals as goal
+use Rattle.er_report.proofs.builder.ReportBuilder.add.Goals as goal
 
 pub returns-then-is_printed-clause-built_by : goal.returns-then-is_printed-clause-built_by
 returns-then-is_printed-clause-built_by c = λ a r k built at.
