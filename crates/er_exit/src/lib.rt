@@ -3,7 +3,7 @@
 //! [`report_fault`] writes the line of a [`Fault`] and returns its status. [`advise`] looks at the file once more and writes behind that line the file,
 //! the system's reason or the faulty line, and a hint: each byte is printable ASCII or a line feed, whatever the file has (`plain`). Which hint stands
 //! behind a fault is tested, and not proved. [`add_notes`] adds the lines of [`TextNotes`] on a trace, and [`run_demo`] runs a workload and writes its
-//! line. This crate needs none of what replays stand on, so that it is proved beside them.
+//! line. This crate needs none of the crates that replay a trace, so that it is proved beside them.
 #![tactic(auto)]
 
 mod advice;
