@@ -4,7 +4,7 @@
 //! happen before what the thread does now. [`Hints`] and [`index_of`] find what a number names, without a hash as a rule.
 //!
 //! What it promises, by the names of clauses: clocks that stand for a list of steps stand for the longer list after one more step
-//! (`goes_on`), where a refused step moves nothing; an error names what is lacking and changes no count (`err`, `full`).
+//! (`goes_on`), where a refused step moves nothing; an error names what is lacking and changes no count (`err`, `limit`).
 //!
 //! ```text
 //! let mut clocks = Clocks::new(alloc);
