@@ -1,5 +1,5 @@
 -- The limits of clocks. Threads of a trace are numbered as they appear, and clocks have room for those with the numbers below 65,536.
-use Rattle.std.specs.Prelude.{ℕ, ◌≡◌, ◌<◌, ◌≤◌, ◌-◌, ◌^◌, nat_le, Bool, false, ◌||◌, IsTrue, List, length, Option, Some, None, IfSome}
+use Rattle.std.specs.Prelude.{ℕ, ◌≡◌, ◌<◌, ◌≤◌, ◌-◌, ◌^◌, nat_le, Bool, true, false, ◌||◌, IsTrue, List, length, Option, Some, None, IfSome}
 use Rattle.er_clock.specs.declared.clock.Limit.{Limit}
 use Rattle.er_clock.specs.declared.clock.Limit.TheVariants as limit
 use Rattle.er_event.specs.declared.steps.Step.{Step}
@@ -27,15 +27,26 @@ abbrev pub act_flows : Option Act → ℕ → Bool
 act_flows None t = false
 act_flows (Some a) t = flows a t
 
+-- an effect orders threads
+abbrev pub orders_by : Effect → Bool
+orders_by Local = false
+orders_by _ = true
+
+-- an act does; a refused step is none
+abbrev pub orders : Option Act → Bool
+orders None = false
+orders (Some a) = orders_by a.sync
+
 -- the act's thread knows a step of a thread after the first 128
 abbrev pub KnowsLater : Clocks → Option Act → Type 0
 KnowsLater clocks act = IfSome act (λ a. (u : ℕ) × (128 ≤ u) × (0 < clocks (OfThread a.thread) u))
 
--- the act may be beyond the limit of these clocks: a count that would rise is the greatest, the act crowds, or its thread knows a later one
+-- the act may be beyond the limit of these clocks: a count that would rise is the greatest, the act crowds, or it orders threads and its thread knows a
+-- later one
 abbrev pub IsBeyond : Limit → Clocks → Option Act → Type 0
 IsBeyond limit.Count clocks act = (t : ℕ) × IsTrue (act_flows act t) × (clocks (OfThread t) t ≡ 2 ^ 32 - 1)
 IsBeyond limit.Threads clocks act = IsTrue (crowds act)
-IsBeyond limit.Clocks clocks act = KnowsLater clocks act
+IsBeyond limit.Clocks clocks act = IsTrue (orders act) × KnowsLater clocks act
 
 -- one of the steps is
 pub record BeyondIn (limit : Limit) (steps : List Step) : Type 0 where

@@ -5,7 +5,7 @@ ghost use Rattle.er_event.specs.declared.steps.Step.{Step as Steps};
 ghost use Rattle.er_order.specs.Order.{Effect, sync_of, effect_of};
 ghost use Rattle.er_order.specs.Clocks.{OfThread};
 ghost use Rattle.er_clock.specs.Counts.{count_by};
-ghost use Rattle.er_clock.specs.Crowding.{is_late, crowds, crowds_by, act_flows, IsBeyond};
+ghost use Rattle.er_clock.specs.Crowding.{is_late, crowds, crowds_by, orders_by, act_flows, IsBeyond};
 ghost use Rattle.er_clock.specs.declared.clock.Limit.{Limit as Limits};
 
 use crate::clock::{Limit, NoTick};
@@ -68,7 +68,7 @@ impl Clocks {
     ///
     /// # Errors
     /// `Limit::Threads`: an accepted step that orders threads is by a thread whose number is 65,536 or more, or starts or joins one. Else
-    /// `Limit::Clocks`: the clocks are too large, and its thread knows a step of a thread after the first 128. Else `Limit::Count`: a thread's
+    /// `Limit::Clocks`: the clocks are too large, and its thread knows a step of a thread after the first 128, be it its own. Else `Limit::Count`: a thread's
     /// own count would rise, and is the greatest. `OutOfMemory`: memory was refused.
     pub fn follow(&mut self, step: &Step, accepted: bool) -> Result<(), NoTick>
         ensures goes_on { (steps : List Steps) → StandsForClocksOf self.old steps → accepted ≡ is_accepted steps step.now
@@ -81,6 +81,9 @@ impl Clocks {
         ensures moves { OnOk result (Moves self.old (act_if accepted step.now) self.new) }
     {
         if accepted {
+            if !orders(step.event) {
+                return Ok(());
+            }
             if crowds(step.thread, step.event) {
                 return Err(NoTick::Beyond(Limit::Threads));
             }
@@ -186,29 +189,27 @@ impl Clocks {
     }
 }
 
+// Whether an event orders threads.
+fn orders(event: Event) -> bool
+    ensures { result ≡ orders_by (sync_of event) }
+{
+    matches!(
+        event,
+        Event::Acquire(..) | Event::Release(..) | Event::Sync(_)
+    )
+}
+
 // Whether clocks lack room for a thread that the event is of.
 fn crowds(thread: ThreadId, event: Event) -> bool
     ensures { result ≡ crowds_by thread (sync_of event) }
 {
     match event {
         Event::Acquire(..) | Event::Release(..) => is_late(thread),
-        Event::Sync(sync) => crowds_order(thread, sync),
-        Event::Access(..)
-        | Event::Reuse(_)
-        | Event::IgnoreOn
-        | Event::IgnoreOff
-        | Event::Show(_)
-        | Event::Level(_) => false,
-    }
-}
-
-// The same of an event that holds no lock.
-fn crowds_order(thread: ThreadId, sync: Sync) -> bool
-    ensures { result ≡ crowds_by thread (effect_of sync) }
-{
-    match sync {
-        Sync::Start(other) | Sync::Join(other) => is_late(thread) || is_late(other),
-        Sync::Signal(_) | Sync::Await(_) => is_late(thread),
+        Event::Sync(sync) => match sync {
+            Sync::Start(other) | Sync::Join(other) => is_late(thread) || is_late(other),
+            Sync::Signal(_) | Sync::Await(_) => is_late(thread),
+        },
+        _ => false,
     }
 }
 

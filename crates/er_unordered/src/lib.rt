@@ -9,7 +9,7 @@
 //! the caller gave it (`named`). After an error, which names what is lacking, the machine stands for the list that it stood for (`err`). An
 //! analyst that stands for no steps before the pass (`stands` of `new`) stands for all of them behind it, and then gives the report that the
 //! definitions give (`report` of `finish`), or says why a step can't be answered (`fault`): memory was refused, a thread's own count is 2^32 - 1 at
-//! a step where it would rise, or a step orders a thread whose number is 65,536 or more.
+//! a step where it would rise, a step orders a thread whose number is 65,536 or more, or the clocks are too large.
 //!
 //! ```text
 //! let analyst = OrderAnalyst::new(alloc, &rules, false, NameKeys::KNOWN)?;
