@@ -111,11 +111,7 @@ impl Clock {
     pub(crate) fn is_empty(&self) -> bool
         ensures { IsTrue result → IsZero self.now }
     {
-        if self.rest.is_empty() {
-            self.first.is_empty()
-        } else {
-            false
-        }
+        self.rest.is_empty() && self.first.is_empty()
     }
 
     /// The count of the thread.

@@ -63,10 +63,7 @@ impl Room {
 #[inline(always)]
 fn begin(marks: &mut Mark, alloc: Global) -> Result<(), AllocError> {
     if marks.is_none() {
-        match Rc::new(alloc, ()) {
-            Ok(first) => *marks = Some(first),
-            Err(_) => return Err(AllocError),
-        }
+        *marks = Some(Rc::new(alloc, ()).map_err(|_| AllocError)?);
     }
     Ok(())
 }
