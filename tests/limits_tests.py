@@ -213,7 +213,7 @@ def reads_given_up(record):
 
 
 def workers(record, preloaded):
-    # Long enough for a piece for each of eight threads that read, and of more lines than a batch of two workers.
+    # Long enough for a piece for each of eight threads that read.
     trace = ["eraser trace 1", *["t1 write 0x1000"] * 140_000]
     short = trace[:3]
     with tempfile.TemporaryDirectory() as folder:

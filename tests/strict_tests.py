@@ -191,7 +191,9 @@ def all_traces(record):
 
 def batches(record):
     """Damage on both sides of the ends of batches of one worker and of several, and behind them."""
-    for size in (1022, 1023, 1024, 2047, 131070, 131071, 131072):
+    # One worker reads 1,024 lines at a time, several 64 lines and then 4 MB.
+    several = 64 + (4 << 20) // len(b"t1 write 0\n")
+    for size in (1022, 1023, 1024, 2047, several - 2, several - 1, several, several + 1):
         text = HEAD + b"t1 lock m\n" * 1 + b"t1 write 0\n" * (size - 1) + b"t2 lock m\nt2 unlock n\n"
         wanted = (b"", b"line %d: refused step\nline %d: lock held twice\n" % (size + 3, size + 2), 2)
         for crew in ([], ["--workers", "2"]):
