@@ -73,7 +73,11 @@ impl WordIndex {
         ensures none { first_of (take result self.now.entries.items) lo hi ≡ None }
     {
         let mut past = 0;
-        let mut width = 1usize << 62;
+        let mut width = self
+            .entries
+            .len()
+            .checked_ilog2()
+            .map_or(0, |log| 1usize << log);
         while width > 0 {
             if width <= self.entries.len() - past {
                 let entry = &self.entries[past + width - 1];
