@@ -9,7 +9,7 @@
 #include <stdatomic.h>
 #include <stdint.h>
 
-#define RING_MAGIC 0x35676e6972617265u /* "eraring5" in memory */
+#define RING_MAGIC 0x36676e6972617265u /* "eraring6" in memory */
 #define RING_BITS 18
 #define RING_SLOTS (1u << RING_BITS)
 #define RING_MASK (RING_SLOTS - 1)
@@ -33,8 +33,8 @@ enum event_kind {
     EVENT_VOID,       /* nothing: the slot of an event that was given up */
     EVENT_READ,       /* first: address, size: bytes, second: program counter */
     EVENT_WRITE,      /* the same */
-    EVENT_LOCK,       /* first: lock, acquired in write mode, size: enum lock_kind */
-    EVENT_READ_LOCK,  /* first: lock, acquired in read mode, size: enum lock_kind */
+    EVENT_LOCK,       /* first: lock, acquired in write mode, size: enum lock_kind, second: program counter, or 0 */
+    EVENT_READ_LOCK,  /* first: lock, acquired in read mode, size: enum lock_kind, second: the same */
     EVENT_UNLOCK,     /* first: lock, released in whichever mode the thread holds it, size: enum lock_kind and perhaps LOCK_FAILED, second: program counter */
     EVENT_LOCK_TWICE, /* first: lock that the thread holds and waits for, which lasts for ever; size: enum lock_kind, second: program counter */
     EVENT_LOCK_BEGIN, /* first: lock that begins a new life */
@@ -50,19 +50,24 @@ enum event_kind {
     EVENT_MAPS_TEXT,  /* size: bytes, first and second: up to 16 bytes of text */
     EVENT_MAPS_END,
     /* What orders threads, if the ring asks for it. */
-    EVENT_START,      /* first: number of the thread that is started, second: its pthread_t */
+    EVENT_START,      /* first: pthread_t of the thread that is started, size: its number, second: program counter */
     EVENT_JOIN_WHOM,  /* first: pthread_t of the thread that the next EVENT_JOIN of this thread joins */
-    EVENT_JOIN,       /* first: the same pthread_t */
-    EVENT_SIGNAL,     /* first: object, size: enum object_kind */
+    EVENT_JOIN,       /* first: the same pthread_t, second: program counter */
+    EVENT_SIGNAL,     /* first: object, size: enum object_kind, second: program counter, or 0 */
     EVENT_AWAIT,      /* the same */
     EVENT_OBJECT_BEGIN, /* first: object whose life begins */
     EVENT_OBJECT_END, /* first: object whose life ends */
     EVENT_BARRIER,    /* first: barrier whose life begins, second: how many threads it lets go at a time, 0 if others may come to it */
-    EVENT_FENCE,      /* size: FENCE_ACQUIRES, FENCE_RELEASES or both */
+    EVENT_FENCE,      /* size: FENCE_ACQUIRES, FENCE_RELEASES or both, second: program counter, as in the rest */
     EVENT_STORED,     /* first: atomic, stored by an operation that doesn't release, in a thread that has released by a fence */
     EVENT_LET_GO,     /* first: object that a holder lets go, size: enum object_kind: it signals and awaits it, if anybody has signalled it before */
     EVENT_LOADED,     /* first: atomic, loaded by an operation that doesn't acquire, in a program that has fences */
 };
+
+/* Of these events `second` is the program counter of a call, or 0. */
+#define KINDS_WITH_PLACES (1u << EVENT_LOCK | 1u << EVENT_READ_LOCK | 1u << EVENT_UNLOCK | 1u << EVENT_LOCK_TWICE | 1u << EVENT_LOCK_END | 1u << EVENT_REUSE \
+                           | 1u << EVENT_FREE | 1u << EVENT_START | 1u << EVENT_JOIN | 1u << EVENT_SIGNAL | 1u << EVENT_AWAIT | 1u << EVENT_FENCE             \
+                           | 1u << EVENT_STORED | 1u << EVENT_LET_GO | 1u << EVENT_LOADED)
 
 /* A reuse has addresses below 2^48, so the upper bits of how many bytes it has stand above its address. */
 #define REUSE_BITS 48
@@ -87,7 +92,7 @@ enum object_kind { OBJECT_ATOMIC, OBJECT_SEMAPHORE, OBJECT_BARRIER, OBJECT_CONDI
 struct slot {
     _Atomic uint32_t published; /* ring_round() of its ticket once the rest is filled */
     uint32_t thread;
-    uint32_t kind;
+    uint32_t kind_and_stack; /* slot_kind() and slot_stack() tell them apart */
     uint32_t size;
     uint64_t first;
     uint64_t second;
@@ -111,6 +116,26 @@ struct asker {
 
 /* Bytes of a program's name, with the zero that ends it. */
 #define RING_NAME_BYTES 64
+
+/* Stacks of calls, as a tree: a node is a call that was made in the stack of another node. Node 0 stands for no calls. A node never changes
+ * once its bucket leads to it, so who adds one waits for nobody. No page of this is used unless the program's stacks are recorded. */
+#define STACK_NODES (1u << 21)
+/* The most frames of one machine stack that a node has. */
+#define STACK_CALLS 256u
+#define STACK_BUCKET_BITS 19
+struct stack_node {
+    uint64_t call;   /* the place that it returns to */
+    uint32_t caller; /* the node of the stack in which it was made */
+    uint32_t next;   /* in its bucket, or 0 */
+};
+struct stacks {
+    _Atomic uint32_t count; /* nodes given out, also beyond STACK_NODES */
+    _Atomic uint32_t buckets[1u << STACK_BUCKET_BITS];
+    struct stack_node nodes[STACK_NODES];
+};
+
+/* The event's calls begin with those of the node. What was called behind them is not known: the stack is too deep, or the tree is full. */
+#define STACK_CUT (1u << 23)
 
 struct lost_counter {
     _Alignas(64) _Atomic uint64_t count;
@@ -141,7 +166,21 @@ struct ring {
     _Alignas(128) _Atomic uint64_t head; /* first ticket that the writer has not taken */
     _Alignas(128) struct lost_counter lost[LOST_COUNTERS];
     _Alignas(4096) struct slot slots[RING_SLOTS];
+    _Alignas(4096) struct stacks stacks;
 };
+
+#define KIND_BITS 8
+
+static inline enum event_kind slot_kind(const struct slot *slot)
+{
+    return (enum event_kind)(slot->kind_and_stack & ((1u << KIND_BITS) - 1));
+}
+
+/* The calls that the thread was in: a node, perhaps with STACK_CUT, or 0. */
+static inline uint32_t slot_stack(const struct slot *slot)
+{
+    return slot->kind_and_stack >> KIND_BITS;
+}
 
 static inline uint64_t reuse_size(const struct slot *slot)
 {

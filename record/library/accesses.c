@@ -69,9 +69,6 @@ HOOK void __tsan_vptr_update(void **address, void *value)
         emit_write(address, sizeof *address, CALLER);
 }
 
-HOOK void __tsan_func_entry(void *caller) { (void)caller; }
-HOOK void __tsan_func_exit(void) {}
-
 /* ---- memcpy, memmove and memset ---- */
 
 /* The compilers leave copies of whole objects to these functions of the runtime. The same functions are called by libraries that
@@ -81,7 +78,7 @@ HOOK void __tsan_func_exit(void) {}
 static struct { uint64_t begin, end; } code[CODE_RANGES];
 static atomic_uint code_count;
 
-static bool is_instrumented(uint64_t place)
+bool is_instrumented(uint64_t place)
 {
     unsigned count = atomic_load_explicit(&code_count, memory_order_acquire);
     for (unsigned i = 0; i < count; i++)

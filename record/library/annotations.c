@@ -7,9 +7,9 @@
 HOOK void eraser_reuse(const volatile void *address, size_t size) { emit_hand_over(address, size); }
 HOOK void eraser_ignore_on(void) { emit(EVENT_IGNORE_ON, 0, 0, 0); }
 HOOK void eraser_ignore_off(void) { emit(EVENT_IGNORE_OFF, 0, 0, 0); }
-HOOK void eraser_read_lock(const volatile void *lock) { emit(EVENT_READ_LOCK, LOCK_USER, (uintptr_t)lock, 0); }
-HOOK void eraser_write_lock(const volatile void *lock) { emit(EVENT_LOCK, LOCK_USER, (uintptr_t)lock, 0); }
-HOOK void eraser_unlock(const volatile void *lock) { emit(EVENT_UNLOCK, LOCK_USER, (uintptr_t)lock, 0); }
+HOOK void eraser_read_lock(const volatile void *lock) { emit(EVENT_READ_LOCK, LOCK_USER, (uintptr_t)lock, CALLER); }
+HOOK void eraser_write_lock(const volatile void *lock) { emit(EVENT_LOCK, LOCK_USER, (uintptr_t)lock, CALLER); }
+HOOK void eraser_unlock(const volatile void *lock) { emit(EVENT_UNLOCK, LOCK_USER, (uintptr_t)lock, CALLER); }
 
 /* ---- ThreadSanitizer's interface for locks of the program's own ---- */
 
@@ -24,13 +24,13 @@ HOOK void __tsan_mutex_post_lock(void *lock, unsigned how, int depth)
 {
     (void)depth;
     if (!(how & TSAN_TRY_LOCK_FAILED))
-        emit(how & TSAN_READ_LOCK ? EVENT_READ_LOCK : EVENT_LOCK, LOCK_USER, (uintptr_t)lock, 0);
+        emit(how & TSAN_READ_LOCK ? EVENT_READ_LOCK : EVENT_LOCK, LOCK_USER, (uintptr_t)lock, CALLER);
 }
 
 HOOK int __tsan_mutex_pre_unlock(void *lock, unsigned how)
 {
     (void)how;
-    emit(EVENT_UNLOCK, LOCK_USER, (uintptr_t)lock, 0);
+    emit(EVENT_UNLOCK, LOCK_USER, (uintptr_t)lock, CALLER);
     return 0;
 }
 
@@ -42,8 +42,8 @@ HOOK void __tsan_mutex_post_divert(void *lock, unsigned how) { (void)lock; (void
 HOOK void __tsan_ignore_thread_begin(void) { emit(EVENT_IGNORE_ON, 0, 0, 0); }
 HOOK void __tsan_ignore_thread_end(void) { emit(EVENT_IGNORE_OFF, 0, 0, 0); }
 
-HOOK void __tsan_release(void *object) { emit_signal(OBJECT_USER, object); }
-HOOK void __tsan_acquire(void *object) { emit_await(OBJECT_USER, object); }
+HOOK void __tsan_release(void *object) { emit_signal(OBJECT_USER, object, CALLER); }
+HOOK void __tsan_acquire(void *object) { emit_await(OBJECT_USER, object, CALLER); }
 
 /* ---- Annotations of Valgrind's family ---- */
 
@@ -70,7 +70,7 @@ HOOK void AnnotateRWLockAcquired(const char *file, int line, const volatile void
 {
     (void)file;
     (void)line;
-    emit(is_write ? EVENT_LOCK : EVENT_READ_LOCK, LOCK_USER, (uintptr_t)lock, 0);
+    emit(is_write ? EVENT_LOCK : EVENT_READ_LOCK, LOCK_USER, (uintptr_t)lock, CALLER);
 }
 
 HOOK void AnnotateRWLockReleased(const char *file, int line, const volatile void *lock, long is_write)
@@ -78,7 +78,7 @@ HOOK void AnnotateRWLockReleased(const char *file, int line, const volatile void
     (void)file;
     (void)line;
     (void)is_write;
-    emit(EVENT_UNLOCK, LOCK_USER, (uintptr_t)lock, 0);
+    emit(EVENT_UNLOCK, LOCK_USER, (uintptr_t)lock, CALLER);
 }
 
 HOOK void AnnotateNewMemory(const char *file, int line, const volatile void *address, size_t size)
@@ -93,7 +93,7 @@ HOOK void AnnotateNewMemory(const char *file, int line, const volatile void *add
     {                                            \
         (void)file;                              \
         (void)line;                              \
-        emit_it(OBJECT_USER, object);            \
+        emit_it(OBJECT_USER, object, CALLER);    \
     }
 
 ORDER(AnnotateHappensBefore, emit_signal)

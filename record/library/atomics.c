@@ -20,47 +20,47 @@ static inline bool is_acquire(int order)
     return order == __ATOMIC_ACQUIRE || order == __ATOMIC_CONSUME || order == __ATOMIC_ACQ_REL || order == __ATOMIC_SEQ_CST;
 }
 
-static __attribute__((noinline)) void signal_address(const volatile void *at)
+static __attribute__((noinline)) void signal_address(const volatile void *at, uint64_t site)
 {
     shake();
-    emit_signal(OBJECT_ATOMIC, at);
+    emit_signal(OBJECT_ATOMIC, at, site);
 }
 
-static __attribute__((noinline)) void await_address(const volatile void *at)
+static __attribute__((noinline)) void await_address(const volatile void *at, uint64_t site)
 {
-    emit_await(OBJECT_ATOMIC, at);
+    emit_await(OBJECT_ATOMIC, at, site);
 }
 
-static __attribute__((noinline)) void note_store(const volatile void *at)
+static __attribute__((noinline)) void note_store(const volatile void *at, uint64_t site)
 {
-    emit(EVENT_STORED, 0, (uintptr_t)at, 0);
+    emit(EVENT_STORED, 0, (uintptr_t)at, site);
 }
 
-static __attribute__((noinline)) void note_load(const volatile void *at)
+static __attribute__((noinline)) void note_load(const volatile void *at, uint64_t site)
 {
-    emit(EVENT_LOADED, 0, (uintptr_t)at, 0);
+    emit(EVENT_LOADED, 0, (uintptr_t)at, site);
 }
 
 /* Before an operation that stores. */
-static inline void before_store(const volatile void *at, int order)
+static inline void before_store(const volatile void *at, int order, uint64_t site)
 {
     if (LIKELY(!attached->notes_atomics))
         return;
     if (is_release(order))
-        signal_address(at);
+        signal_address(at, site);
     else if (self.has_released)
-        note_store(at);
+        note_store(at, site);
 }
 
 /* After an operation that loads. */
-static inline void after_load(const volatile void *at, int order)
+static inline void after_load(const volatile void *at, int order, uint64_t site)
 {
     if (LIKELY(!is_ordering()))
         return;
     if (is_acquire(order))
-        await_address(at);
+        await_address(at, site);
     else if (is_fencing())
-        note_load(at);
+        note_load(at, site);
 }
 
 /* An operation that stores only if it succeeds has its place among the events before it is known whether it is one of them. */
@@ -72,31 +72,31 @@ static inline __attribute__((always_inline)) bool draw_store(struct draft *draft
     return is_ordering() && emit_draw(draft);
 }
 
-static inline __attribute__((always_inline)) void publish_store(const struct draft *draft, bool is_done, const volatile void *at, int order)
+static inline __attribute__((always_inline)) void publish_store(const struct draft *draft, bool is_done, const volatile void *at, int order, uint64_t site)
 {
     enum event_kind kind = is_release(order) ? EVENT_SIGNAL : EVENT_STORED;
-    emit_publish(draft, is_done ? kind : EVENT_VOID, OBJECT_ATOMIC, (uintptr_t)at, 0);
+    emit_publish(draft, is_done ? kind : EVENT_VOID, OBJECT_ATOMIC, (uintptr_t)at, site);
 }
 
 #define LOAD_AND_STORE(type, bits)                                                                                           \
     HOOK type __tsan_atomic##bits##_load(const volatile type *at, int order)                                                 \
     {                                                                                                                        \
         type value = __atomic_load_n(at, ORDER);                                                                             \
-        after_load(at, order);                                                                                               \
+        after_load(at, order, CALLER);                                                                                       \
         return value;                                                                                                        \
     }                                                                                                                        \
     HOOK void __tsan_atomic##bits##_store(volatile type *at, type value, int order)                                          \
     {                                                                                                                        \
-        before_store(at, order);                                                                                             \
+        before_store(at, order, CALLER);                                                                                     \
         __atomic_store_n(at, value, ORDER);                                                                                  \
     }
 
 #define CHANGE(type, bits, name, builtin)                                                                                    \
     HOOK type __tsan_atomic##bits##_##name(volatile type *at, type value, int order)                                         \
     {                                                                                                                        \
-        before_store(at, order);                                                                                             \
+        before_store(at, order, CALLER);                                                                                     \
         type old = builtin(at, value, ORDER);                                                                                \
-        after_load(at, order);                                                                                               \
+        after_load(at, order, CALLER);                                                                                       \
         return old;                                                                                                          \
     }
 
@@ -106,8 +106,8 @@ static inline __attribute__((always_inline)) void publish_store(const struct dra
     bool is_drawn = draw_store(&draft, order);                                                                               \
     operation;                                                                                                               \
     if (is_drawn)                                                                                                            \
-        publish_store(&draft, is_done, at, order);                                                                           \
-    after_load(at, is_done ? order : failed);
+        publish_store(&draft, is_done, at, order, CALLER);                                                                   \
+    after_load(at, is_done ? order : failed, CALLER);
 
 #define COMPARE(type, bits, name)                                                                                            \
     HOOK int __tsan_atomic##bits##_compare_exchange_##name(volatile type *at, type *expected, type value, int order, int failed) \
@@ -154,17 +154,17 @@ static wide swap_wide(volatile wide *at, wide expected, wide value)
     HOOK wide __tsan_atomic128_##name(volatile wide *at, wide value, int order)                                              \
     {                                                                                                                        \
         wide old = 0, found;                                                                                                 \
-        before_store(at, order);                                                                                             \
+        before_store(at, order, CALLER);                                                                                     \
         while ((found = swap_wide(at, old, result)) != old)                                                                  \
             old = found;                                                                                                     \
-        after_load(at, order);                                                                                               \
+        after_load(at, order, CALLER);                                                                                       \
         return old;                                                                                                          \
     }
 
 HOOK wide __tsan_atomic128_load(const volatile wide *at, int order)
 {
     wide value = swap_wide((volatile wide *)(uintptr_t)at, 0, 0);
-    after_load(at, order);
+    after_load(at, order, CALLER);
     return value;
 }
 
@@ -179,7 +179,7 @@ CHANGE_WIDE(fetch_nand, ~(old & value))
 HOOK void __tsan_atomic128_store(volatile wide *at, wide value, int order)
 {
     wide old = 0, found;
-    before_store(at, order);
+    before_store(at, order, CALLER);
     while ((found = swap_wide(at, old, value)) != old)
         old = found;
 }
@@ -209,7 +209,7 @@ HOOK void __tsan_atomic_thread_fence(int order)
     uint32_t does = (is_acquire(order) ? FENCE_ACQUIRES : 0) | (is_release(order) ? FENCE_RELEASES : 0);
     if (UNLIKELY(is_ordering()) && does) {
         self.has_released |= does & FENCE_RELEASES;
-        emit(EVENT_FENCE, does, 0, 0);
+        emit(EVENT_FENCE, does, 0, CALLER);
     }
     __atomic_thread_fence(ORDER);
 }

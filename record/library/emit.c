@@ -41,7 +41,7 @@ static void give_up(struct ring *ring, struct self *me, uint64_t ticket)
     } else if (ticket != PENDING_NONE) {
         struct slot *slot = &ring->slots[ring_place(ticket)];
         slot->thread = me->number;
-        slot->kind = EVENT_VOID;
+        slot->kind_and_stack = EVENT_VOID;
         atomic_store_explicit(&slot->published, ring_round(ticket), memory_order_release);
     }
     set_pending(me, PENDING_NONE);
@@ -352,6 +352,8 @@ bool attach_child(void)
     attached->was_refused = !first;
     has_begun = true;
     self = (struct self){.reads_ignored = self.reads_ignored, .writes_ignored = self.writes_ignored};
+    if (KEEPS_STACKS)
+        stack_forget_nodes();
     if (first)
         attach_to(first, attached);
     if (is_recording())

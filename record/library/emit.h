@@ -10,6 +10,7 @@
 #include <stdint.h>
 
 #include "../ring.h"
+#include "stacks.h"
 
 /* The library is built with hidden visibility; a hook is what a program may call. */
 #define HOOK __attribute__((visibility("default")))
@@ -57,6 +58,8 @@ void attach(void);
 /* Whether a child that was forked is recorded from here on. */
 bool attach_child(void);
 bool has_instrumented_file(void);
+/* Whether code there is in a file that is instrumented. */
+bool is_instrumented(uint64_t place);
 /* Tells the writer which files the program has, if they have changed since, or if it is a new one. */
 void note_files(bool is_new);
 
@@ -142,12 +145,29 @@ static inline __attribute__((always_inline)) bool emit_draw(struct draft *draft)
     return true;
 }
 
+/* The calls in which this event is made. Most accesses are in a function that has had one already. */
+static inline __attribute__((always_inline)) uint32_t emit_stack(enum event_kind kind, uint64_t place)
+{
+    if (!KEEPS_STACKS)
+        return 0;
+    uintptr_t pointer = (uintptr_t)__builtin_dwarf_cfa();
+    if (kind > EVENT_WRITE)
+        return kind < 32 && KINDS_WITH_PLACES >> kind & 1 && place ? stack_look_from(pointer, place) : 0;
+    const struct stack *stack = stack_now;
+    if (LIKELY(stack != NULL)) {
+        const struct frame *top = stack->top;
+        if (LIKELY(pointer <= top->pointer && pointer > stack->low && top->stack != STACK_UNKNOWN))
+            return top->stack;
+    }
+    return stack_look(pointer);
+}
+
 static inline __attribute__((always_inline)) void emit_publish(const struct draft *draft, enum event_kind kind, uint32_t size, uint64_t first, uint64_t second)
 {
     struct self *me = draft->me;
     struct slot *slot = &draft->ring->slots[ring_place(draft->ticket)];
     slot->thread = me->number;
-    slot->kind = (uint32_t)kind;
+    slot->kind_and_stack = (uint32_t)kind | emit_stack(kind, second) << KIND_BITS;
     slot->size = size;
     slot->first = first;
     slot->second = second;
@@ -212,16 +232,16 @@ void emit_hand_over(const volatile void *address, uint64_t size);
 
 /* A signal is recorded before what it stands for happens, an await after it. So the await of whoever saw what another thread did comes
  * after that thread's signal. */
-static inline void emit_signal(enum object_kind kind, const volatile void *object)
+static inline void emit_signal(enum object_kind kind, const volatile void *object, uint64_t site)
 {
     if (UNLIKELY(is_ordering()))
-        emit(EVENT_SIGNAL, kind, (uintptr_t)object, 0);
+        emit(EVENT_SIGNAL, kind, (uintptr_t)object, site);
 }
 
-static inline void emit_await(enum object_kind kind, const volatile void *object)
+static inline void emit_await(enum object_kind kind, const volatile void *object, uint64_t site)
 {
     if (UNLIKELY(is_ordering()))
-        emit(EVENT_AWAIT, kind, (uintptr_t)object, 0);
+        emit(EVENT_AWAIT, kind, (uintptr_t)object, site);
 }
 
 /* What is at this address from now on is another object. */

@@ -15,23 +15,23 @@ void __cxa_free_exception(void *exception);
 /* This library holds an exception itself for a moment. */
 static __thread bool is_looking __attribute__((tls_model("initial-exec")));
 
-static void let_go(void *exception)
+static void let_go(void *exception, uint64_t site)
 {
     if (exception)
-        emit(EVENT_LET_GO, OBJECT_EXCEPTION, (uintptr_t)exception, 0);
+        emit(EVENT_LET_GO, OBJECT_EXCEPTION, (uintptr_t)exception, site);
 }
 
 HOOK void _ZNSt15__exception_ptr13exception_ptr9_M_addrefEv(struct holder *holder)
 {
     if (UNLIKELY(is_ordering()) && !is_looking)
-        emit_signal(OBJECT_EXCEPTION, holder->exception);
+        emit_signal(OBJECT_EXCEPTION, holder->exception, CALLER);
     REAL(_ZNSt15__exception_ptr13exception_ptr9_M_addrefEv)(holder);
 }
 
 HOOK void _ZNSt15__exception_ptr13exception_ptr10_M_releaseEv(struct holder *holder)
 {
     if (UNLIKELY(is_ordering()) && !is_looking)
-        let_go(holder->exception);
+        let_go(holder->exception, CALLER);
     REAL(_ZNSt15__exception_ptr13exception_ptr10_M_releaseEv)(holder);
 }
 
@@ -50,12 +50,12 @@ static void *handled(void)
 HOOK void __cxa_end_catch(void)
 {
     if (UNLIKELY(is_ordering()))
-        let_go(handled());
+        let_go(handled(), CALLER);
     REAL(__cxa_end_catch)();
 }
 
 HOOK void __cxa_free_exception(void *exception)
 {
-    emit_await(OBJECT_EXCEPTION, exception);
+    emit_await(OBJECT_EXCEPTION, exception, CALLER);
     REAL(__cxa_free_exception)(exception);
 }

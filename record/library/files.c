@@ -38,7 +38,7 @@ struct sending {
     struct draft draft;
 };
 
-static inline __attribute__((always_inline)) void begin_sending(struct sending *sending, int file)
+static inline __attribute__((always_inline)) void begin_sending(struct sending *sending, int file, uint64_t site)
 {
     sending->is_drawn = false;
     sending->object = is_ordering() ? object_of(file) : NULL;
@@ -48,19 +48,19 @@ static inline __attribute__((always_inline)) void begin_sending(struct sending *
     if (fcntl(file, F_GETFL) & O_NONBLOCK)
         sending->is_drawn = emit_draw(&sending->draft);
     else
-        emit_signal(OBJECT_PIPE, sending->object);
+        emit_signal(OBJECT_PIPE, sending->object, site);
 }
 
-static inline __attribute__((always_inline)) void end_sending(const struct sending *sending, bool is_done)
+static inline __attribute__((always_inline)) void end_sending(const struct sending *sending, bool is_done, uint64_t site)
 {
     if (sending->is_drawn)
-        emit_publish(&sending->draft, is_done ? EVENT_SIGNAL : EVENT_VOID, OBJECT_PIPE, (uintptr_t)sending->object, 0);
+        emit_publish(&sending->draft, is_done ? EVENT_SIGNAL : EVENT_VOID, OBJECT_PIPE, (uintptr_t)sending->object, site);
 }
 
 /* The thread was cancelled before it wrote. */
 static inline __attribute__((always_inline)) void cancel_sending(void *sending)
 {
-    end_sending(sending, false);
+    end_sending(sending, false, 0);
 }
 
 #define WRITE(type, name, parameters, arguments, is_done)    \
@@ -70,11 +70,11 @@ static inline __attribute__((always_inline)) void cancel_sending(void *sending)
         __typeof__(&name) real = find_##name();              \
         struct sending sending;                              \
         type result;                                         \
-        begin_sending(&sending, file);                       \
+        begin_sending(&sending, file, CALLER);               \
         pthread_cleanup_push(cancel_sending, &sending);      \
         result = real arguments;                             \
         pthread_cleanup_pop(0);                              \
-        end_sending(&sending, is_done);                      \
+        end_sending(&sending, is_done, CALLER);              \
         return result;                                       \
     }
 
@@ -86,7 +86,7 @@ static inline __attribute__((always_inline)) void cancel_sending(void *sending)
         if (UNLIKELY(is_ordering()) && (is_done)) {          \
             const volatile void *object = object_of(file);   \
             if (object)                                      \
-                emit_await(OBJECT_PIPE, object);             \
+                emit_await(OBJECT_PIPE, object, CALLER);     \
         }                                                    \
         return result;                                       \
     }

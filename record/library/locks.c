@@ -16,14 +16,14 @@ static bool is_acquired(int result)
     return result == 0 || result == EOWNERDEAD;
 }
 
-static void emit_lock(enum lock_kind kind, volatile void *lock)
+static void emit_lock(enum lock_kind kind, volatile void *lock, uint64_t site)
 {
-    emit(EVENT_LOCK, kind, (uintptr_t)lock, 0);
+    emit(EVENT_LOCK, kind, (uintptr_t)lock, site);
 }
 
-static void emit_read_lock(enum lock_kind kind, volatile void *lock)
+static void emit_read_lock(enum lock_kind kind, volatile void *lock, uint64_t site)
 {
-    emit(EVENT_READ_LOCK, kind, (uintptr_t)lock, 0);
+    emit(EVENT_READ_LOCK, kind, (uintptr_t)lock, site);
 }
 
 static void emit_unlock(enum lock_kind kind, volatile void *lock, uint64_t site)
@@ -48,7 +48,7 @@ static void emit_end(volatile void *lock, uint64_t site)
         shake();                                             \
         int result = REAL(name) arguments;                   \
         if (is_acquired(result))                             \
-            emit_it(kind, lock);                             \
+            emit_it(kind, lock, CALLER);                     \
         return result;                                       \
     }
 
@@ -108,7 +108,7 @@ HOOK int pthread_mutex_lock(pthread_mutex_t *lock)
     shake();
     int result = REAL(pthread_mutex_lock)(lock);
     if (is_acquired(result))
-        emit_lock(LOCK_MUTEX, lock);
+        emit_lock(LOCK_MUTEX, lock, CALLER);
     return result;
 }
 
@@ -179,7 +179,7 @@ HOOK int mtx_lock(mtx_t *lock)
     shake();
     int result = REAL(mtx_lock)(lock);
     if (is_acquired(result))
-        emit_lock(LOCK_MUTEX, lock);
+        emit_lock(LOCK_MUTEX, lock, CALLER);
     return result;
 }
 
@@ -196,22 +196,26 @@ HOOK void mtx_destroy(mtx_t *lock)
 /* ---- Condition variables ---- */
 
 /* A wait that is cancelled ends with the mutex held again, and its caller's clean-up runs under it. */
-static void lock_after_cancel(void *lock)
+struct waiting { void *lock; uint64_t site; };
+
+static void lock_after_cancel(void *waiting)
 {
-    emit_lock(LOCK_MUTEX, lock);
+    const struct waiting *its = waiting;
+    emit_lock(LOCK_MUTEX, its->lock, its->site);
 }
 
 #define WAIT(type, lock_type, name, parameters, arguments)   \
     HOOK int name parameters                                 \
     {                                                        \
         int result;                                          \
+        struct waiting waiting = {lock, CALLER};             \
         emit_unlock(LOCK_MUTEX, lock, CALLER);               \
-        pthread_cleanup_push(lock_after_cancel, lock);       \
+        pthread_cleanup_push(lock_after_cancel, &waiting);   \
         result = REAL(name) arguments;                       \
         pthread_cleanup_pop(0);                              \
         if (result == 0)                                     \
-            emit_await(OBJECT_CONDITION, wakes);             \
-        emit_lock(LOCK_MUTEX, lock);                         \
+            emit_await(OBJECT_CONDITION, wakes, CALLER);     \
+        emit_lock(LOCK_MUTEX, lock, CALLER);                 \
         return result;                                       \
     }
 

@@ -10,6 +10,7 @@ struct region {
     void *data;
     char begins, ends, ordered;
     char rounds[2]; /* of its barriers, in turn: nobody comes to a round before all have left the one before the last */
+    uint64_t site; /* where it is begun */
 };
 
 /* The region of this thread, and how many of its barriers the thread has left. */
@@ -26,12 +27,12 @@ static void begin_region(struct region *region)
     emit_object_begin(&region->ordered);
     emit_object_begin(&region->rounds[0]);
     emit_object_begin(&region->rounds[1]);
-    emit_signal(OBJECT_REGION, &region->begins);
+    emit_signal(OBJECT_REGION, &region->begins, region->site);
 }
 
 static void end_region(struct region *region)
 {
-    emit_await(OBJECT_REGION, &region->ends);
+    emit_await(OBJECT_REGION, &region->ends, region->site);
     emit_object_end(&region->begins);
     emit_object_end(&region->ends);
     emit_object_end(&region->ordered);
@@ -46,9 +47,9 @@ static void run_region(void *given)
     struct place outer = here;
     here = (struct place){region, 0};
     shake();
-    emit_await(OBJECT_REGION, &region->begins);
+    emit_await(OBJECT_REGION, &region->begins, region->site);
     region->body(region->data);
-    emit_signal(OBJECT_REGION, &region->ends);
+    emit_signal(OBJECT_REGION, &region->ends, region->site);
     here = outer;
 }
 
@@ -57,7 +58,7 @@ static void run_region(void *given)
     HOOK type name parameters                                \
     {                                                        \
         __typeof__(&name) real = REAL(name);                 \
-        struct region region = {body, data, 0, 0, 0, {0, 0}}; \
+        struct region region = {body, data, 0, 0, 0, {0, 0}, CALLER}; \
         if (!attached->notes_atomics)                        \
             return real(body, data, __VA_ARGS__);            \
         begin_region(&region);                               \
@@ -88,26 +89,26 @@ RUNTIME_LOOP(GOMP_parallel_loop_maybe_nonmonotonic_runtime)
 
 /* ---- Barriers, also those at the end of what the threads of a region share ---- */
 
-static void arrive(void)
+static void arrive(uint64_t site)
 {
     shake();
     if (here.region)
-        emit_signal(OBJECT_BARRIER, &here.region->rounds[here.round % 2]);
+        emit_signal(OBJECT_BARRIER, &here.region->rounds[here.round % 2], site);
 }
 
-static void leave(void)
+static void leave(uint64_t site)
 {
     if (here.region)
-        emit_await(OBJECT_BARRIER, &here.region->rounds[here.round++ % 2]);
+        emit_await(OBJECT_BARRIER, &here.region->rounds[here.round++ % 2], site);
 }
 
 #define BARRIER(name)                                        \
     void name(void);                                         \
     HOOK void name(void)                                     \
     {                                                        \
-        arrive();                                            \
+        arrive(CALLER);                                      \
         REAL(name)();                                        \
-        leave();                                             \
+        leave(CALLER);                                       \
     }
 
 /* It says whether the region is cancelled. */
@@ -115,9 +116,9 @@ static void leave(void)
     bool name(void);                                         \
     HOOK bool name(void)                                     \
     {                                                        \
-        arrive();                                            \
+        arrive(CALLER);                                      \
         bool result = REAL(name)();                          \
-        leave();                                             \
+        leave(CALLER);                                       \
         return result;                                       \
     }
 
@@ -134,18 +135,18 @@ void GOMP_single_copy_end(void *data);
 
 HOOK void *GOMP_single_copy_start(void)
 {
-    arrive();
+    arrive(CALLER);
     void *data = REAL(GOMP_single_copy_start)();
     if (data)
-        leave();
+        leave(CALLER);
     return data;
 }
 
 HOOK void GOMP_single_copy_end(void *data)
 {
-    arrive();
+    arrive(CALLER);
     REAL(GOMP_single_copy_end)(data);
-    leave();
+    leave(CALLER);
 }
 
 /* ---- What is done in the order of a loop ---- */
@@ -157,13 +158,13 @@ HOOK void GOMP_ordered_start(void)
 {
     REAL(GOMP_ordered_start)();
     if (here.region)
-        emit_await(OBJECT_REGION, &here.region->ordered);
+        emit_await(OBJECT_REGION, &here.region->ordered, CALLER);
 }
 
 HOOK void GOMP_ordered_end(void)
 {
     if (here.region)
-        emit_signal(OBJECT_REGION, &here.region->ordered);
+        emit_signal(OBJECT_REGION, &here.region->ordered, CALLER);
     REAL(GOMP_ordered_end)();
 }
 
@@ -178,7 +179,7 @@ static char omp_critical = 1, omp_atomic = 1;
     {                                                        \
         shake();                                             \
         REAL(name) arguments;                                \
-        emit(EVENT_LOCK, LOCK_USER, (uintptr_t)(lock), 0);   \
+        emit(EVENT_LOCK, LOCK_USER, (uintptr_t)(lock), CALLER); \
     }
 
 /* It gives 0 if the lock is another thread's. */
@@ -189,7 +190,7 @@ static char omp_critical = 1, omp_atomic = 1;
         shake();                                             \
         int result = REAL(name)(lock);                       \
         if (result)                                          \
-            emit(EVENT_LOCK, LOCK_USER, (uintptr_t)lock, 0); \
+            emit(EVENT_LOCK, LOCK_USER, (uintptr_t)lock, CALLER); \
         return result;                                       \
     }
 
@@ -197,7 +198,7 @@ static char omp_critical = 1, omp_atomic = 1;
     void name parameters;                                    \
     HOOK void name parameters                                \
     {                                                        \
-        emit(EVENT_UNLOCK, LOCK_USER, (uintptr_t)(lock), 0); \
+        emit(EVENT_UNLOCK, LOCK_USER, (uintptr_t)(lock), CALLER); \
         REAL(name) arguments;                                \
     }
 

@@ -19,7 +19,7 @@ typedef const struct timespec *until;
     HOOK int name(type *object)                              \
     {                                                        \
         shake();                                             \
-        emit_signal(kind, object);                           \
+        emit_signal(kind, object, CALLER);                   \
         return REAL(name)(object);                           \
     }
 
@@ -30,7 +30,7 @@ typedef const struct timespec *until;
         shake();                                             \
         int result = REAL(name) arguments;                   \
         if (result == 0)                                     \
-            emit_await(kind, object);                        \
+            emit_await(kind, object, CALLER);                \
         return result;                                       \
     }
 
@@ -74,7 +74,7 @@ HOOK int sem_post(sem_t *object)
     bool is_drawn = is_ordering() && emit_draw(&draft);
     int result = post(object);
     if (is_drawn)
-        emit_publish(&draft, result == 0 ? EVENT_SIGNAL : EVENT_VOID, OBJECT_SEMAPHORE, (uintptr_t)object, 0);
+        emit_publish(&draft, result == 0 ? EVENT_SIGNAL : EVENT_VOID, OBJECT_SEMAPHORE, (uintptr_t)object, CALLER);
     return result;
 }
 
@@ -95,10 +95,10 @@ HOOK int pthread_barrier_init(pthread_barrier_t *restrict object, const pthread_
 HOOK int pthread_barrier_wait(pthread_barrier_t *object)
 {
     shake();
-    emit_signal(OBJECT_BARRIER, object);
+    emit_signal(OBJECT_BARRIER, object, CALLER);
     int result = REAL(pthread_barrier_wait)(object);
     if (result == 0 || result == PTHREAD_BARRIER_SERIAL_THREAD)
-        emit_await(OBJECT_BARRIER, object);
+        emit_await(OBJECT_BARRIER, object, CALLER);
     return result;
 }
 
@@ -129,20 +129,22 @@ HOOK void cnd_destroy(cnd_t *object)
 struct once {
     void (*body)(void);
     void *object;
+    uint64_t site;
 };
 static __thread struct once once __attribute__((tls_model("initial-exec")));
 
-static void signal_once(void *object)
+static void signal_once(void *done)
 {
-    emit_signal(OBJECT_ONCE, object);
+    const struct once *its = done;
+    emit_signal(OBJECT_ONCE, its->object, its->site);
 }
 
 /* The body may do something else once. It may end by an exception, and then the next thread that comes does it again, and comes after. */
 static void run_once(void)
 {
     struct once now = once;
-    emit_await(OBJECT_ONCE, now.object);
-    pthread_cleanup_push(signal_once, now.object);
+    emit_await(OBJECT_ONCE, now.object, now.site);
+    pthread_cleanup_push(signal_once, &now);
     now.body();
     pthread_cleanup_pop(1);
 }
@@ -152,11 +154,11 @@ HOOK int pthread_once(pthread_once_t *object, void (*body)(void))
     if (!is_ordering())
         return REAL(pthread_once)(object, body);
     struct once outer = once;
-    once = (struct once){body, object};
+    once = (struct once){body, object, CALLER};
     int result = REAL(pthread_once)(object, run_once);
     once = outer;
     if (result == 0)
-        emit_await(OBJECT_ONCE, object);
+        emit_await(OBJECT_ONCE, object, CALLER);
     return result;
 }
 
@@ -167,10 +169,10 @@ HOOK void call_once(once_flag *object, void (*body)(void))
         return;
     }
     struct once outer = once;
-    once = (struct once){body, object};
+    once = (struct once){body, object, CALLER};
     REAL(call_once)(object, run_once);
     once = outer;
-    emit_await(OBJECT_ONCE, object);
+    emit_await(OBJECT_ONCE, object, CALLER);
 }
 
 /* Static variables of C++ functions. The compiler's own code looks at the first byte of the guard by an atomic load. */
@@ -205,7 +207,7 @@ HOOK int __cxa_guard_acquire(void *object)
 {
     __typeof__(&__cxa_guard_acquire) next = NEXT(__cxa_guard_acquire);
     int is_first = next ? next(object) : take_guard(object);
-    emit_await(OBJECT_ONCE, object);
+    emit_await(OBJECT_ONCE, object, CALLER);
     return is_first;
 }
 
@@ -214,7 +216,7 @@ HOOK int __cxa_guard_acquire(void *object)
     HOOK void name(void *object)                             \
     {                                                        \
         __typeof__(&name) next = NEXT(name);                 \
-        emit_signal(OBJECT_ONCE, object);                    \
+        emit_signal(OBJECT_ONCE, object, CALLER);            \
         if (next)                                            \
             next(object);                                    \
         else                                                 \

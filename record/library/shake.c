@@ -10,7 +10,7 @@
 /* Of a thread's first calls every second one waits on the average, and later one of LATER_WAITS, so that a program which locks often stays usable. */
 #define FIRST_CALLS 64
 #define LATER_WAITS 32
-/* A wait is shorter than two to the power of so many microseconds. */
+/* A wait is shorter than two to this power microseconds. */
 #define LONGEST 10
 
 /* By splitmix64. Each thread has its own numbers, by the seed and its number among the threads. */

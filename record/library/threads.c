@@ -42,6 +42,8 @@ static void end_thread(void *again)
     if (is_ordering())
         dl_iterate_phdr(reuse_local, NULL);
     emit_reuse(stack.begin, stack.size);
+    if (KEEPS_STACKS)
+        stack_end();
 }
 
 static void make_ends(void)
@@ -59,8 +61,11 @@ static void begin_thread(void)
     emit(EVENT_THREAD, 0, (uint64_t)pthread_self(), 0);
     if (pthread_getattr_np(pthread_self(), &found) != 0)
         return;
-    if (pthread_attr_getstack(&found, &stack.begin, &stack.size) == 0)
+    if (pthread_attr_getstack(&found, &stack.begin, &stack.size) == 0) {
+        if (KEEPS_STACKS)
+            stack_begin(stack.begin, stack.size);
         emit_reuse(stack.begin, stack.size);
+    }
     pthread_attr_destroy(&found);
     if (ends != (pthread_key_t)-1)
         pthread_setspecific(ends, &stack);
@@ -99,13 +104,13 @@ static void leave_start(struct start *start)
 }
 
 /* The start of a thread is recorded when it is there, and before it does anything. */
-static void name_thread(struct start *start, uint64_t thread)
+static void name_thread(struct start *start, uint64_t thread, uint64_t site)
 {
     int error = errno;
     struct ring *ring = attached->ring;
     if (ring) {
         start->number = atomic_fetch_add_explicit(&ring->threads, 1, memory_order_relaxed) + 1;
-        emit(EVENT_START, 0, start->number, thread);
+        emit(EVENT_START, start->number, thread, site);
     }
     atomic_store(&start->is_named, 1);
     syscall(SYS_futex, &start->is_named, FUTEX_WAKE_PRIVATE, 1, NULL, NULL, 0);
@@ -113,14 +118,14 @@ static void name_thread(struct start *start, uint64_t thread)
 }
 
 /* The starting thread is done with `start`. A new thread that does not wait may have put the memory of `thread` to another use. */
-static void end_start(struct start *start, bool is_started, const pthread_t *thread)
+static void end_start(struct start *start, bool is_started, const pthread_t *thread, uint64_t site)
 {
     if (!is_started) {
         free(start);
         return;
     }
     if (start->is_ordered)
-        name_thread(start, (uint64_t)*thread);
+        name_thread(start, (uint64_t)*thread, site);
     leave_start(start);
 }
 
@@ -138,15 +143,29 @@ static struct task take_start(void *given)
     return task;
 }
 
+#if KEEPS_STACKS
+static void leave_all(const bool *is_left)
+{
+    (void)is_left;
+    stack_clear();
+}
+/* However the thread's function ends, no function that it has entered calls the destructors of the thread's keys. */
+#define LEAVES_ALL __attribute__((cleanup(leave_all))) const bool is_left = true; (void)is_left;
+#else
+#define LEAVES_ALL
+#endif
+
 static void *run_thread(void *given)
 {
     struct task task = take_start(given);
+    LEAVES_ALL
     return task.body(task.argument);
 }
 
 static int run_c11_thread(void *given)
 {
     struct task task = take_start(given);
+    LEAVES_ALL
     return task.c11_body(task.argument);
 }
 
@@ -159,7 +178,7 @@ HOOK int pthread_create(pthread_t *restrict thread, const pthread_attr_t *restri
         return EAGAIN;
     shake();
     int result = REAL(pthread_create)(thread, how, run_thread, start);
-    end_start(start, result == 0, thread);
+    end_start(start, result == 0, thread, CALLER);
     return result;
 }
 
@@ -172,7 +191,7 @@ HOOK int thrd_create(thrd_t *thread, thrd_start_t body, void *argument)
         return thrd_nomem;
     shake();
     int result = REAL(thrd_create)(thread, run_c11_thread, start);
-    end_start(start, result == thrd_success, thread);
+    end_start(start, result == thrd_success, thread, CALLER);
     return result;
 }
 
@@ -184,7 +203,7 @@ HOOK int thrd_create(thrd_t *thread, thrd_start_t body, void *argument)
             emit(EVENT_JOIN_WHOM, 0, (uint64_t)thread, 0);   \
         int result = REAL(name) arguments;                   \
         if (result == 0 && is_ordering())                    \
-            emit(EVENT_JOIN, 0, (uint64_t)thread, 0);        \
+            emit(EVENT_JOIN, 0, (uint64_t)thread, CALLER);   \
         return result;                                       \
     }
 

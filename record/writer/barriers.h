@@ -5,7 +5,7 @@
 
 #include <stdint.h>
 
-/* A barrier lets so many threads go at a time. 0: its rounds can't be counted, and it is one object. */
+/* A barrier lets `count` threads go at a time. 0: its rounds can't be counted, and it is one object. */
 void barriers_begin(uint64_t address, uint64_t count);
 /* A barrier is destroyed. */
 void barriers_end(uint64_t address);

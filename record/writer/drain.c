@@ -7,14 +7,16 @@
 #include "barriers.h"
 #include "fences.h"
 #include "locks.h"
+#include "nodes.h"
 #include "objects.h"
 #include "pages.h"
 #include "sites.h"
+#include "stacks.h"
 #include "trace.h"
 
-/* The producers see the head once in so many events. */
+/* The producers see the head once in this number of events. */
 #define HEAD_STEP 512
-/* What goes to a reader that waits for it: at most so many events are kept back. */
+/* The most events that are kept back from a reader that waits for them. */
 #define FLUSH_STEP 65536
 
 bool drain_has_frees;
@@ -116,9 +118,9 @@ static void name_thread(const struct slot *slot)
 
 static void start_thread(const struct slot *slot)
 {
-    uint32_t number = (uint32_t)slot->first;
-    set_self(number, slot->second);
-    trace_other_thread(slot->thread, "start", number);
+    uint32_t number = slot->size;
+    set_self(number, slot->first);
+    trace_other_thread(slot->thread, VERB_START, number, slot->second);
 }
 
 /* The number is found before the join, since another thread may have the pthread_t right after. */
@@ -141,7 +143,7 @@ static void end_join(const struct slot *slot)
         return;
     if (number_of(slot->first) == joined)
         drop_self(joined);
-    trace_other_thread(slot->thread, "join", joined);
+    trace_other_thread(slot->thread, VERB_JOIN, joined, slot->second);
     fences_end(slot->thread, joined);
 }
 
@@ -150,12 +152,12 @@ static void end_join(const struct slot *slot)
 static void signal_object(const struct slot *slot, enum object_kind kind)
 {
     uint64_t address = kind == OBJECT_BARRIER ? barriers_arrive(slot->thread, slot->first) : slot->first;
-    objects_signal(slot->thread, address, kind);
+    objects_signal(slot->thread, address, kind, slot->second);
 }
 
 static void await_object(const struct slot *slot, enum object_kind kind)
 {
-    objects_await(slot->thread, kind == OBJECT_BARRIER ? barriers_leave(slot->thread, slot->first) : slot->first);
+    objects_await(slot->thread, kind == OBJECT_BARRIER ? barriers_leave(slot->thread, slot->first) : slot->first, slot->second);
 }
 
 static void end_object(uint64_t address)
@@ -207,7 +209,10 @@ static void end_text(uint32_t thread)
     struct text *text = *place;
     if (!text)
         return;
-    sites_set_maps(text->content, text->bytes);
+    if (sites_set_maps(text->content, text->bytes)) {
+        nodes_forget_places();
+        stacks_forget_places();
+    }
     *place = text->next;
     free(text->content);
     free(text);
@@ -219,14 +224,14 @@ static void change_ignoring(uint32_t number, bool begins)
 {
     struct thread *thread = trace_thread(number);
     if (begins ? thread->ignoring++ == 0 : thread->ignoring == 1)
-        trace_ignore(thread, begins ? "ignore-on" : "ignore-off");
+        trace_ignore(thread, begins ? VERB_IGNORE_ON : VERB_IGNORE_OFF);
     if (!begins && thread->ignoring)
         thread->ignoring--;
 }
 
 static void take_rare(const struct slot *slot)
 {
-    switch (slot->kind) {
+    switch (slot_kind(slot)) {
     case EVENT_LOCK_TWICE: locks_wait_for_own(slot->thread, slot->first, slot->second); break;
     case EVENT_LOCK_BEGIN: locks_begin(slot->first); break;
     case EVENT_LOCK_END: locks_end(slot->thread, slot->first, slot->second); break;
@@ -247,7 +252,7 @@ static void take_rare(const struct slot *slot)
     case EVENT_OBJECT_BEGIN: objects_forget(slot->first, 1); break;
     case EVENT_OBJECT_END: end_object(slot->first); break;
     case EVENT_BARRIER: barriers_begin(slot->first, slot->second); break;
-    case EVENT_LET_GO: objects_let_go(slot->thread, slot->first, (enum object_kind)(slot->size % OBJECT_KINDS)); break;
+    case EVENT_LET_GO: objects_let_go(slot->thread, slot->first, (enum object_kind)(slot->size % OBJECT_KINDS), slot->second); break;
     case EVENT_FENCE: fences_pass(slot->thread, slot->size); break;
     case EVENT_STORED: fences_store(slot->thread, slot->first); break;
     case EVENT_LOADED: fences_load(slot->thread, slot->first); break;
@@ -257,22 +262,24 @@ static void take_rare(const struct slot *slot)
 
 static void reuse(const struct slot *slot)
 {
-    struct reuse reuse = {slot->thread, slot->second, slot->kind == EVENT_FREE};
-    drain_has_frees |= slot->kind == EVENT_FREE;
+    struct reuse reuse = {slot->thread, slot->second, slot_kind(slot) == EVENT_FREE};
+    drain_has_frees |= slot_kind(slot) == EVENT_FREE;
     pages_reuse(&reuse, slot->first & REUSE_MASK, reuse_size(slot));
 }
 
 static void take(const struct slot *slot)
 {
-    switch (slot->kind) {
+    enum event_kind kind = slot_kind(slot);
+    stacks_set(slot_stack(slot));
+    switch (kind) {
     case EVENT_READ:
     case EVENT_WRITE:
         pages_mark(slot->first, slot->size);
-        trace_access(trace_thread(slot->thread), slot->kind == EVENT_WRITE, slot->first, slot->size, slot->second);
+        trace_access(trace_thread(slot->thread), kind == EVENT_WRITE, slot->first, slot->size, slot->second);
         break;
     case EVENT_LOCK:
     case EVENT_READ_LOCK:
-        locks_acquire(slot->thread, slot->first, (enum lock_kind)(slot->size & 3), slot->kind == EVENT_READ_LOCK);
+        locks_acquire(slot->thread, slot->first, (struct acquire){(enum lock_kind)(slot->size & 3), kind == EVENT_READ_LOCK, slot->second});
         break;
     case EVENT_UNLOCK:
         locks_release(slot->thread, slot->first, (struct release){(enum lock_kind)(slot->size % LOCK_KINDS), slot->size & LOCK_FAILED, slot->second});

@@ -24,7 +24,7 @@ static uint64_t object_of(uint32_t stand_in)
 static void begin(uint32_t by, uint32_t stand_in, const char *what)
 {
     char text[96];
-    trace_other_thread(by, "start", stand_in);
+    trace_other_thread(by, VERB_START, stand_in, 0);
     const struct thread *thread = trace_thread(by), *new = trace_thread(stand_in);
     snprintf(text, sizeof text, "%.*s stands for %s %.*s", new->bytes - 1, new->text, what, thread->bytes - 1, thread->text);
     trace_comment(text);
@@ -34,7 +34,7 @@ static void release(uint32_t number)
 {
     uint32_t stand_in = number | PASSES_ON;
     if (trace_has_thread(stand_in))
-        objects_signal(number, object_of(stand_in), OBJECT_FENCE);
+        objects_signal(number, object_of(stand_in), OBJECT_FENCE, 0);
     else
         begin(number, stand_in, "the releasing fences of");
 }
@@ -44,8 +44,8 @@ static void acquire(uint32_t number)
     uint32_t stand_in = number | HAS_SEEN;
     if (!trace_has_thread(stand_in))
         return;
-    objects_signal(stand_in, object_of(stand_in), OBJECT_FENCE);
-    objects_await(number, object_of(stand_in));
+    objects_signal(stand_in, object_of(stand_in), OBJECT_FENCE, 0);
+    objects_await(number, object_of(stand_in), 0);
 }
 
 /* One that does both passes on what it takes over. */
@@ -62,8 +62,8 @@ void fences_store(uint32_t number, uint64_t address)
     uint32_t stand_in = number | PASSES_ON;
     if (!trace_has_thread(stand_in))
         return;
-    objects_await(stand_in, object_of(stand_in));
-    objects_signal(stand_in, address, OBJECT_ATOMIC);
+    objects_await(stand_in, object_of(stand_in), 0);
+    objects_signal(stand_in, address, OBJECT_ATOMIC, 0);
 }
 
 /* What the thread knows already, no fence has to take over. */
@@ -74,7 +74,7 @@ void fences_load(uint32_t number, uint64_t address)
         return;
     if (!trace_has_thread(stand_in))
         begin(number, stand_in, "the acquiring fences of");
-    objects_await(stand_in, address);
+    objects_await(stand_in, address, 0);
 }
 
 /* What it had seen and not taken over is not passed on to who joins it. */
@@ -86,6 +86,6 @@ void fences_end(uint32_t by, uint32_t number)
             continue;
         if (!trace_has_thread(NOBODY))
             begin(by, NOBODY, "nobody, and was started by");
-        trace_other_thread(NOBODY, "join", stand_ins[i]);
+        trace_other_thread(NOBODY, VERB_JOIN, stand_ins[i], 0);
     }
 }

@@ -21,9 +21,11 @@
 #include "kept.h"
 #include "merge.h"
 #include "options.h"
+#include "output.h"
 #include "recording.h"
 #include "replay.h"
 #include "signals.h"
+#include "stacks.h"
 #include "trace.h"
 
 /* More programs than this find no ring. */
@@ -289,6 +291,7 @@ void further_fill(struct outcome *outcome)
     outcome->events = trace_events;
     outcome->lost = recording_lost();
     outcome->forks = atomic_load(&ring->forks);
+    outcome->cut = stacks_cut;
     outcome->unseen = ring->unseen & (drain_has_frees || !outcome->events ? ~UNSEEN_FREES : ~0u);
     outcome->error = output.file_error;
 }
@@ -326,7 +329,7 @@ static void record_further(struct asker *asker, unsigned number)
         recording_run();
     is_over = true;
     trace_end(recording_lost());
-    trace_close();
+    output_close();
     if (options.replays && options.shows_places && trace_events && !output.file_error)
         kept_replay();
     replay_end();

@@ -9,8 +9,8 @@
 #include <unistd.h>
 
 #include "options.h"
+#include "output.h"
 #include "replay.h"
-#include "trace.h"
 
 /* The most that a file without a name gets, if there is room for twice as much. */
 #define USUAL_ROOM (UINT64_C(4) << 30)

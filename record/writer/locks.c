@@ -25,7 +25,7 @@ struct lock {
     struct lock *next;
     uint64_t address;
     enum lock_kind kind;
-    char *name;
+    struct label label;
     struct holder *holders;
     uint32_t holder_count, holder_room;
 };
@@ -58,7 +58,7 @@ static struct lock *get_lock(uint64_t address, enum lock_kind kind)
     static unsigned counts[4];
     lock = get_memory(NULL, sizeof *lock);
     struct lock **bucket = bucket_of(address);
-    *lock = (struct lock){*bucket, address, kind, make_name(address, kinds[kind], &counts[kind]), NULL, 0, 0};
+    *lock = (struct lock){*bucket, address, kind, {make_name(address, kinds[kind], &counts[kind]), 0}, NULL, 0, 0};
     *bucket = lock;
     pages_mark_lock(address);
     return lock;
@@ -72,7 +72,7 @@ static struct holder *find_holder(struct lock *lock, uint32_t thread)
     return NULL;
 }
 
-static void add_holder(struct lock *lock, uint32_t number, bool reads)
+static void add_holder(struct lock *lock, uint32_t number, bool reads, uint64_t place)
 {
     if (lock->holder_count == lock->holder_room) {
         lock->holder_room = lock->holder_room ? 2 * lock->holder_room : 1;
@@ -83,17 +83,17 @@ static void add_holder(struct lock *lock, uint32_t number, bool reads)
     lock->holders[lock->holder_count++] = (struct holder){number, 1, reads, is_written};
     if (is_written) {
         thread->held++;
-        trace_lock(thread, reads ? "rlock" : "lock", lock->name);
+        trace_lock(thread, reads ? VERB_READ_LOCK : VERB_LOCK, &lock->label, place);
     } else
         trace_lost++;
 }
 
-static void remove_holder(struct lock *lock, struct holder *holder)
+static void remove_holder(struct lock *lock, struct holder *holder, uint64_t place)
 {
     struct thread *thread = trace_thread(holder->thread);
     if (holder->is_written) {
         thread->held--;
-        trace_lock(thread, holder->reads ? "runlock" : "unlock", lock->name);
+        trace_lock(thread, holder->reads ? VERB_READ_UNLOCK : VERB_UNLOCK, &lock->label, place);
     }
     *holder = lock->holders[--lock->holder_count];
 }
@@ -108,7 +108,7 @@ static bool is_held_to_write(const struct lock *lock)
 static void drop_holders(struct lock *lock)
 {
     while (lock->holder_count)
-        remove_holder(lock, &lock->holders[lock->holder_count - 1]);
+        remove_holder(lock, &lock->holders[lock->holder_count - 1], 0);
 }
 
 /* ---- Locks that are no more, though they are held ---- */
@@ -188,7 +188,7 @@ static void say_misuse(uint32_t number, const char *verb, const struct lock *loc
     const struct thread *thread = trace_thread(number);
     const struct site *site = site_of(place);
     char text[2 * NAME_BYTES + 64];
-    snprintf(text, sizeof text, "%.*s %s %s at%.*s, which %s", thread->bytes - 1, thread->text, verb, lock->name, (int)site->bytes, site->text, holder);
+    snprintf(text, sizeof text, "%.*s %s %s at%.*s, which %s", thread->bytes - 1, thread->text, verb, lock->label.name, (int)site->bytes, site->text, holder);
     trace_comment(text);
     if (options.is_quiet || said > MOST_SAID)
         return;
@@ -205,7 +205,7 @@ static void release_of_other(struct lock *lock, uint32_t thread, struct release 
     bool reads = lock->holder_count && lock->holders[0].reads;
     snprintf(holds, sizeof holds, "%s holds", holder_name(lock, name));
     say_misuse(thread, "unlocks", lock, release.place, holds);
-    trace_lock(trace_thread(thread), reads ? "runlock" : "unlock", lock->name);
+    trace_lock(trace_thread(thread), reads ? VERB_READ_UNLOCK : VERB_UNLOCK, &lock->label, release.place);
 }
 
 void locks_wait_for_own(uint32_t thread, uint64_t address, uint64_t place)
@@ -214,14 +214,14 @@ void locks_wait_for_own(uint32_t thread, uint64_t address, uint64_t place)
     if (!lock || !find_holder(lock, thread))
         return;
     say_misuse(thread, "locks", lock, place, "it holds");
-    trace_lock(trace_thread(thread), "lock", lock->name);
+    trace_lock(trace_thread(thread), VERB_LOCK, &lock->label, place);
 }
 
 /* ---- Acquires and releases ---- */
 
-void locks_acquire(uint32_t thread, uint64_t address, enum lock_kind kind, bool reads)
+void locks_acquire(uint32_t thread, uint64_t address, struct acquire acquire)
 {
-    struct lock *lock = get_lock(address, kind);
+    struct lock *lock = get_lock(address, acquire.kind);
     struct holder *holder = find_holder(lock, thread);
     for (struct forgotten **place; forgotten && *(place = find_forgotten(address, 0));)
         drop_forgotten(place);
@@ -229,9 +229,9 @@ void locks_acquire(uint32_t thread, uint64_t address, enum lock_kind kind, bool 
         holder->depth++;
         return;
     }
-    if (!reads || is_held_to_write(lock))
+    if (!acquire.reads || is_held_to_write(lock))
         drop_holders(lock);
-    add_holder(lock, thread, reads);
+    add_holder(lock, thread, acquire.reads, acquire.place);
 }
 
 void locks_release(uint32_t thread, uint64_t address, struct release release)
@@ -250,7 +250,7 @@ void locks_release(uint32_t thread, uint64_t address, struct release release)
     if (!holder && lock && is_held_to_write(lock))
         holder = &lock->holders[0];
     if (holder && !release.has_failed && --holder->depth == 0)
-        remove_holder(lock, holder);
+        remove_holder(lock, holder, release.place);
 }
 
 /* ---- The end of a lock ---- */
@@ -262,7 +262,7 @@ static void remove_lock(struct lock **place)
         add_forgotten(lock->address, &lock->holders[i]);
     drop_holders(lock);
     *place = lock->next;
-    free(lock->name);
+    free(lock->label.name);
     free(lock->holders);
     free(lock);
 }

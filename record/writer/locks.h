@@ -7,8 +7,13 @@
 
 #include "../ring.h"
 
+struct acquire {
+    enum lock_kind kind;
+    bool reads;
+    uint64_t place; /* program counter of the call, or 0 */
+};
 /* A thread acquired a lock. Only the outermost acquire is written. */
-void locks_acquire(uint32_t thread, uint64_t address, enum lock_kind kind, bool reads);
+void locks_acquire(uint32_t thread, uint64_t address, struct acquire acquire);
 struct release {
     enum lock_kind kind;
     bool has_failed; /* whoever holds it holds it still */

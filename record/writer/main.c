@@ -14,6 +14,7 @@
 #include "further.h"
 #include "kept.h"
 #include "options.h"
+#include "output.h"
 #include "recording.h"
 #include "replay.h"
 #include "signals.h"
@@ -81,13 +82,15 @@ static void preload(const char *folder)
 /* The program finds our libraries in front of the system's. */
 static void set_libraries(void)
 {
-    const char *ours = getenv("ERASER_RECORD_LIBRARIES");
-    char *place;
+    const char *folder = getenv("ERASER_RECORD_LIBRARIES");
+    char *place, *ours;
     if (getenv("ERASER_RECORD_PREPARE"))
         unsetenv("ERASER"); /* set by record/run, not by the user */
     unsetenv("ERASER_RECORD_PREPARE");
-    if (!ours)
+    if (!folder)
         return;
+    if (asprintf(&ours, "%s%s", folder, options.has_stacks ? "/stacks" : "") < 0)
+        _exit(STATUS_FAILED);
     if (asprintf(&place, "/proc/%ld/fd/%d", (long)getppid(), recording.file) < 0)
         _exit(STATUS_FAILED);
     put_in_front("LD_LIBRARY_PATH", ours);
@@ -130,7 +133,7 @@ static void say_what_was_recorded(void)
         fprintf(stderr, "record: nothing was recorded: no instrumented code ran\n");
     else if (!options.is_quiet || lost)
         fprintf(stderr, "record: %llu events recorded, %llu lost%s\n", (unsigned long long)events, (unsigned long long)lost,
-                lost ? ": the trace is incomplete, and says so in its last line" : "");
+                lost ? ": the trace is incomplete, and says so at its end" : "");
 }
 
 /* One file takes one trace, and then further programs are not recorded. */
@@ -143,7 +146,7 @@ static bool has_room_for_one(void)
 struct sums {
     unsigned runs; /* in which something was recorded */
     unsigned recorded, racing, broken; /* broken: not all of it was recorded or written */
-    uint64_t forks;
+    uint64_t forks, cut;
     bool leaves_child; /* there is room for one trace, and a child that was forked goes on */
     uint32_t unseen; /* of one program or another */
     int replay_status; /* the greatest that is no answer, or 0 */
@@ -158,6 +161,7 @@ static struct sums add_up(unsigned run)
         if (run && outcome->run != run)
             continue;
         sums.forks += outcome->forks;
+        sums.cut += outcome->cut;
         sums.unseen |= outcome->unseen;
         sums.broken += outcome->error != 0 || outcome->lost != 0 || outcome->unseen & UNSEEN_LOCKS;
         if (outcome->replay_status > STATUS_RACE && outcome->replay_status > sums.replay_status)
@@ -237,6 +241,9 @@ static void say_end(struct sums sums, const char *name)
     if (sums.forks)
         fprintf(stderr, "record: the program forked %llu time%s: %s\n", (unsigned long long)sums.forks, sums.forks == 1 ? "" : "s",
                 has_room_for_one() ? "what its children did is not recorded" : "a child is recorded from its first thread on");
+    if (sums.cut && !options.is_quiet)
+        fprintf(stderr, "record: %" PRIu64 " events lack their innermost calls: they are deeper than %u calls, or there was no room for more than %u stacks\n", sums.cut,
+                STACK_CALLS, STACK_NODES - 1);
     say_what_is_unseen(sums.unseen);
     if (options.shakes && !options.is_quiet)
         fprintf(stderr, "record: shaken by --shake=%" PRIu64 "\n", options.seed);
@@ -323,7 +330,7 @@ static bool replays_later;
 static void end_trace(void)
 {
     trace_end(recording_lost());
-    trace_close();
+    output_close();
     if (replays_later && trace_events && !output.file_error)
         kept_replay();
     replay_end();

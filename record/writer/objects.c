@@ -13,7 +13,7 @@
 struct object {
     struct object *next;
     uint64_t address;
-    char *name;
+    struct label label;
     /* The last signal that was written: its thread, and how many lines that thread had then. */
     uint32_t signaller;
     uint64_t lines;
@@ -51,7 +51,7 @@ static struct object *add_object(uint64_t address, enum object_kind kind)
     static unsigned counts[OBJECT_KINDS];
     struct object *object = get_memory(NULL, sizeof *object);
     struct object **bucket = bucket_of(address);
-    *object = (struct object){*bucket, address, make_name(address, kinds[kind], &counts[kind]), 0, 0, false, NULL, 0, 0, 1};
+    *object = (struct object){*bucket, address, {make_name(address, kinds[kind], &counts[kind]), 0}, 0, 0, false, NULL, 0, 0, 1};
     *bucket = object;
     pages_mark_lock(address);
     return object;
@@ -61,7 +61,7 @@ static void remove_object(struct object **place)
 {
     struct object *object = *place;
     *place = object->next;
-    free(object->name);
+    free(object->label.name);
     free(object->aware);
     free(object);
 }
@@ -116,7 +116,7 @@ static void make_none_aware(struct object *object)
 
 /* A second signal of a thread that has written nothing since says nothing new. Whoever knew all signals before knows all but this one,
  * and its own thread knows this one as well. */
-void objects_signal(uint32_t number, uint64_t address, enum object_kind kind)
+void objects_signal(uint32_t number, uint64_t address, enum object_kind kind, uint64_t place)
 {
     struct thread *thread = trace_thread(number);
     struct object *object = find_object(address);
@@ -129,7 +129,7 @@ void objects_signal(uint32_t number, uint64_t address, enum object_kind kind)
         object = add_object(address, kind);
     else if (object->signaller == number && object->lines == thread->lines)
         return;
-    trace_lock(thread, "signal", object->name);
+    trace_lock(thread, VERB_SIGNAL, &object->label, place);
     object->signaller = number;
     object->lines = thread->lines;
     make_none_aware(object);
@@ -144,21 +144,21 @@ bool objects_have_news(uint32_t number, uint64_t address)
 }
 
 /* An await of a thread that knows all signals orders nothing: one that looks at a flag again and again, for example. */
-void objects_await(uint32_t number, uint64_t address)
+void objects_await(uint32_t number, uint64_t address, uint64_t place)
 {
     if (!objects_have_news(number, address))
         return;
     struct object *object = find_object(address);
-    trace_lock(trace_thread(number), "await", object->name);
+    trace_lock(trace_thread(number), VERB_AWAIT, &object->label, place);
     make_aware(object, number);
 }
 
-void objects_let_go(uint32_t number, uint64_t address, enum object_kind kind)
+void objects_let_go(uint32_t number, uint64_t address, enum object_kind kind, uint64_t place)
 {
     if (!find_object(address))
         return;
-    objects_signal(number, address, kind);
-    objects_await(number, address);
+    objects_signal(number, address, kind, place);
+    objects_await(number, address, place);
 }
 
 /* ---- The end of an object ---- */

@@ -9,10 +9,11 @@
 #include <sys/stat.h>
 #include <unistd.h>
 
+#include "output.h"
 #include "sites.h"
 #include "trace.h"
 
-/* How many bytes of text are kept in a file if nothing else is said: what a replay takes if nothing else is said. */
+/* How many bytes of a trace are kept in a file by default. A replay takes a text of this length by default; that of a trace 4 is longer. */
 #define USUAL_LIMIT 268435456u
 #define MOST_RUNS 10000
 
@@ -40,7 +41,9 @@ static const char usage[] =
     "      --shake             let threads wait for short random times before they acquire, signal or start, so that more of them meet; --shake=SEED repeats them\n"
     "      --runs N            run the program N times, and report of each site in how many of the runs it was reported\n"
     "      --order             record what orders threads as well: starts and joins, semaphores, atomic operations ..\n"
-    "      --limit BYTES       of a trace that is kept: keep at most BYTES of text; 0: no limit. With -o the default is 268435456\n"
+    "      --trace FORM        write the trace as text `3` (the default), or in the binary form `4`, which is shorter; `eraser print` shows it as text\n"
+    "      --stacks            record the calls in which each event is made, and report accesses in system headers at the line that called them; needs --trace 4\n"
+    "      --limit BYTES       of a trace that is kept: keep at most BYTES of it; 0: no limit. With -o the default is 268435456\n"
     "      --root DIR          name sites by their paths below DIR. The default is the folder that has all sources of the program\n"
     "      --paths             name sites by their paths as the compiler has them\n"
     "  -q, --quiet             say nothing on standard error beside the report, unless something went wrong\n"
@@ -115,6 +118,15 @@ static const char *read_format(const char *text)
         if (strcmp(text, forms[place]) == 0) return text;
     fprintf(stderr, "record: --format is 'text', 'json', 'sarif' or 'html', not '%s'\n", text);
     exit(STATUS_FAILED);
+}
+
+static const struct form *read_trace(const char *text)
+{
+    if (strcmp(text, "3") != 0 && strcmp(text, "4") != 0) {
+        fprintf(stderr, "record: --trace is '3' or '4', not '%s'\n", text);
+        exit(STATUS_FAILED);
+    }
+    return *text == '4' ? &binary_form : &text_form;
 }
 
 static const char *read_analysis(const char *text)
@@ -192,6 +204,8 @@ static void refuse(const char *text)
 /* Options that don't go together. */
 static void check_together(void)
 {
+    if (options.has_stacks && trace_form != &binary_form)
+        refuse("--stacks wants --trace 4: a text has no stacks");
     if (options.format && options.by_site)
         refuse("--by-site and --format are not given together");
     if (options.runs > 1 && options.format && strcmp(options.format, "text") != 0)
@@ -202,14 +216,14 @@ static void check_together(void)
 
 void read_options(int count, char **words)
 {
-    enum { REPLAY = 256, REPORT, SUPPRESS, EXPLAIN, BY_SITE, STRICT, UNTIL_FAULT, FORMAT, ANALYSIS, EXIT_STATUS, ORDER, LIMIT, ROOT, PATHS, SHAKE, REPEAT };
+    enum { REPLAY = 256, REPORT, SUPPRESS, EXPLAIN, BY_SITE, STRICT, UNTIL_FAULT, FORMAT, ANALYSIS, EXIT_STATUS, ORDER, TRACE, STACKS, LIMIT, ROOT, PATHS, SHAKE, REPEAT };
     static const struct option names[] = {
         {"output", 1, NULL, 'o'},         {"replay", 0, NULL, REPLAY}, {"report", 1, NULL, REPORT}, {"suppress", 1, NULL, SUPPRESS},
         {"exit-status", 1, NULL, EXIT_STATUS}, {"limit", 1, NULL, LIMIT},   {"paths", 0, NULL, PATHS},   {"quiet", 0, NULL, 'q'},
         {"root", 1, NULL, ROOT},          {"shake", 2, NULL, SHAKE},   {"runs", 1, NULL, REPEAT},
         {"explain", 0, NULL, EXPLAIN},    {"by-site", 0, NULL, BY_SITE}, {"format", 1, NULL, FORMAT}, {"help", 0, NULL, 'h'},
         {"order", 0, NULL, ORDER},        {"analysis", 1, NULL, ANALYSIS}, {"strict", 0, NULL, STRICT},
-        {"until-fault", 0, NULL, UNTIL_FAULT}, {"version", 0, NULL, 'V'},
+        {"until-fault", 0, NULL, UNTIL_FAULT}, {"version", 0, NULL, 'V'}, {"trace", 1, NULL, TRACE}, {"stacks", 0, NULL, STACKS},
         {NULL, 0, NULL, 0},
     };
     for (int got; (got = getopt_long(count, words, "+o:qhV", names, NULL)) != -1;)
@@ -226,6 +240,8 @@ void read_options(int count, char **words)
         case FORMAT: options.format = read_format(optarg); break;
         case EXIT_STATUS: options.ends_as_report = is_report(optarg); break;
         case ORDER: options.orders = true; break;
+        case TRACE: trace_form = read_trace(optarg); break;
+        case STACKS: options.has_stacks = sites_have_callers = true; break;
         case LIMIT: options.limit = read_number(optarg, 0, UINT64_MAX, "--limit wants a number of bytes"); options.has_limit = true; break;
         case ROOT: sites_set_root(read_folder(optarg)); break;
         case SHAKE: set_shaking(optarg); break;

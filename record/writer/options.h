@@ -23,6 +23,7 @@ struct options {
     const char *analysis;
     bool ends_as_report;
     bool orders; /* what orders threads is recorded as well */
+    bool has_stacks; /* events are recorded with the calls in which they are made */
     bool is_quiet;
     unsigned runs; /* how often the command is run */
     bool shakes;   /* threads wait at random */

@@ -14,6 +14,7 @@
 #include "drain.h"
 #include "further.h"
 #include "options.h"
+#include "output.h"
 #include "replay.h"
 #include "trace.h"
 
@@ -116,7 +117,7 @@ static double seconds_now(void)
     return (double)now.tv_sec + (double)now.tv_nsec / 1e9;
 }
 
-/* The ring waits for an event that was begun and not ended. Its thread will end it, unless it is gone. After so many seconds, it is given
+/* The ring waits for an event that was begun and not ended. Its thread will end it, unless it is gone. After this many seconds it is given
  * up, and sooner if a thread said that it left an event somewhere here. */
 #define PATIENCE 5.0
 #define PATIENCE_IF_ABANDONED 0.02
@@ -140,7 +141,7 @@ static void wait_for_event(double *since)
 /* Nobody takes the text any more, or nobody waits for the program: it goes on without being recorded. */
 static void check_outputs(void)
 {
-    if (!trace_is_open() || recording.is_to_end)
+    if (!output_is_open() || recording.is_to_end)
         atomic_store(&recording.ring->stop, 1);
 }
 
@@ -157,7 +158,7 @@ void recording_run(void)
             reap();
             continue;
         }
-        trace_flush();
+        output_flush();
         check_outputs();
         bool had_ended = recording.has_command_ended;
         reap();

@@ -12,6 +12,7 @@
 #include <unistd.h>
 
 #include "options.h"
+#include "output.h"
 #include "signals.h"
 #include "trace.h"
 

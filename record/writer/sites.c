@@ -8,9 +8,10 @@
 #include <stdlib.h>
 #include <string.h>
 
+#include "inlined.h"
 #include "trace.h"
 
-bool sites_have_paths;
+bool sites_have_paths, sites_have_callers;
 
 static char *maps;
 static size_t maps_bytes;
@@ -78,24 +79,26 @@ static void forget_sites(void)
     block_used = 0;
 }
 
-void sites_set_maps(const char *text, size_t bytes)
+bool sites_set_maps(const char *text, size_t bytes)
 {
     char *copy = get_memory(NULL, bytes + 1);
     memcpy(copy, text, bytes);
     bytes = keep_files(copy, bytes);
     if (maps && bytes == maps_bytes && memcmp(copy, maps, bytes) == 0) {
         free(copy);
-        return;
+        return false;
     }
     free(maps);
     maps = copy;
     maps_bytes = bytes;
     forget_sites();
     if (files) {
+        inlined_forget();
         dwfl_getmodules(files, free_facts, NULL, 0);
         dwfl_end(files);
     }
     files = NULL;
+    return true;
 }
 
 /* The files are opened at the first look-up, and not at all by a program that has nothing to look up. */
@@ -361,21 +364,26 @@ static const char *behind_root(const char *path)
     return *path == '/' && realpath(path, real) && is_below(real, root) ? real + strlen(root) + 1 : path;
 }
 
-static void describe(uint64_t place, char *text, size_t room)
+/* True if it is a line in a header of the system. */
+static bool describe_line(const char *name, const char *folder, int number, char *text, size_t room)
+{
+    char path[PATH_BYTES];
+    whole_path(path, folder, name);
+    if (!is_root_known)
+        find_root(get_files());
+    snprintf(text, room, "%s:%d", sites_have_paths ? name : behind_root(path), number);
+    return is_below(path, "/usr/include") || is_below(path, "/usr/lib");
+}
+
+static bool describe(uint64_t place, char *text, size_t room)
 {
     Dwfl *all = get_files();
     Dwfl_Module *file = all ? dwfl_addrmodule(all, place) : NULL;
     int number = 0;
     /* The call stands before the place that it returns to. */
     const char *folder, *name = file ? line_of(file, place - 1, &number, &folder) : NULL;
-    if (name) {
-        char path[PATH_BYTES];
-        whole_path(path, folder, name);
-        if (!is_root_known)
-            find_root(all);
-        snprintf(text, room, "%s:%d", sites_have_paths ? name : behind_root(path), number);
-        return;
-    }
+    if (name)
+        return describe_line(name, folder, number, text, room);
     Dwarf_Addr begin = 0;
     name = file ? dwfl_module_info(file, NULL, &begin, NULL, NULL, NULL, NULL, NULL) : NULL;
     const char *base = name ? strrchr(name, '/') : NULL;
@@ -383,9 +391,10 @@ static void describe(uint64_t place, char *text, size_t room)
         snprintf(text, room, "%s_0x%llx", base ? base + 1 : name, (unsigned long long)(place - 1 - begin));
     else
         snprintf(text, room, "unknown_0x%llx", (unsigned long long)(place - 1));
+    return false;
 }
 
-static const char *keep_text(const char *text, size_t bytes)
+static void *keep(const void *text, size_t bytes)
 {
     if (!block || block_used + bytes > BLOCK_BYTES) {
         char *before = block;
@@ -393,7 +402,7 @@ static const char *keep_text(const char *text, size_t bytes)
         memcpy(block, &before, sizeof before);
         block_used = sizeof before;
     }
-    char *kept = block + block_used;
+    void *kept = block + block_used;
     memcpy(kept, text, bytes);
     block_used += bytes;
     return kept;
@@ -427,17 +436,48 @@ static bool is_in_instrumented(uint64_t place)
     return file && is_instrumented(file);
 }
 
+static struct site new_site(const char *text, bool is_in_header)
+{
+    char name[NAME_BYTES + 2];
+    name[0] = ' ';
+    size_t bytes = 1 + legal_site(name + 1, text);
+    return (struct site){.text = keep(name, bytes), .bytes = (uint32_t)bytes, .is_in_header = is_in_header};
+}
+
+/* The sites of the calls of functions that were inlined, from the innermost one on. */
+static const struct site *callers_of(const struct inlined *inlined, const char *folder)
+{
+    char text[8192];
+    if (!inlined || !inlined->file)
+        return NULL;
+    struct site site = new_site(text, describe_line(inlined->file, folder, inlined->line, text, sizeof text));
+    site.is_instrumented = true;
+    site.caller = callers_of(inlined->outer, folder);
+    block_used = (block_used + _Alignof(struct site) - 1) & ~(_Alignof(struct site) - 1);
+    return keep(&site, sizeof site);
+}
+
+static const struct site *find_callers(uint64_t place)
+{
+    Dwarf_Addr bias = 0;
+    Dwfl *all = sites_have_callers ? get_files() : NULL;
+    Dwfl_Module *file = all ? dwfl_addrmodule(all, place) : NULL;
+    Dwarf_Die *unit = file && is_instrumented(file) ? unit_of(file, place, &bias) : NULL;
+    return unit ? callers_of(inlined_at(unit, place - bias), folder_of(unit)) : NULL;
+}
+
 const struct site *site_of(uint64_t place)
 {
     if (2 * table_count >= table_room)
         grow();
     struct site *site = find(place);
     if (!site->text) {
-        char text[8192], name[NAME_BYTES + 2];
-        describe(place, text, sizeof text);
-        name[0] = ' ';
-        size_t bytes = 1 + legal_site(name + 1, text);
-        *site = (struct site){place, keep_text(name, bytes), (uint32_t)bytes, is_in_instrumented(place)};
+        char text[8192];
+        struct site new = new_site(text, describe(place, text, sizeof text));
+        new.place = place;
+        new.is_instrumented = is_in_instrumented(place);
+        new.caller = find_callers(place - 1);
+        *site = new;
         table_count++;
     }
     return site;

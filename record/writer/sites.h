@@ -12,16 +12,21 @@ struct site {
     const char *text;
     uint32_t bytes;
     bool is_instrumented; /* the code there is in a file that is */
+    bool is_in_header;    /* the line is in a header of the system */
+    const struct site *caller; /* where the line's function was inlined, if it was and that is wanted, or NULL */
 };
 
 /* If set before the first look-up, sites have their paths as the compiler has them. */
 extern bool sites_have_paths;
+/* If set before the first look-up, sites have the callers into which their functions were inlined. */
+extern bool sites_have_callers;
 /* Before the first look-up: sites of files below this folder have their paths from there on. Else it is the folder that all sources of the
  * program's own lie below. */
 void sites_set_root(const char *folder);
 
-/* The program's mapped files are those of this text, which has the form of /proc/PID/maps. */
-void sites_set_maps(const char *text, size_t bytes);
+/* The program's mapped files are those of this text, which has the form of /proc/PID/maps. True if they have changed, so that a place may be another
+ * site. */
+bool sites_set_maps(const char *text, size_t bytes);
 /* The site of the call that returns to this place. It holds until the next call. */
 const struct site *site_of(uint64_t place);
 /* The name of the variable at an address, with an offset if the address lies inside it. False if it is none of a file's. */

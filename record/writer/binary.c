@@ -1,0 +1,304 @@
+/* The trace in its binary form: blocks of records, of which an access has some four bytes. Numbers go into it as the machine has them, which is
+ * little-endian. */
+#include "binary.h"
+
+#include <stdio.h>
+#include <string.h>
+
+#include "form.h"
+#include "nodes.h"
+#include "output.h"
+#include "stacks.h"
+#include "trace.h"
+
+static const char magic[8] = "\xe5" "eraser\x04";
+
+/* A block ends behind the record with which it has this many bytes. */
+#define BLOCK_BYTES 65536
+#define HEADER_BYTES 16
+/* The most bytes of an access. A longer one is cut where addresses are multiples of that. */
+#define ACCESS_BYTES 16u
+#define SLOTS 256
+
+/* Kinds of records. */
+enum kind {
+    KIND_THREAD = 0, KIND_NODE = 1, KIND_REUSE = 16, KIND_THREAD_NAME = 21, KIND_LOCK_NAME = 22, KIND_PLACE = 23, KIND_NEW_NODE = 24, KIND_NOTE = 25,
+    KIND_LOST = 30, KIND_END = 31,
+};
+static const uint8_t kinds[VERBS] = {2, 3, 4, 5, 10, 11, 12, 13, 14, 15};
+
+/* The block that is being written. */
+static struct block {
+    bool is_open;
+    uint64_t number;
+    size_t begin, full;  /* where its records begin in the buffer, and up to where the next one has room */
+    uint32_t count;      /* of its records */
+    uint32_t thread;     /* 1 and its number, 0: none yet */
+    uint32_t node;
+    uint64_t last[SLOTS]; /* addresses, by the thread's number */
+} block;
+static uint32_t thread_names, lock_names;
+
+/* ---- Blocks ---- */
+
+static inline uint64_t mix(uint64_t mixed, uint64_t word)
+{
+    uint64_t product = (mixed + word) * UINT64_C(0x9e3779b97f4a7c15);
+    return product >> 32 | product << 32;
+}
+
+static uint64_t checksum(const char *records, size_t length)
+{
+    uint64_t mixed = mix(mix(0, block.number), length | (uint64_t)block.count << 32), word;
+    for (; length >= sizeof word; length -= sizeof word, records += sizeof word) {
+        memcpy(&word, records, sizeof word);
+        mixed = mix(mixed, word);
+    }
+    if (!length)
+        return mixed;
+    word = 0;
+    memcpy(&word, records, length);
+    return mix(mixed, word);
+}
+
+static void end_block(void)
+{
+    if (!block.is_open)
+        return;
+    uint32_t length = (uint32_t)(output_used - block.begin);
+    uint64_t mixed = checksum(output_buffer + block.begin, length);
+    char *header = output_buffer + block.begin - HEADER_BYTES;
+    memcpy(header, &length, 4);
+    memcpy(header + 4, &block.count, 4);
+    memcpy(header + 8, &mixed, 8);
+    block.number++;
+    block.is_open = false;
+}
+
+/* A block begins behind room for its header. From `full` on it is long enough, or there may be no room in the buffer or below the limit. */
+static char *open_block(void)
+{
+    output_used += HEADER_BYTES;
+    size_t full = output_used + BLOCK_BYTES;
+    block = (struct block){.is_open = true, .number = block.number, .begin = output_used, .full = output_most(full)};
+    return output_buffer + output_used;
+}
+
+static char *more_room(void)
+{
+    if (block.is_open && output_used - block.begin >= BLOCK_BYTES)
+        end_block();
+    if (!output_room(OUTPUT_ROOM))
+        return NULL;
+    return block.is_open ? output_buffer + output_used : open_block();
+}
+
+/* Where the next record begins, with room for all that an event needs, or NULL if the trace has ended. */
+static inline char *room(void)
+{
+    return __builtin_expect(block.is_open && output_used < block.full, 1) ? output_buffer + output_used : more_room();
+}
+
+/* ---- Records. Each returns where the next one begins. ---- */
+
+static inline char *put(char *at, const void *bytes, size_t count)
+{
+    memcpy(at, bytes, count);
+    return at + count;
+}
+
+/* A tag and a number of 1, 2, 4 or 8 bytes. All 8 are copied, and the next record is written over those that aren't needed. */
+static inline char *put_operand(char *at, enum kind kind, uint64_t operand)
+{
+    unsigned length = operand < 256 ? 0 : operand < 65536 ? 1 : operand >> 32 ? 3 : 2;
+    *at++ = (char)(128 + 4 * (unsigned)kind + length);
+    memcpy(at, &operand, sizeof operand);
+    block.count++;
+    return at + (1u << length);
+}
+
+static char *put_text(char *at, enum kind kind, const char *text, size_t bytes)
+{
+    return put(put_operand(at, kind, bytes), text, bytes);
+}
+
+/* Names come in front of the first record that speaks of them. */
+static char *put_thread_name(char *at, struct thread *thread)
+{
+    if (thread->number)
+        return at;
+    thread->number = ++thread_names;
+    return put_text(at, KIND_THREAD_NAME, thread->text, thread->bytes - 1u);
+}
+
+static inline char *put_thread(char *at, struct thread *thread)
+{
+    thread->lines++;
+    if (__builtin_expect(block.thread == thread->number && block.thread, 1))
+        return at;
+    at = put_thread_name(at, thread);
+    block.thread = thread->number;
+    return put_operand(at, KIND_THREAD, thread->number - 1);
+}
+
+static inline char *put_node(char *at, uint32_t node)
+{
+    if (node == block.node)
+        return at;
+    block.node = node;
+    return put_operand(at, KIND_NODE, node);
+}
+
+/* The number of the node of a place, 0 for none. */
+static inline uint32_t node_at(uint64_t place)
+{
+    return place ? node_of(place, caller_of_event) : 0;
+}
+
+/* The end of an event's records. */
+static inline void end_event(const char *at)
+{
+    output_use(at);
+    trace_events++;
+}
+
+/* Room for an event, or NULL. Then it is lost. */
+static inline char *begin_event(struct thread *thread)
+{
+    char *at = room();
+    if (at)
+        return put_thread(at, thread);
+    trace_lost++;
+    return NULL;
+}
+
+bool binary_add_place(const char *text, size_t bytes)
+{
+    char *at = room();
+    if (at)
+        output_use(put_text(at, KIND_PLACE, text, bytes));
+    return at != NULL;
+}
+
+bool binary_add_node(uint32_t caller, uint32_t place, uint8_t flags)
+{
+    char *at = room();
+    if (!at)
+        return false;
+    at = put_operand(at, KIND_NEW_NODE, caller);
+    at = put(at, &place, sizeof place);
+    *at++ = (char)flags;
+    output_use(at);
+    return true;
+}
+
+/* ---- Events ---- */
+
+/* The signed difference of two addresses, in as few bytes as it may have. */
+static inline char *put_distance(char *at, uint64_t address, uint64_t last, unsigned *length)
+{
+    int64_t distance = (int64_t)((address - last) << 16) >> 16;
+    memcpy(at, &distance, sizeof distance);
+    *length = distance == (int8_t)distance ? 0 : distance == (int16_t)distance ? 1 : distance == (int32_t)distance ? 2 : 3;
+    return at + (*length < 3 ? 1u << *length : 6);
+}
+
+static inline char *put_access(char *at, bool is_write, uint64_t address, uint64_t bytes, uint32_t node)
+{
+    static const uint8_t sizes[ACCESS_BYTES + 1] = {3, 0, 3, 3, 1, 3, 3, 3, 2, 3, 3, 3, 3, 3, 3, 3, 3};
+    unsigned size = sizes[bytes], distance, length = 0;
+    uint64_t *last = &block.last[(block.thread - 1) % SLOTS];
+    char *tag = at++;
+    if (size == 3)
+        *at++ = (char)bytes;
+    at = put_distance(at, address, *last, &distance);
+    *last = address;
+    if (node != block.node) {
+        memcpy(at, &node, sizeof node);
+        length = node < 256 ? 1 : node < 65536 ? 2 : 3;
+        at += 1u << (length - 1);
+        block.node = node;
+    }
+    *tag = (char)(is_write << 6 | size << 4 | distance << 2 | length);
+    block.count++;
+    return at;
+}
+
+static void write_access(struct thread *thread, bool is_write, uint64_t address, uint64_t bytes, uint64_t place)
+{
+    uint32_t node = node_of(place, caller_of_event);
+    for (uint64_t end = address + bytes, next = address; address < end; address = next) {
+        next = end - address <= ACCESS_BYTES ? end : (address | (ACCESS_BYTES - 1)) + 1;
+        char *at = begin_event(thread);
+        if (at)
+            end_event(put_access(at, is_write, address, next - address, node));
+    }
+}
+
+static void write_reuse(struct thread *thread, uint64_t address, uint64_t bytes, uint64_t place)
+{
+    uint32_t node = node_at(place);
+    char *at = begin_event(thread);
+    if (at)
+        end_event(put(put_operand(put_node(at, node), KIND_REUSE, bytes), &address, 6));
+}
+
+static void write_of_lock(struct thread *thread, enum verb verb, struct label *lock, uint64_t place)
+{
+    uint32_t node = node_at(place);
+    char *at = begin_event(thread);
+    if (!at)
+        return;
+    if (!lock->number) {
+        lock->number = ++lock_names;
+        at = put_text(at, KIND_LOCK_NAME, lock->name, strlen(lock->name));
+    }
+    end_event(put_operand(put_node(at, node), (enum kind)kinds[verb], lock->number - 1));
+}
+
+static void write_of_thread(struct thread *thread, enum verb verb, struct thread *other, uint64_t place)
+{
+    uint32_t node = node_at(place);
+    char *at = begin_event(thread);
+    if (!at)
+        return;
+    at = put_thread_name(at, other);
+    end_event(put_operand(put_node(at, node), (enum kind)kinds[verb], other->number - 1));
+}
+
+static void write_alone(struct thread *thread, enum verb verb)
+{
+    char *at = begin_event(thread);
+    if (at)
+        end_event(put_operand(at, (enum kind)kinds[verb], 0));
+}
+
+/* ---- The other records ---- */
+
+static void write_comment(const char *text, size_t bytes)
+{
+    char *at = output_is_beyond_limit(OUTPUT_ROOM) ? NULL : room();
+    if (at)
+        output_use(put_text(at, KIND_NOTE, text, bytes));
+}
+
+static void begin(void)
+{
+    char *at = output_room(OUTPUT_ROOM);
+    if (at)
+        output_use(put(at, magic, sizeof magic));
+}
+
+/* They have room even if the limit is reached. If events are lost, the end says so itself. */
+static void end(uint64_t lost)
+{
+    char text[64], *at = output_last_room();
+    if (!block.is_open)
+        at = open_block();
+    int bytes = snprintf(text, sizeof text, "complete: %llu events, none lost", (unsigned long long)trace_events);
+    at = lost ? put_operand(at, KIND_LOST, lost) : put_text(at, KIND_NOTE, text, (size_t)bytes);
+    output_use(put_operand(at, KIND_END, trace_events));
+    end_block();
+}
+
+const struct form binary_form = {begin, write_access, write_reuse, write_of_lock, write_of_thread, write_alone, write_comment, end, end_block};

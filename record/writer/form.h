@@ -1,0 +1,53 @@
+/* The forms that a trace may have: text 3, and the binary form (docs/FORMATS.md). */
+#ifndef ERASER_FORM_H
+#define ERASER_FORM_H
+
+#include <stdbool.h>
+#include <stddef.h>
+#include <stdint.h>
+
+/* What a thread does in an event that has no address. */
+enum verb {
+    VERB_LOCK, VERB_UNLOCK, VERB_READ_LOCK, VERB_READ_UNLOCK, VERB_SIGNAL, VERB_AWAIT, /* a lock, or an object */
+    VERB_START, VERB_JOIN, /* a thread */
+    VERB_IGNORE_ON, VERB_IGNORE_OFF,
+};
+#define VERBS 10
+
+struct thread {
+    char text[16];       /* "t12 " */
+    uint8_t bytes;       /* 0 before its first event */
+    uint32_t number;     /* in the binary form, from 1 on; 0: it is not there yet */
+    uint32_t held;       /* locks that the trace says it holds */
+    uint32_t ignoring;   /* depth of its ignore brackets */
+    uint64_t lines;      /* how many events it has: lines of a text, or records of a trace 4 */
+    bool is_odd_round;   /* of the barrier that it waits at */
+};
+
+/* What a lock or an object is called. */
+struct label {
+    char *name;
+    uint32_t number; /* in the binary form, from 1 on; 0: it is not there yet */
+};
+
+/* Each counts the events that it has written, and those that it can't write. `place` is the program counter behind a call, or 0 for none. */
+struct form {
+    void (*begin)(void);
+    void (*access)(struct thread *thread, bool is_write, uint64_t address, uint64_t bytes, uint64_t place);
+    void (*reuse)(struct thread *thread, uint64_t address, uint64_t bytes, uint64_t place);
+    void (*of_lock)(struct thread *thread, enum verb verb, struct label *lock, uint64_t place);
+    void (*of_thread)(struct thread *thread, enum verb verb, struct thread *other, uint64_t place);
+    void (*alone)(struct thread *thread, enum verb verb);
+    void (*comment)(const char *text, size_t bytes);
+    void (*end)(uint64_t lost);
+    /* Before the buffer is written. */
+    void (*end_part)(void);
+};
+extern const struct form text_form, binary_form;
+
+/* The most bytes of a comment. */
+#define COMMENT_BYTES 252
+/* Where memory ends. */
+#define ADDRESS_END (UINT64_C(1) << 48)
+
+#endif
