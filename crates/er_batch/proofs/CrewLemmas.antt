@@ -5,8 +5,8 @@ use Rattle.std.proofs.lemmas.Bool.{cases_lt}
 use Rattle.std.proofs.lemmas.List.Elements.{All-nil}
 use Rattle.std.proofs.lemmas.Option.{slice_get_within}
 use Rattle.er_batch.proofs.BatchLemmas.{goes-on, grown}
-use Rattle.er_batch.specs.Analysts.{Asked, CrewRan, HasCrewRun}
-use Rattle.er_batch.specs.Inner.Items.{IsNext}
+use Rattle.er_batch.specs.Analysts.{Asked, CrewRan, HasCrewRun, IsCrewReady}
+use Rattle.er_batch.specs.Inner.Items.{AreItems, IsNext}
 use Rattle.er_batch.specs.Runs.{IsWellFormed, recorded}
 use Rattle.er_event.proofs.Lists.{get_behind, get_still}
 use Rattle.er_event.specs.declared.steps.Event.{Event}
@@ -23,9 +23,9 @@ use Rattle.er_model.specs.Threads.{accepted, held}
 use Rattle.er_parallel.specs.Crews.{Crewed, AreNoted, AreUnusual, HaveAnswered, LeavesWord, IsAmong, IsAnswered}
 use Rattle.er_parallel.specs.Faults.{AsksForSet, MayFail}
 use Rattle.er_parallel.specs.Usual.{usual}
-use Rattle.er_parallel.specs.declared.faults.ReplayFault.{ReplayFault}
-use Rattle.er_parallel.specs.declared.faults.ReplayFault.TheVariants as replaying
-use Rattle.er_parallel.specs.declared.unusual.Unusual.{Unusual}
+use Rattle.er_parallel.specs.declared.config.ReplayFault.{ReplayFault}
+use Rattle.er_parallel.specs.declared.config.ReplayFault.TheVariants as replaying
+use Rattle.er_parallel.specs.declared.worker.Unusual.{Unusual}
 use Rattle.er_replay.specs.Wants.{asks_by, is_access}
 use Rattle.er_report.proofs.GrowthLemmas.{reported-on}
 use Rattle.er_report.specs.Builder.{Built, IsReported, IsStepAt, KeepsState, is_plain}
@@ -172,9 +172,37 @@ pub start-may : (why : ReplayFault) → (why ≡ replaying.Memory) ⊎ (why ≡ 
 start-may why (inl is) = rw is tt
 start-may why (inr is) = rw is tt
 
--- the steps of a batch behind those that are past
+-- workers that stand for a recording and get ready for more steps
+module _ (old : CrewRan) (asked : Asked) (r : Recording) (steps : List Step) (run : HasCrewRun old asked r) where
+  -- those that have stopped stay so
+  pub ready-stopped : (why : ReplayFault) → old.crew ≡ Err why → IsCrewReady old asked r steps
+  ready-stopped why is = record {
+    answered = rw is (may-front r.steps steps why (rw is at run.answered));
+    rules = run.rules;
+    explain = run.explain;
+    formed = run.formed;
+  }
+
+  -- others have answered what is past
+  pub answered : (crew : Crewed) → old.crew ≡ Ok crew → HaveAnswered crew r.steps
+  answered crew is = (rw is at run.answered).0
+
+  -- and go on to the end of the steps, or stop in them
+  pub ready-on : (crew before : Crewed) → old.crew ≡ Ok before → (items : List Unusual) → HaveAnswered crew (r.steps ++ steps) → AreItems (is_some old.builder.kept) r.steps steps items
+      → IsCrewReady (record { crew = Ok crew; items = items; builder = old.builder }) asked r steps
+  ready-on crew before is items on are = record {
+    answered = (on, (rw is at run.answered).1, are);
+    rules = run.rules;
+    explain = run.explain;
+    formed = run.formed;
+  }
+
+  pub ready-fault : (why : ReplayFault) (items : List Unusual) → MayFail (r.steps ++ steps) why → IsCrewReady (record { crew = Err why; items = items; builder = old.builder }) asked r steps
+  ready-fault why items may = record { answered = may; rules = run.rules; explain = run.explain; formed = run.formed }
+
+-- the steps of a batch behind those that are past, which they are ready for
 module _ (past : List Step) (lines sites : List ℕ) (names : NameTable) (trace : Recording) (kept : KeepsNames names trace.names) (fits : IsWellFormed trace)
-    (old : CrewRan) (asked : Asked) (run : HasCrewRun old asked (recorded past lines sites names)) where
+    (old : CrewRan) (asked : Asked) (run : IsCrewReady old asked (recorded past lines sites names) trace.steps) where
   abbrev after : Recording
   after = joined past lines sites trace
 
@@ -183,37 +211,29 @@ module _ (past : List Step) (lines sites : List ℕ) (names : NameTable) (trace 
 
   -- workers that have stopped stay so
   pub stays : (why : ReplayFault) → old.crew ≡ Err why → HasCrewRun old asked after
-  stays why is = record {
-    answered = rw is (may-front past trace.steps why (rw is at run.answered));
-    rules = run.rules;
-    explain = run.explain;
-    formed = formed;
-  }
+  stays why is = record { answered = rw is (rw is at run.answered); rules = run.rules; explain = run.explain; formed = formed }
 
-  -- others have answered what is past
-  pub answered : (crew : Crewed) → old.crew ≡ Ok crew → HaveAnswered crew past
-  answered crew is = (rw is at run.answered).0
+  -- others have the items of the batch, and the report is that of what is past
+  pub items-of : (crew : Crewed) → old.crew ≡ Ok crew → AreItems (is_some old.builder.kept) past trace.steps old.items
+  items-of crew is = (rw is at run.answered).2
 
   pub reported : (crew : Crewed) → old.crew ≡ Ok crew → IsReported old.builder after (length past)
   reported crew is = reported-on old.builder _ after (length past) (goes-on past lines sites names trace kept run.formed) (omega arith) (rw is at run.answered).1
 
-  -- and go on to the end of the batch, or stop in it
-  pub goes : (crew : Crewed) (added : Built) → added.rules ≡ old.builder.rules → is_some added.kept ≡ is_some old.builder.kept → HaveAnswered crew (past ++ trace.steps)
-      → IsReported added after (length past + length trace.steps) → HasCrewRun (record { crew = Ok crew; builder = added }) asked after
-  goes crew added rules explains answered reported = record {
-    answered = (answered, subst (IsReported added after) (sym (length-append past trace.steps)) reported);
+  pub goes : (crew : Crewed) → old.crew ≡ Ok crew → (added : Built) → added.rules ≡ old.builder.rules → is_some added.kept ≡ is_some old.builder.kept
+      → IsReported added after (length past + length trace.steps) → HasCrewRun (record { crew = old.crew; items = old.items; builder = added }) asked after
+  goes crew is added rules explains reported = record {
+    answered = rw is ((rw is at run.answered).0, subst (IsReported added after) (sym (length-append past trace.steps)) reported);
     rules = rules ∙ run.rules;
     explain = explains ∙ run.explain;
     formed = formed;
   }
 
-  pub stops : (why : ReplayFault) → MayFail (past ++ trace.steps) why → HasCrewRun (record { crew = Err why; builder = old.builder }) asked after
-  stops why may = record { answered = may; rules = run.rules; explain = run.explain; formed = formed }
-
 -- before any step
-pub begun : (crew : Result Crewed ReplayFault) (builder : Built) (asked : Asked) → IfOk crew (λ crew. HaveAnswered crew []) → IfErr crew (λ why. (why ≡ replaying.Memory) ⊎ (why ≡ replaying.WorkerNotStarted))
-    → ((r : Recording) → IsReported builder r 0) → builder.rules ≡ asked.rules → is_some builder.kept ≡ asked.explain → HasCrewRun (record { crew = crew; builder = builder }) asked no_steps
-begun crew builder asked none fault built rules explain = record {
+pub begun : (crew : Result Crewed ReplayFault) (items : List Unusual) (builder : Built) (asked : Asked) → IfOk crew (λ crew. HaveAnswered crew [])
+    → IfErr crew (λ why. (why ≡ replaying.Memory) ⊎ (why ≡ replaying.WorkerNotStarted))
+    → ((r : Recording) → IsReported builder r 0) → builder.rules ≡ asked.rules → is_some builder.kept ≡ asked.explain → HasCrewRun (record { crew = crew; items = items; builder = builder }) asked no_steps
+begun crew items builder asked none fault built rules explain = record {
   answered = by crew none fault;
   rules = rules;
   explain = explain;

@@ -1,12 +1,13 @@
 -- What stands for the steps of a text goes on with each batch, and with the last one it stands for the whole text.
 use Rattle.std.proofs.Common.{◌≡◌, ◌++◌, ℕ, List, [], Option, Some, None, IfSome, Ok, refl, sym, subst}
-use Rattle.er_batch.proofs.BatchLemmas.{read-whole, read-part}
+use Rattle.er_batch.proofs.BatchLemmas.{all-known, all-named, read-whole, read-part}
 use Rattle.er_batch.specs.Analysts.{IsAnswered}
 use Rattle.er_batch.specs.Inner.Passes.{HasCome}
-use Rattle.er_batch.specs.Runs.{recorded}
+use Rattle.er_batch.specs.Runs.{IsWellFormed, recorded}
 use Rattle.er_event.specs.declared.steps.Step.{Step}
 use Rattle.er_text.specs.Batches.{joined, HasRead, GivesBatch}
 use Rattle.er_text.specs.Ending.{KnowsEnd, IsEndingOf}
+use Rattle.er_text.specs.Named.{KeepsNames}
 use Rattle.er_text.specs.Places.{Reached}
 use Rattle.er_text.specs.declared.endings.Ending.{Ending}
 use Rattle.er_text.specs.declared.reading.Batch.{Batch}
@@ -14,40 +15,43 @@ use Rattle.er_text.specs.declared.reading.Batch.TheVariants.{More, End}
 use Rattle.er_trace.specs.Names.{NameTable}
 use Rattle.er_trace.specs.Trace.{Recording, no_steps, without_steps}
 
--- a batch
-module _ (Stands Later : Recording → Type 0) (told : Option (List ℕ)) (old new : Reached) (known rest : Option (List ℕ)) (t u : Recording) (batch : Batch)
-    (come : HasCome Stands told known old t)
-    (gives : (text : List ℕ) (steps : List Step) (numbers sites : List ℕ) → HasRead text steps numbers sites old known t → GivesBatch text steps numbers sites new rest u (Ok batch))
-    (goes_on : (past : List Step) (lines sites : List ℕ) → Stands (recorded past lines sites t.names) → Later (joined past lines sites u)) where
-  pub part : batch ≡ More → HasCome Later told rest new (without_steps u)
+-- a batch is read behind one that was read before, which is answered
+module _ (Stands Later : Recording → Type 0) (told : Option (List ℕ)) (old new : Reached) (known rest : Option (List ℕ)) (t u : Recording) (last : List Step) (numbers places : List ℕ) (batch : Batch)
+    (come : HasCome Stands told known old t last numbers places)
+    (gives : (text : List ℕ) (steps : List Step) (lines sites : List ℕ) → HasRead text steps lines sites old known t → GivesBatch text steps lines sites new rest u (Ok batch))
+    (goes_on : (past : List Step) (lines sites : List ℕ) → Stands (recorded past lines sites t.names) → Later (recorded (past ++ last) (lines ++ numbers) (sites ++ places) u.names)) where
+  pub part : batch ≡ More → HasCome Later told rest new (without_steps u) u.steps u.lines u.sites
   part is = record {
-    past = come.past ++ u.steps;
-    lines = come.lines ++ u.lines;
-    sites = come.sites ++ u.sites;
-    read = read-part told come.past come.lines come.sites old new known rest t u batch is gives come.read;
+    past = come.past ++ last;
+    lines = come.lines ++ numbers;
+    sites = come.sites ++ places;
+    read = read-part told (come.past ++ last) (come.lines ++ numbers) (come.sites ++ places) old new known rest t u batch is gives come.read;
     no_steps = refl;
     no_lines = refl;
     no_sites = refl;
     stands = goes_on come.past come.lines come.sites come.stands;
   }
 
-  pub whole : batch ≡ End → new.place.limit ≡ old.place.limit → IsAnswered Later told old.place.limit u.names
-  whole is limit = record {
-    recording = joined come.past come.lines come.sites u;
-    trace = read-whole told come.past come.lines come.sites old new known rest t u batch is limit gives come.read;
+  -- with the last batch, which is answered behind that
+  pub whole : (Last : Recording → Type 0) → ((past : List Step) (lines sites : List ℕ) → Later (recorded past lines sites u.names) → Last (joined past lines sites u))
+      → batch ≡ End → new.place.limit ≡ old.place.limit → IsAnswered Last told old.place.limit u.names
+  whole Last ends is limit = record {
+    recording = joined (come.past ++ last) (come.lines ++ numbers) (come.sites ++ places) u;
+    trace = read-whole told (come.past ++ last) (come.lines ++ numbers) (come.sites ++ places) old new known rest t u batch is limit gives come.read;
     names = refl;
-    stands = goes_on come.past come.lines come.sites come.stands;
+    stands = ends (come.past ++ last) (come.lines ++ numbers) (come.sites ++ places) (goes_on come.past come.lines come.sites come.stands);
   }
 
 -- behind the last batch the reader knows how the text ends
-pub ends-by : (Stands : Recording → Type 0) (told known : Option (List ℕ)) (old new : Reached) (t : Recording) (batch : Batch) → HasCome Stands told known old t
-    → ((text : List ℕ) (steps : List Step) (numbers sites : List ℕ) → HasRead text steps numbers sites old known t → batch ≡ End → KnowsEnd text new) → batch ≡ End
+pub ends-by : (Stands : Recording → Type 0) (told known : Option (List ℕ)) (old new : Reached) (t : Recording) (last : List Step) (numbers places : List ℕ) (batch : Batch)
+    → HasCome Stands told known old t last numbers places
+    → ((text : List ℕ) (steps : List Step) (lines sites : List ℕ) → HasRead text steps lines sites old known t → batch ≡ End → KnowsEnd text new) → batch ≡ End
     → IfSome told (λ text. KnowsEnd text new)
-ends-by Stands told known old new t batch come ends is = by told come.read
+ends-by Stands told known old new t last numbers places batch come ends is = by told come.read
   where
-    by : (o : Option (List ℕ)) → IfSome o (λ text. HasRead text come.past come.lines come.sites old known t) → IfSome o (λ text. KnowsEnd text new)
+    by : (o : Option (List ℕ)) → IfSome o (λ text. HasRead text (come.past ++ last) (come.lines ++ numbers) (come.sites ++ places) old known t) → IfSome o (λ text. KnowsEnd text new)
     by None read = tt
-    by (Some text) read = ends text come.past come.lines come.sites read is
+    by (Some text) read = ends text (come.past ++ last) (come.lines ++ numbers) (come.sites ++ places) read is
 
 pub ending-of : (told : Option (List ℕ)) (reader : Reached) (ending : Ending) → IfSome told (λ text. KnowsEnd text reader) → ((text : List ℕ) → KnowsEnd text reader → IsEndingOf text ending)
     → IfSome told (λ text. IsEndingOf text ending)
@@ -55,15 +59,41 @@ ending-of None reader ending knows ends = tt
 ending-of (Some text) reader ending knows ends = ends text knows
 
 -- before the first batch
-pub begun : (Stands : Recording → Type 0) (reader : Reached) (trace : Recording) → trace ≡ no_steps → ((text : List ℕ) → HasRead text [] [] [] reader (Some text) no_steps)
-    → Stands no_steps → (told : Option (List ℕ)) → HasCome Stands told told reader trace
-begun Stands reader trace empty starts stands told =
-    subst (λ (t : Recording). HasCome Stands told told reader t) (sym empty)
+pub begun : (Stands : Recording → Type 0) (reader : Reached) (trace : Recording) (last : List Step) (numbers places : List ℕ) → trace ≡ no_steps → last ≡ [] → numbers ≡ [] → places ≡ []
+    → ((text : List ℕ) → HasRead text [] [] [] reader (Some text) no_steps) → Stands no_steps → (told : Option (List ℕ)) → HasCome Stands told told reader trace last numbers places
+begun Stands reader trace last numbers places empty none no-numbers no-places starts stands told =
+    rw (empty, none, no-numbers, no-places)
     (record { past = []; lines = []; sites = []; read = read-by told; no_steps = refl; no_lines = refl; no_sites = refl; stands = stands })
   where
     read-by : (o : Option (List ℕ)) → IfSome o (λ text. HasRead text [] [] [] reader o no_steps)
     read-by None = tt
     read-by (Some text) = starts text
+
+-- a batch keeps its form under more names
+pub still-formed : (steps : List Step) (lines sites : List ℕ) (old new : NameTable) → KeepsNames old new → IsWellFormed (recorded steps lines sites old) → IsWellFormed (recorded steps lines sites new)
+still-formed steps lines sites old new kept formed = record {
+  named = all-named old new kept steps formed.named;
+  long = formed.long;
+  known = all-known old new kept sites formed.known;
+  one_each = formed.one_each;
+}
+
+-- the batch that was read has taken the place of the one that was answered
+module _ (u v : Recording) (last : List Step) (numbers places : List ℕ) (forgotten : v ≡ without_steps u) (steps : last ≡ u.steps) (lines : numbers ≡ u.lines) (sites : places ≡ u.sites) where
+  pub moved : (Later : Recording → Type 0) (told rest : Option (List ℕ)) (new reader : Reached) → reader ≡ new → HasCome Later told rest new (without_steps u) u.steps u.lines u.sites
+      → HasCome Later told rest reader v last numbers places
+  moved Later told rest new reader same come = rw (same, forgotten, steps, lines, sites) come
+
+  -- and is answered itself
+  pub ends-on : (Later Last : Recording → Type 0)
+      → ((past : List Step) (before around : List ℕ) (names : NameTable) → KeepsNames names v.names → Later (recorded past before around names)
+      → Last (recorded (past ++ last) (before ++ numbers) (around ++ places) v.names))
+      → (past : List Step) (before around : List ℕ) → Later (recorded past before around u.names) → Last (joined past before around u)
+  ends-on Later Last on past before around stands =
+      rw (forgotten, steps, lines, sites) at (on past before around u.names (rw forgotten (record { threads = λ n name is. is; locks = λ n name is. is; sites = λ n name is. is })) stands)
+
+  pub ended-on : (Last : Recording → Type 0) (told : Option (List ℕ)) (limit : ℕ) (w : Recording) → w ≡ without_steps v → IsAnswered Last told limit u.names → IsAnswered Last told limit w.names
+  ended-on Last told limit w empty answered = rw (empty, forgotten) answered
 
 -- one of two
 pub first : (P Q : Recording → Type 0) (told : Option (List ℕ)) (limit : ℕ) (used : NameTable) → IsAnswered (λ r. P r × Q r) told limit used → IsAnswered P told limit used

@@ -1,10 +1,13 @@
 -- What an analyst is asked for, and what a pass over a text comes to.
-use Rattle.std.specs.Prelude.{◌≡◌, ℕ, Bool, List, length, Option, IfSome, is_some, Result, MatchResult}
+use Rattle.std.specs.Prelude.{◌≡◌, ◌++◌, ℕ, Bool, List, length, Option, IfSome, is_some, Result, MatchResult}
+use Rattle.er_batch.specs.Inner.Items.{AreItems}
 use Rattle.er_batch.specs.Runs.{HasRun, IsWellFormed}
 use Rattle.er_event.specs.declared.refusals.NoRoom.{NoRoom}
+use Rattle.er_event.specs.declared.steps.Step.{Step}
 use Rattle.er_parallel.specs.Crews.{Crewed, HaveAnswered}
 use Rattle.er_parallel.specs.Faults.{MayFail}
-use Rattle.er_parallel.specs.declared.faults.ReplayFault.{ReplayFault}
+use Rattle.er_parallel.specs.declared.config.ReplayFault.{ReplayFault}
+use Rattle.er_parallel.specs.declared.worker.Unusual.{Unusual}
 use Rattle.er_replay.specs.Standing.{Replayed}
 use Rattle.er_report.specs.Builder.{Built, IsReported}
 use Rattle.er_report.specs.declared.reports.Analysis.{Analysis}
@@ -52,14 +55,23 @@ pub record HasRunFor (ran : Ran) (asked : Asked) (r : Recording) : Type 0 where
   pub rules : ran.builder.rules ≡ asked.rules
   pub explain : is_some ran.builder.kept ≡ asked.explain
 
--- what several workers keep of the steps so far: themselves, or why they have stopped, and the report
+-- what several workers keep of the steps so far: themselves, or why they have stopped, the unusual answers to the last batch, and the report
 pub record CrewRan : Type 0 where
   pub crew : Result Crewed ReplayFault
+  pub items : List Unusual
   pub builder : Built
 
 -- they have answered the recording's steps, which are in the report, or have a fault that these steps may give
 pub record HasCrewRun (ran : CrewRan) (asked : Asked) (r : Recording) : Type 0 where
   pub answered : MatchResult ran.crew (λ crew. HaveAnswered crew r.steps × IsReported ran.builder r (length r.steps)) (λ why. MayFail r.steps why)
+  pub rules : ran.builder.rules ≡ asked.rules
+  pub explain : is_some ran.builder.kept ≡ asked.explain
+  pub formed : IsWellFormed r
+
+-- they have answered these steps behind the recording's too, which aren't in the report, or have a fault that these may give
+pub record IsCrewReady (ran : CrewRan) (asked : Asked) (r : Recording) (steps : List Step) : Type 0 where
+  pub answered : MatchResult ran.crew
+      (λ crew. HaveAnswered crew (r.steps ++ steps) × IsReported ran.builder r (length r.steps) × AreItems (is_some ran.builder.kept) r.steps steps ran.items) (λ why. MayFail (r.steps ++ steps) why)
   pub rules : ran.builder.rules ≡ asked.rules
   pub explain : is_some ran.builder.kept ≡ asked.explain
   pub formed : IsWellFormed r

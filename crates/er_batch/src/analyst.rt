@@ -9,6 +9,7 @@ ghost use Rattle.er_text.specs.Named.{KeepsNames};
 ghost use Rattle.er_trace.specs.Names.{NameTable};
 ghost use Rattle.er_trace.specs.Trace.{Recording};
 
+use er_event::Step;
 use er_trace::Trace;
 use std::alloc::AllocError;
 use std::sync::Wait;
@@ -22,6 +23,9 @@ pub trait Analyst {
     /// It stands for this recording, of which it is asked this.
     ghost stands: { Self → Asked → Recording → Type 0 };
 
+    /// It stands for this recording, and is ready for these steps behind it.
+    ghost ready: { Self → Asked → Recording → List Steps → Type 0 };
+
     /// Whether it is wanted by who asks this.
     ghost wanted: { Asked → Bool };
 
@@ -31,10 +35,22 @@ pub trait Analyst {
     /// How many of them are races that have a line.
     ghost found: { Self → ℕ };
 
-    /// Answers the steps of a batch, behind those of the batches before.
+    /// Gets ready for the steps of the next batch, as far as no names are needed for it, and calls `beside`, which may be at the same time.
+    fn prepare<R: Threads + Wait + Sync, B, F: FnMut() -> B>(
+        &mut self,
+        rt: &R,
+        steps: &[Step],
+        beside: &mut F,
+    ) -> B
+        requires sync { IsSync R.row }
+        requires callable { F.pre beside.old }
+        ensures called { F.step beside.old result beside.new }
+        ensures ready { (asked : Asked) (r : Recording) → stands self.old asked r → ready self.new asked r steps.now };
+
+    /// Answers the steps of a batch that it is ready for, behind those of the batches before.
     fn answer<R: Threads + Wait + Sync>(&mut self, rt: &R, trace: &Trace) -> Result<(), AllocError>
         requires sync { IsSync R.row }
-        ensures goes_on { (asked : Asked) (past : List Steps) (lines sites : List ℕ) (names : NameTable) → KeepsNames names trace.now.names → stands self.old asked (recorded past lines sites names)
+        ensures goes_on { (asked : Asked) (past : List Steps) (lines sites : List ℕ) (names : NameTable) → KeepsNames names trace.now.names → ready self.old asked (recorded past lines sites names) trace.now.steps
             → OnOk result (stands self.new asked (joined past lines sites trace.now)) };
 
     /// How many steps it has answered.
@@ -60,11 +76,23 @@ impl<A: Analyst, B: Analyst> Analyst for Pair<A, B> {
 
     ghost stands = { λ pair asked r. A.stands pair.first asked r × B.stands pair.second asked r };
 
+    ghost ready = { λ pair asked r steps. A.ready pair.first asked r steps × B.ready pair.second asked r steps };
+
     ghost wanted = { λ asked. A.wanted asked || B.wanted asked };
 
     ghost answered = { λ pair. max (A.answered pair.first) (B.answered pair.second) };
 
     ghost found = { λ pair. A.found pair.first + B.found pair.second };
+
+    fn prepare<R: Threads + Wait + Sync, C, F: FnMut() -> C>(
+        &mut self,
+        rt: &R,
+        steps: &[Step],
+        beside: &mut F,
+    ) -> C {
+        self.second.prepare(rt, steps, &mut || ());
+        self.first.prepare(rt, steps, beside)
+    }
 
     fn answer<R: Threads + Wait + Sync>(
         &mut self,
@@ -91,11 +119,25 @@ impl<A: Analyst> Analyst for Option<A> {
 
     ghost stands = { λ analyst asked r. StandsIf (λ one. A.stands one asked r) (A.wanted asked) analyst };
 
+    ghost ready = { λ analyst asked r steps. StandsIf (λ one. A.ready one asked r steps) (A.wanted asked) analyst };
+
     ghost wanted = { A.wanted };
 
     ghost answered = { λ analyst. option_map_or A.answered analyst 0 };
 
     ghost found = { λ analyst. option_map_or A.found analyst 0 };
+
+    fn prepare<R: Threads + Wait + Sync, B, F: FnMut() -> B>(
+        &mut self,
+        rt: &R,
+        steps: &[Step],
+        beside: &mut F,
+    ) -> B {
+        match self {
+            Some(analyst) => analyst.prepare(rt, steps, beside),
+            None => beside(),
+        }
+    }
 
     fn answer<R: Threads + Wait + Sync>(
         &mut self,

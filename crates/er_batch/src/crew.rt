@@ -1,10 +1,11 @@
 //! The lockset rule by several workers, as an analyst.
-ghost use Rattle.std.specs.Prelude.{◌≡◌, ◌+◌, ◌<◌, ◌≤◌, ◌^◌, ℕ, List, All, IfOk, IfErr, IsTrue, MatchOption, None, OnOk, Some, is_some, length, slice_get, true};
+ghost use Rattle.std.specs.Prelude.{◌≡◌, ◌+◌, ◌++◌, ◌<◌, ◌≤◌, ◌^◌, ℕ, List, All, IfOk, IfErr, IsTrue, MatchOption, None, OnOk, Some, is_some, length, slice_get, true};
+ghost use Rattle.std.specs.Thread.{IsSync};
 ghost use Rattle.er_batch.specs.Analysts.{Asked, HasCrewRun};
 ghost use Rattle.er_batch.specs.Inner.Answering.{Lags};
 ghost use Rattle.er_batch.specs.Inner.Items.{AreItems, IsNext};
 ghost use Rattle.er_event.specs.declared.steps.Step.{Step as Steps};
-ghost use Rattle.er_parallel.specs.Crews.{AreUnusual, Rise};
+ghost use Rattle.er_parallel.specs.Crews.{AreNoted, AreUnusual, HaveAnswered, Rise};
 ghost use Rattle.er_parallel.specs.Faults.{MayFail};
 ghost use Rattle.er_parallel.specs.Usual.{usual};
 ghost use Rattle.er_replay.specs.Wants.{is_access};
@@ -17,7 +18,7 @@ ghost use Rattle.er_trace.specs.Trace.{Recording, no_steps};
 
 use crate::answering::{add_behind, has_room};
 use crate::{Analyst, Options};
-use er_event::{Event, Lockset, Refusal, Reply};
+use er_event::{Event, Lockset, Refusal, Reply, Step};
 use er_parallel::{Crew, ReplayConfig, ReplayFault, Unusual};
 use er_report::{Report, ReportBuilder};
 use er_rules::Suppressions;
@@ -26,13 +27,14 @@ use er_trace::Trace;
 use std::alloc::{AllocError, Global};
 use std::marker::Model;
 use std::sync::Wait;
-use std::thread::Threads;
+use std::thread::{Threads, join_mut};
 
 /// Answers steps by the lockset rule and several workers, up to a batch that these can't answer.
 #[derive(Drop)]
 pub struct CrewAnalyst<'t, 'r> {
     alloc: Global,
     crew: Result<Crew<'t>, ReplayFault>,
+    items: Vec<Unusual>,
     builder: ReportBuilder<'r>,
 }
 
@@ -41,18 +43,20 @@ impl<'t, 'r> Model for CrewAnalyst<'t, 'r> {
 
     ghost Value = { CrewRan };
 
-    ghost view = { λ a. record { crew = a.crew; builder = a.builder } };
+    ghost view = { λ a. record { crew = a.crew; items = a.items.items; builder = a.builder } };
 }
 
 impl<'t, 'r> CrewAnalyst<'t, 'r> {
-    /// Before any step, with the workers, the shards and the keys of these options.
+    /// Before any step, with so many workers, and the shards and the keys of these options.
     pub fn new<R: Threads + Wait + Sync>(
         rt: &R,
         alloc: Global,
         table: &'t LocksetTable,
         suppressions: &'r Suppressions,
         options: &Options,
+        workers: u32,
     ) -> Result<CrewAnalyst<'t, 'r>, AllocError>
+        requires { (1 ≤ workers) × (workers ≤ 16) }
         ensures stands { (asked : Asked) → asked.rules ≡ targets_of suppressions.now → asked.explain ≡ options.now.explain → IfOk result (λ analyst. HasCrewRun analyst asked no_steps) }
     {
         let builder = ReportBuilder::explaining_keyed(
@@ -66,10 +70,11 @@ impl<'t, 'r> CrewAnalyst<'t, 'r> {
             max_sets: options.max_sets,
             keys: options.keys,
         };
-        let crew = Crew::new(rt, alloc, table, config, options.workers);
+        let crew = Crew::new(rt, alloc, table, config, workers);
         Ok(CrewAnalyst {
             alloc,
             crew,
+            items: Vec::new(alloc),
             builder,
         })
     }
@@ -84,8 +89,10 @@ impl<'t, 'r> CrewAnalyst<'t, 'r> {
         let CrewAnalyst {
             alloc: _,
             crew,
+            items,
             builder,
         } = self;
+        drop(items);
         match crew {
             Ok(crew) => {
                 drop(crew);
@@ -100,10 +107,12 @@ impl<'t, 'r> CrewAnalyst<'t, 'r> {
 }
 
 impl<'t, 'r> Analyst for CrewAnalyst<'t, 'r> {
-    ghost use Rattle.er_batch.specs.Analysts.{HasCrewRun};
+    ghost use Rattle.er_batch.specs.Analysts.{HasCrewRun, IsCrewReady};
     ghost use Rattle.er_report.specs.Reports.{asks_locks};
 
     ghost stands = { λ ran asked r. HasCrewRun ran asked r };
+
+    ghost ready = { IsCrewReady };
 
     ghost wanted = { λ asked. asks_locks asked.analysis };
 
@@ -111,24 +120,41 @@ impl<'t, 'r> Analyst for CrewAnalyst<'t, 'r> {
 
     ghost found = { λ ran. ran.builder.report.races };
 
-    fn answer<R: Threads + Wait + Sync>(
+    fn prepare<R: Threads + Wait + Sync, B, F: FnMut() -> B>(
         &mut self,
         rt: &R,
+        steps: &[Step],
+        beside: &mut F,
+    ) -> B {
+        let Ok(crew) = &mut self.crew else {
+            return beside();
+        };
+        let noting = self.builder.explains();
+        let (answers, done) = take_beside(rt, crew, steps, noting, beside);
+        match answers {
+            Ok(items) => {
+                self.items = items;
+                done
+            }
+            Err(why) => {
+                self.crew = Err(why);
+                done
+            }
+        }
+    }
+
+    fn answer<R: Threads + Wait + Sync>(
+        &mut self,
+        _rt: &R,
         trace: &Trace,
     ) -> Result<(), AllocError> {
         let steps = trace.steps();
         prove!(steps.len() == trace.lines().len());
         prove!(steps.len() == trace.sites().len());
-        let Ok(crew) = &mut self.crew else {
+        let Ok(_) = &self.crew else {
             return Ok(());
         };
-        match crew.take(rt, steps, self.builder.explains()) {
-            Ok(items) => add_items(self.alloc, &mut self.builder, trace, items.as_slice()),
-            Err(why) => {
-                self.crew = Err(why);
-                Ok(())
-            }
-        }
+        add_items(self.alloc, &mut self.builder, trace, self.items.as_slice())
     }
 
     fn steps(&self) -> u64 {
@@ -138,6 +164,30 @@ impl<'t, 'r> Analyst for CrewAnalyst<'t, 'r> {
     fn races(&self) -> u64 {
         self.builder.races()
     }
+}
+
+// The workers answer these steps while `beside` is called.
+fn take_beside<R: Threads + Wait + Sync, B, F: FnMut() -> B>(
+    rt: &R,
+    crew: &mut Crew<'_>,
+    steps: &[Step],
+    noting: bool,
+    beside: &mut F,
+) -> (Result<Vec<Unusual>, ReplayFault>, B)
+    requires callable { F.pre beside.old }
+    ensures called { F.step beside.old result.1 beside.new }
+    ensures goes_on { (past : List Steps) → HaveAnswered crew.old past → OnOk result.0 (HaveAnswered crew.new (past ++ steps.now)) }
+    ensures answers { (past : List Steps) → HaveAnswered crew.old past → IfOk result.0 (λ items. AreUnusual past steps.now items.items) }
+    ensures noted { (past : List Steps) → HaveAnswered crew.old past → IsTrue noting → IfOk result.0 (λ items. AreNoted past steps.now items.items) }
+    ensures fault { (past : List Steps) → HaveAnswered crew.old past → IfErr result.0 (λ why. MayFail (past ++ steps.now) why) }
+{
+    join_mut(
+        rt,
+        &mut ||
+            requires { IsSync R.row }
+        { crew.take(rt, steps, noting) },
+        beside,
+    )
 }
 
 // Adds the steps of a batch to the report, with their items' answers and otherwise the usual ones. If reasons are wanted, each access that

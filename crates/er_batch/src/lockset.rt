@@ -7,7 +7,7 @@ ghost use Rattle.er_rules.specs.Rules.{targets_of};
 ghost use Rattle.er_trace.specs.Trace.{Recording, no_steps};
 
 use crate::{Analyst, answer_batch};
-use er_event::NoRoom;
+use er_event::{NoRoom, Step};
 use er_replay::Machine;
 use er_report::{Report, ReportBuilder};
 use er_rules::Suppressions;
@@ -89,11 +89,22 @@ impl<'t, 'r> Analyst for LocksetAnalyst<'t, 'r> {
 
     ghost stands = { λ ran asked r. HasRunFor ran asked r };
 
+    ghost ready = { λ ran asked r _. HasRunFor ran asked r };
+
     ghost wanted = { λ asked. asks_locks asked.analysis };
 
     ghost answered = { λ ran. ran.builder.report.steps };
 
     ghost found = { λ ran. ran.builder.report.races };
+
+    fn prepare<R: Threads + Wait + Sync, B, F: FnMut() -> B>(
+        &mut self,
+        _rt: &R,
+        _steps: &[Step],
+        beside: &mut F,
+    ) -> B {
+        beside()
+    }
 
     fn answer<R: Threads + Wait + Sync>(
         &mut self,

@@ -1,16 +1,22 @@
 //! The pass over a text: each batch of lines is read, answered and forgotten.
-ghost use Rattle.std.specs.Prelude.{◌≡◌, ◌+◌, ◌<◌, ◌≤◌, ◌^◌, ℕ, List, Option, false, true, IfSome, IfOk, IfErr, OnOk};
+ghost use Rattle.std.specs.Prelude.{◌≡◌, ◌+◌, ◌++◌, ◌<◌, ◌≤◌, ◌^◌, ℕ, List, Option, false, true, IfSome, IfOk, IfErr, OnOk};
+ghost use Rattle.std.specs.Thread.{IsSync};
 ghost use Rattle.er_batch.specs.Analysts.{Asked, IsAnswered, IsFaultOfReading};
 ghost use Rattle.er_batch.specs.Inner.Passes.{HasCome};
 ghost use Rattle.er_batch.specs.Limits.{bytes_past_limit, most_bytes};
+ghost use Rattle.er_batch.specs.Runs.{IsWellFormed, recorded};
 ghost use Rattle.er_device.specs.Device.{inner_of, has_failed, taken_of};
+ghost use Rattle.er_event.specs.declared.steps.Step.{Step as Steps};
 ghost use Rattle.er_text.specs.Ending.{KnowsEnd, IsEndingOf};
+ghost use Rattle.er_text.specs.Named.{KeepsNames};
 ghost use Rattle.er_lines.specs.Lending.{taken_by};
 ghost use Rattle.er_lines.specs.Faults.{HasFailedBy};
-ghost use Rattle.er_trace.specs.Trace.{no_steps};
+ghost use Rattle.er_trace.specs.Names.{NameTable};
+ghost use Rattle.er_trace.specs.Trace.{Recording, no_steps, without_steps};
 
 use crate::{Analyst, Options, Progress, Watch};
 use er_device::Device;
+use er_event::{Site, Step};
 use er_reading::PieceReader;
 use er_text::{Batch, Ending, ReadFault};
 use er_trace::Trace;
@@ -30,31 +36,67 @@ pub struct Analysed<A> {
     pub ending: Ending,
 }
 
-// What reads the lines, the trace that each batch fills, and what answers its steps.
+// What reads the lines, the trace that each batch fills, and what answers its steps. The last batch that was read is not yet answered: its
+// steps, and the line and the site of each.
 #[derive(Drop)]
 struct Pass<A> {
     lines: PieceReader,
     trace: Trace,
     analyst: A,
+    steps: Vec<Step>,
+    numbers: Vec<u64>,
+    sites: Vec<Site>,
 }
 
 impl<A: Drop> Pass<A> {
-    fn new(alloc: Global, options: &Options, analyst: A) -> Result<Pass<A>, AllocError>
+    fn new(
+        alloc: Global,
+        options: &Options,
+        readers: u32,
+        analyst: A,
+    ) -> Result<Pass<A>, AllocError>
     where
         A: Analyst,
-        ensures come { (asked : Asked) → A.stands analyst asked no_steps → IfOk result (λ pass. (told : Option (List ℕ)) → HasCome (A.stands pass.analyst asked) told told pass.lines pass.trace) }
+        requires readers { (1 ≤ readers) × (readers ≤ 16) }
+        ensures come { (asked : Asked) → A.stands analyst asked no_steps
+            → IfOk result (λ pass. (told : Option (List ℕ)) → HasCome (A.stands pass.analyst asked) told told pass.lines pass.trace pass.steps.items pass.numbers.items pass.sites.items) }
+        ensures formed { IfOk result (λ pass. IsWellFormed (recorded pass.steps.items pass.numbers.items pass.sites.items pass.trace.names)) }
         ensures limit { IfOk result (λ pass. pass.lines.place.limit ≡ options.now.byte_limit) }
         ensures taken { IfOk result (λ pass. taken_by pass.lines.place ≡ 0) }
     {
-        let lines = PieceReader::new(alloc, options.byte_limit, options.keys, options.workers)?;
+        let is_alone = options.workers == 1;
+        let lines = PieceReader::new(alloc, options.byte_limit, options.keys, readers, is_alone)?;
         Ok(Pass {
             lines,
             trace: Trace::keyed(alloc, options.keys),
             analyst,
+            steps: Vec::new(alloc),
+            numbers: Vec::new(alloc),
+            sites: Vec::new(alloc),
         })
     }
 
-    // Reads a batch, has its steps answered and forgets them, and says whether lines may follow.
+    // Has the last batch answered and forgets it. The one that the trace has takes its place.
+    fn answer_last<R: Threads + Wait + Sync>(&mut self, rt: &R) -> Result<(), AllocError>
+    where
+        A: Analyst,
+        requires formed { IsWellFormed (recorded self.old.steps.items self.old.numbers.items self.old.sites.items self.old.trace.names) }
+        ensures answered { (asked : Asked) (past : List Steps) (lines sites : List ℕ) (names : NameTable) → KeepsNames names self.old.trace.names
+            → A.ready self.old.analyst asked (recorded past lines sites names) self.old.steps.items
+            → OnOk result (A.stands self.new.analyst asked (recorded (past ++ self.old.steps.items) (lines ++ self.old.numbers.items) (sites ++ self.old.sites.items) self.old.trace.names)) }
+        ensures next { OnOk result ((self.new.steps.items ≡ self.old.trace.steps) × (self.new.numbers.items ≡ self.old.trace.lines) × (self.new.sites.items ≡ self.old.trace.sites)) }
+        ensures formed { OnOk result (IsWellFormed self.old.trace) }
+        ensures trace { OnOk result (self.new.trace ≡ without_steps self.old.trace) }
+        ensures lines { self.new.lines ≡ self.old.lines }
+    {
+        self.trace
+            .swap_steps(&mut self.steps, &mut self.numbers, &mut self.sites);
+        self.analyst.answer(rt, &self.trace)?;
+        self.trace.clear();
+        Ok(())
+    }
+
+    // Reads a batch, has the one before it answered, and says whether lines may follow. If none may, the batch itself is answered too.
     fn turn<R: Threads + Wait + Sync, D: Read>(
         &mut self,
         rt: &R,
@@ -63,13 +105,15 @@ impl<A: Drop> Pass<A> {
     where
         A: Analyst,
         requires open { has_failed reader.old ≡ false }
-        ensures come { (asked : Asked) (told : Option (List ℕ)) → HasCome (A.stands self.old.analyst asked) told (D.remaining (inner_of reader.old)) self.old.lines self.old.trace
-            → IfOk result (λ more. more ≡ true → HasCome (A.stands self.new.analyst asked) told (D.remaining (inner_of reader.new)) self.new.lines self.new.trace) }
-        ensures ended { (asked : Asked) (told : Option (List ℕ)) → HasCome (A.stands self.old.analyst asked) told (D.remaining (inner_of reader.old)) self.old.lines self.old.trace
+        requires formed { IsWellFormed (recorded self.old.steps.items self.old.numbers.items self.old.sites.items self.old.trace.names) }
+        ensures formed { OnOk result (IsWellFormed (recorded self.new.steps.items self.new.numbers.items self.new.sites.items self.new.trace.names)) }
+        ensures come { (asked : Asked) (told : Option (List ℕ)) → HasCome (A.stands self.old.analyst asked) told (D.remaining (inner_of reader.old)) self.old.lines self.old.trace self.old.steps.items self.old.numbers.items self.old.sites.items
+            → IfOk result (λ more. more ≡ true → HasCome (A.stands self.new.analyst asked) told (D.remaining (inner_of reader.new)) self.new.lines self.new.trace self.new.steps.items self.new.numbers.items self.new.sites.items) }
+        ensures ended { (asked : Asked) (told : Option (List ℕ)) → HasCome (A.stands self.old.analyst asked) told (D.remaining (inner_of reader.old)) self.old.lines self.old.trace self.old.steps.items self.old.numbers.items self.old.sites.items
             → IfOk result (λ more. more ≡ false → IsAnswered (A.stands self.new.analyst asked) told self.old.lines.place.limit self.new.trace.names) }
-        ensures ends { (asked : Asked) (told : Option (List ℕ)) → HasCome (A.stands self.old.analyst asked) told (D.remaining (inner_of reader.old)) self.old.lines self.old.trace
+        ensures ends { (asked : Asked) (told : Option (List ℕ)) → HasCome (A.stands self.old.analyst asked) told (D.remaining (inner_of reader.old)) self.old.lines self.old.trace self.old.steps.items self.old.numbers.items self.old.sites.items
             → IfOk result (λ more. more ≡ false → IfSome told (λ text. KnowsEnd text self.new.lines)) }
-        ensures fault { (asked : Asked) (told : Option (List ℕ)) → HasCome (A.stands self.old.analyst asked) told (D.remaining (inner_of reader.old)) self.old.lines self.old.trace
+        ensures fault { (asked : Asked) (told : Option (List ℕ)) → HasCome (A.stands self.old.analyst asked) told (D.remaining (inner_of reader.old)) self.old.lines self.old.trace self.old.steps.items self.old.numbers.items self.old.sites.items
             → IfErr result (λ why. IsFaultOfReading told self.old.lines.place.limit why) }
         ensures limit { self.new.lines.place.limit ≡ self.old.lines.place.limit }
         ensures more { IfOk result (λ more. more ≡ true → self.old.lines.place.start < self.new.lines.place.start) }
@@ -78,13 +122,21 @@ impl<A: Drop> Pass<A> {
         ensures taken { taken_of reader.new + taken_by self.old.lines.place ≤ taken_of reader.old + taken_by self.new.lines.place }
         ensures most { taken_by self.new.lines.place ≤ self.new.lines.place.limit + bytes_past_limit }
     {
-        let batch = self.lines.next_batch(rt, reader, &mut self.trace)?;
-        self.analyst.answer(rt, &self.trace)?;
+        let (lines, trace) = (&mut self.lines, &mut self.trace);
+        let batch = self.analyst.prepare(
+            rt,
+            self.steps.as_slice(),
+            &mut ||
+                requires { IsSync R.row × (has_failed reader.now ≡ false) }
+            { lines.next_batch(rt, reader, trace) },
+        )?;
+        self.answer_last(rt)?;
         match batch {
-            Batch::End => Ok(false),
-            Batch::More => {
-                self.trace.clear();
-                Ok(true)
+            Batch::More => Ok(true),
+            Batch::End => {
+                self.analyst.prepare(rt, self.steps.as_slice(), &mut || ());
+                self.answer_last(rt)?;
+                Ok(false)
             }
         }
     }
@@ -114,11 +166,12 @@ impl<A: Drop> Pass<A> {
     where
         A: Analyst,
         requires open { has_failed reader.old ≡ false }
-        ensures ended { (asked : Asked) (told : Option (List ℕ)) → HasCome (A.stands self.old.analyst asked) told (D.remaining (inner_of reader.old)) self.old.lines self.old.trace
+        requires formed { IsWellFormed (recorded self.old.steps.items self.old.numbers.items self.old.sites.items self.old.trace.names) }
+        ensures ended { (asked : Asked) (told : Option (List ℕ)) → HasCome (A.stands self.old.analyst asked) told (D.remaining (inner_of reader.old)) self.old.lines self.old.trace self.old.steps.items self.old.numbers.items self.old.sites.items
             → OnOk result (IsAnswered (A.stands self.new.analyst asked) told self.old.lines.place.limit self.new.trace.names) }
-        ensures ends { (asked : Asked) (told : Option (List ℕ)) → HasCome (A.stands self.old.analyst asked) told (D.remaining (inner_of reader.old)) self.old.lines self.old.trace
+        ensures ends { (asked : Asked) (told : Option (List ℕ)) → HasCome (A.stands self.old.analyst asked) told (D.remaining (inner_of reader.old)) self.old.lines self.old.trace self.old.steps.items self.old.numbers.items self.old.sites.items
             → OnOk result (IfSome told (λ text. KnowsEnd text self.new.lines)) }
-        ensures fault { (asked : Asked) (told : Option (List ℕ)) → HasCome (A.stands self.old.analyst asked) told (D.remaining (inner_of reader.old)) self.old.lines self.old.trace
+        ensures fault { (asked : Asked) (told : Option (List ℕ)) → HasCome (A.stands self.old.analyst asked) told (D.remaining (inner_of reader.old)) self.old.lines self.old.trace self.old.steps.items self.old.numbers.items self.old.sites.items
             → IfErr result (λ why. IsFaultOfReading told self.old.lines.place.limit why) }
         ensures failed { HasFailedBy (has_failed reader.new) result }
         ensures taken { taken_of reader.new + taken_by self.old.lines.place ≤ taken_of reader.old + self.old.lines.place.limit + bytes_past_limit }
@@ -131,8 +184,8 @@ impl<A: Drop> Pass<A> {
     }
 }
 
-/// Reads a trace text of at most so many bytes to its end, and has each batch of its steps answered and then forgotten. The watcher is told
-/// behind each batch how far the pass has come.
+/// Reads a trace text of at most so many bytes to its end by so many threads, and has each batch of its steps answered and then forgotten. The analyst gets
+/// ready for a batch while the next one is read. The watcher is told behind each batch how far the pass has come.
 ///
 /// # Errors
 /// The text's first fault, a failed read, or a want of memory wherever it is met.
@@ -141,10 +194,12 @@ pub fn analyse<R: Threads + Wait + Sync, D: Read, V: Watch, A: Analyst + Drop>(
     alloc: Global,
     reader: &mut Device<D>,
     options: &Options,
+    readers: u32,
     analyst: A,
     watcher: &mut V,
 ) -> Result<Analysed<A>, ReadFault>
     requires reader { has_failed reader.old ≡ false }
+    requires readers { (1 ≤ readers) × (readers ≤ 16) }
     ensures answered { (asked : Asked) → A.stands analyst asked no_steps
         → IfOk result (λ found. IsAnswered (A.stands found.analyst asked) (D.remaining (inner_of reader.old)) options.now.byte_limit found.trace.names) }
     ensures ending { (asked : Asked) → A.stands analyst asked no_steps → IfOk result (λ found. IfSome (D.remaining (inner_of reader.old)) (λ text. IsEndingOf text found.ending)) }
@@ -152,16 +207,19 @@ pub fn analyse<R: Threads + Wait + Sync, D: Read, V: Watch, A: Analyst + Drop>(
     ensures failed { HasFailedBy (has_failed reader.new) result }
     ensures taken { taken_of reader.new ≤ taken_of reader.old + options.now.byte_limit + bytes_past_limit }
 {
-    let mut pass = Pass::new(alloc, options, analyst)?;
+    let mut pass = Pass::new(alloc, options, readers, analyst)?;
     match pass.run(rt, reader, watcher) {
         Ok(()) => {
             let Pass {
                 lines,
                 trace,
                 analyst,
+                steps,
+                numbers,
+                sites,
             } = pass;
             let ending = lines.ending();
-            drop(lines);
+            drop((lines, steps, numbers, sites));
             Ok(Analysed {
                 analyst,
                 trace,

@@ -1,7 +1,7 @@
 -- What an access that the check has come to is to the words.
 use Rattle.er_model.specs.Words.{Mark}
 use Rattle.er_check.specs.Claims.{accessed}
-use Rattle.er_check.specs.declared.access.Access.{Access}
+use Rattle.er_check.specs.declared.checking.Access.{Access}
 
 abbrev pub access_mark : Access → Mark
 access_mark a = accessed a.locks.now a.thread a.kind a.word

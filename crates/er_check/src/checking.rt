@@ -1,18 +1,20 @@
 //! The check of an explanation.
-ghost use Rattle.std.specs.Prelude.{◌≡◌, ◌<◌, ◌≤◌, ◌↔◌, ℕ, suc, All, length, slice_get, Some, IfOk, IsTrue};
+ghost use Rattle.std.specs.Prelude.{◌≡◌, ◌<◌, ◌≤◌, ◌↔◌, ℕ, suc, All, length, slice_get, Some, IfOk, IsTrue, ◌==◌, ◌&&◌, not};
 ghost use Rattle.er_model.specs.Answers.{reading_of};
-ghost use Rattle.er_model.specs.Explanations.{Explains, word_in, word_of};
+ghost use Rattle.er_model.specs.Explanations.{Explains, word_in, word_of, times_listed};
 ghost use Rattle.er_held.specs.ThreadLocks.{held_by};
 ghost use Rattle.er_model.specs.Following.{marked};
-ghost use Rattle.er_model.specs.Words.{era};
-ghost use Rattle.er_check.specs.Claims.{Agrees, IsAccess, NamesAccesses, reused_by};
+ghost use Rattle.er_model.specs.Words.{era, counts, cover_of, thread_of, writes};
+ghost use Rattle.er_check.specs.Claims.{Agrees, IsAccess, NamesAccesses, reused_by, FitsPair, IsLeast, ListsOnce};
+ghost use Rattle.er_check.specs.Access.{access_mark};
+ghost use Rattle.er_event.specs.Lockset.{has};
 
-use crate::access::Access;
-use crate::claims::Claims;
-use er_event::{Event, Step, Word};
+use er_event::{Event, Kind, LockId, Lockset, Step, ThreadId, Word};
 use er_held::ThreadLocks;
 use er_journal::Explanation;
 use std::alloc::{AllocError, Global};
+
+type Made<T> = Result<T, AllocError>;
 
 /// Whether the explanation shows why step `k` of the list, counted from 0, is answered with a race. Its pairs may come in
 /// any order. The answer is no if step `k` is no access or past the end of the list. The error is refused memory alone.
@@ -43,7 +45,6 @@ pub fn check_explanation(
     all_agree(alloc, steps, k, word, &claims)
 }
 
-// The word that the step accesses, if it is an access.
 fn word_at(steps: &[Step], at: u64) -> Option<Word>
     ensures { result ≡ word_of (slice_get steps.now at) }
 {
@@ -68,7 +69,6 @@ fn era_of(steps: &[Step], k: u64, word: Word) -> u64
     start
 }
 
-// Whether the event is a reuse of the word.
 fn is_reuse(event: Event, word: Word) -> bool
     ensures { result ≡ reused_by event word }
 {
@@ -98,21 +98,13 @@ fn names_accesses(steps: &[Step], word: Word, start: u64, k: u64, explanation: &
     true
 }
 
-// Whether the position lies from the start to k and is that of an access of the word.
 fn is_access(steps: &[Step], word: Word, start: u64, k: u64, at: u64) -> bool
     ensures { IsTrue result ↔ IsAccess steps.now word start k at }
 {
     start <= at && at <= k && word_at(steps, at) == Some(word)
 }
 
-// Whether each step up to k agrees with each claim.
-fn all_agree(
-    alloc: Global,
-    steps: &[Step],
-    k: u64,
-    word: Word,
-    claims: &Claims<'_>,
-) -> Result<bool, AllocError>
+fn all_agree(alloc: Global, steps: &[Step], k: u64, word: Word, claims: &Claims) -> Made<bool>
     requires last { k < length steps.now }
     requires named { NamesAccesses steps.now word claims.now.start k claims.now.explanation.now }
     ensures { IfOk result (λ yes. IsTrue yes ↔ ((i : ℕ) → i ≤ k
@@ -136,8 +128,8 @@ fn step_agrees(
     step: &Step,
     word: Word,
     locks: &ThreadLocks,
-    claims: &Claims<'_>,
-) -> Result<bool, AllocError>
+    claims: &Claims,
+) -> Made<bool>
     ensures { IfOk result (λ yes. IsTrue yes ↔ (claims.now.start ≤ at → word_in step.now.event ≡ Some word
         → Agrees word claims.now.start claims.now.first_thread claims.now.explanation.now at (marked (held_by locks.now step.now.thread) step.now.thread step.now.event))) }
 {
@@ -156,5 +148,130 @@ fn step_agrees(
             claims.agree(alloc, &access)
         }
         _ => Ok(true),
+    }
+}
+
+/// An explanation, and what its claims rest on: where the word's era begins, and the thread of the first access.
+#[derive(Drop)]
+pub(crate) struct Claims<'a> {
+    pub(crate) explanation: &'a Explanation,
+    pub(crate) start: u64,
+    pub(crate) first_thread: ThreadId,
+}
+
+impl Claims<'_> {
+    /// Whether an access of the word's era agrees with each claim.
+    pub(crate) fn agree(&self, alloc: Global, access: &Access<'_>) -> Made<bool>
+        requires { self.now.start ≤ access.now.at }
+        ensures { IfOk result (λ yes. IsTrue yes
+            ↔ Agrees access.now.word self.now.start self.now.first_thread self.now.explanation.now access.now.at (access_mark access.now)) }
+    {
+        let explanation = self.explanation;
+        let by_another = access.counts_by_another(self.first_thread);
+        let writes = access.counts_as_write();
+        if !is_least(self.start, explanation.first, access.at, access.counts())
+            || !is_least(self.start, explanation.join, access.at, by_another)
+            || !is_least(explanation.join, explanation.write, access.at, writes)
+        {
+            return Ok(false);
+        }
+        if access.at == explanation.join {
+            let cover = access.cover(alloc)?;
+            return Ok(list_once(explanation, &cover));
+        }
+        Ok(pairs_fit(explanation, access))
+    }
+}
+
+fn pairs_fit(explanation: &Explanation, access: &Access<'_>) -> bool
+    ensures { IsTrue result
+        ↔ All (FitsPair (access_mark access.now) access.now.word explanation.now.join access.now.at) explanation.now.uncovered }
+{
+    if access.at <= explanation.join {
+        return true;
+    }
+    for pair in &explanation.uncovered {
+        let uncovered = access.counts_without(pair.lock);
+        if !is_least(explanation.join + 1, pair.at, access.at, uncovered) {
+            return false;
+        }
+    }
+    true
+}
+
+// Whether a position agrees with a claim of which is the least from a start on that passes.
+fn is_least(start: u64, named: u64, at: u64, passes: bool) -> bool
+    ensures { IsTrue result ↔ IsLeast start named at passes }
+{
+    at < start || named < at || passes == (at == named)
+}
+
+fn list_once(explanation: &Explanation, locks: &Lockset) -> bool
+    ensures { IsTrue result ↔ ListsOnce explanation.now.uncovered locks.now }
+{
+    let locks = locks.as_slice();
+    if explanation.uncovered.len() != locks.len() {
+        return false;
+    }
+    for lock in locks {
+        if times_listed(explanation, *lock) != 1 {
+            return false;
+        }
+    }
+    true
+}
+
+fn times_listed(explanation: &Explanation, lock: LockId) -> usize
+    ensures { result ≡ times_listed explanation.now.uncovered lock }
+{
+    let pairs = explanation.uncovered.iter();
+    pairs.filter(|pair| pair.lock == lock).count()
+}
+
+/// An access of a word, with what the threads hold when it is made.
+#[derive(Drop)]
+pub(crate) struct Access<'a> {
+    pub(crate) at: u64,
+    pub(crate) thread: ThreadId,
+    pub(crate) kind: Kind,
+    pub(crate) word: Word,
+    pub(crate) locks: &'a ThreadLocks,
+}
+
+impl Access<'_> {
+    ghost use Rattle.er_check.specs.Access.{access_mark};
+
+    /// Whether it counts: its thread has no bracket open.
+    pub(crate) fn counts(&self) -> bool
+        ensures { result ≡ counts (access_mark self.now) self.now.word }
+    {
+        !self.locks.is_ignoring(self.thread)
+    }
+
+    /// Whether it counts and another thread makes it.
+    pub(crate) fn counts_by_another(&self, thread: ThreadId) -> bool
+        ensures { result ≡ (counts (access_mark self.now) self.now.word && not (thread == thread_of (access_mark self.now))) }
+    {
+        self.counts() && thread != self.thread
+    }
+
+    pub(crate) fn counts_as_write(&self) -> bool
+        ensures { result ≡ (counts (access_mark self.now) self.now.word && writes (access_mark self.now)) }
+    {
+        self.counts() && matches!(self.kind, Kind::Write)
+    }
+
+    /// Whether it counts and the lock does not cover it.
+    pub(crate) fn counts_without(&self, lock: LockId) -> bool
+        ensures { result ≡ (counts (access_mark self.now) self.now.word && not (has (cover_of (access_mark self.now)) lock)) }
+    {
+        self.counts() && !self.locks.covers(self.thread, self.kind, lock)
+    }
+
+    /// The locks that cover it, if it counts.
+    pub(crate) fn cover(&self, alloc: Global) -> Made<Lockset>
+        ensures { IfOk result (λ locks. IsTrue (counts (access_mark self.now) self.now.word) → locks ≡ cover_of (access_mark self.now)) }
+    {
+        self.locks.cover_of(alloc, self.thread, self.kind)
     }
 }

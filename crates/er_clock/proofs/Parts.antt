@@ -4,6 +4,7 @@ use Rattle.std.proofs.lemmas.Bool.{eqb-true, eqb-false, leb-true, and_parts}
 use Rattle.std.proofs.lemmas.Bool.Decides.{nat_tests}
 use Rattle.er_order.specs.ClockLists.{merged, ticked}
 use Rattle.er_order.proofs.ClockLists.{get-merged, tick-runs}
+use Rattle.er_clock.specs.Inner.Merging.{AreWithin}
 use Rattle.er_clock.specs.Clock.{count_in_part, count_in_row, count_in_block, count_in, nothing, Joins, Ticks}
 
 -- a place that is there has one value, whatever stands for those past the end
@@ -48,6 +49,37 @@ past_covered p xs ys all covered u = by (nat_le p u) refl
         let none : get_or xs u 0 ≡ 0 = past_end xs u 0 (omega (arith, low, all)) in
         omega (arith, none)
     by false before = covered u (Rattle.std.proofs.lemmas.Bool.leb-false p u before)
+
+-- the place that comes next in a search for the least and the greatest count
+pub one_more_within : (x p : ℕ) (low high least most : ℕ) (xs : List ℕ) → x ≡ get_or xs p x → p < length xs → least ≤ low → least ≤ x → high ≤ most → x ≤ most →
+    ((u : ℕ) → u < p → (low ≤ get_or xs u 0) × (get_or xs u 0 ≤ high)) → (u : ℕ) → u < p + 1 → (least ≤ get_or xs u 0) × (get_or xs u 0 ≤ most)
+one_more_within x p low high least most xs is within down here up over before u next = by (nat_eq u p) refl
+  where
+    by : (same : Bool) → nat_eq u p ≡ same → (least ≤ get_or xs u 0) × (get_or xs u 0 ≤ most)
+    by true same =
+        let at : u ≡ p = eqb-true u p same in
+        let count : x ≡ get_or xs p 0 = is ∙ default_to xs p x 0 within in
+        rw at (omega (arith, count, here), omega (arith, count, over))
+    by false other =
+        let apart = eqb-false u p other in
+        let was = before u (less apart) in
+        let low_was = was.0 in
+        let high_was = was.1 in
+        (omega (arith, low_was, down), omega (arith, high_was, up))
+      where
+        less : (u ≡ p → ⊥) → u < p
+        less apart = omega (arith, apart, next)
+
+-- the search has gone over all
+pub all_within : (p low high : ℕ) (xs : List ℕ) → length xs ≤ p → ((u : ℕ) → u < p → (low ≤ get_or xs u 0) × (get_or xs u 0 ≤ high)) → AreWithin low high xs
+all_within p low high xs all within = (λ u here. (within u (omega (arith, all, here))).0, λ u. by u (nat_le p u) refl)
+  where
+    by : (u : ℕ) (b : Bool) → nat_le p u ≡ b → get_or xs u 0 ≤ high
+    by u true past =
+        let low_past = leb-true p u past in
+        let none : get_or xs u 0 ≡ 0 = past_end xs u 0 (omega (arith, low_past, all)) in
+        omega (arith, none)
+    by u false before = (within u (Rattle.std.proofs.lemmas.Bool.leb-false p u before)).1
 
 pub get-ticked : (t u : ℕ) (xs : List ℕ) → get_or (ticked t xs) u 0 ≡ get_or xs u 0 + cond (t == u) 1 0
 get-ticked t u xs = tick-runs t u (get_or xs u 0) xs true (t == u) refl refl ∙ by (t == u)

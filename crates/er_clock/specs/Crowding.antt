@@ -1,10 +1,10 @@
 -- The limits of clocks. Threads of a trace are numbered as they appear, and clocks have room for those with the numbers below 65,536.
-use Rattle.std.specs.Prelude.{ℕ, ◌≡◌, ◌<◌, ◌≤◌, ◌-◌, ◌^◌, nat_le, Bool, true, false, ◌||◌, IsTrue, List, length, Option, Some, None, IfSome}
+use Rattle.std.specs.Prelude.{ℕ, ◌≡◌, ◌<◌, ◌≤◌, ◌-◌, ◌^◌, ◌==◌, nat_le, Bool, true, false, ◌||◌, IsTrue, List, length, Option, Some, None, IfSome}
 use Rattle.er_clock.specs.declared.clock.Limit.{Limit}
 use Rattle.er_clock.specs.declared.clock.Limit.TheVariants as limit
 use Rattle.er_event.specs.declared.steps.Step.{Step}
 use Rattle.er_order.specs.Clocks.{Clocks, OfThread, flows, clocks_at}
-use Rattle.er_order.specs.Order.{Effect, Started, Joined, Local, Act, acts_of}
+use Rattle.er_order.specs.Order.{Effect, Started, Joined, Local, Act, Acts, joins, acts_of}
 
 -- the thread comes after the first 65,536
 abbrev pub is_late : ℕ → Bool
@@ -48,8 +48,23 @@ IsBeyond limit.Count clocks act = (t : ℕ) × IsTrue (act_flows act t) × (cloc
 IsBeyond limit.Threads clocks act = IsTrue (crowds act)
 IsBeyond limit.Clocks clocks act = IsTrue (orders act) × KnowsLater clocks act
 
+-- thread t does the act, or is joined by it
+abbrev pub takes_part : Option Act → ℕ → Bool
+takes_part None t = false
+takes_part (Some a) t = a.thread == t || joins a.sync t
+
+-- at this point or before it, a thread after the first 128 does an accepted step, or is joined
+abbrev pub HasLater : Acts → ℕ → Type 0
+HasLater acts n = (m t : ℕ) × (m ≤ n) × (128 ≤ t) × (takes_part (acts m) t ≡ true)
+
+-- so it must be for clocks that are too large
+abbrev pub HasLaterFor : Limit → Acts → ℕ → Type 0
+HasLaterFor limit.Clocks acts n = HasLater acts n
+HasLaterFor _ acts n = Unit {0}
+
 -- one of the steps is
 pub record BeyondIn (limit : Limit) (steps : List Step) : Type 0 where
   pub at : ℕ
   pub within : at < length steps
   pub beyond : IsBeyond limit (clocks_at (acts_of steps) at) (acts_of steps at)
+  pub later : HasLaterFor limit (acts_of steps) at

@@ -2,7 +2,7 @@
 ghost use Rattle.std.specs.Prelude.{◌≡◌, ◌≤◌, ◌<◌, ◌-◌, ◌^◌, ◌==◌, ℕ, suc, max, [], length, get_or, IsTrue, OnOk, OnErr, IfOk, IsOk};
 ghost use Rattle.er_order.specs.ClockLists.{merged, ticked};
 ghost use Rattle.er_clock.specs.Clock.{count_in_block};
-ghost use Rattle.er_clock.specs.Inner.Merging.{padded, lengthened};
+ghost use Rattle.er_clock.specs.Inner.Merging.{padded, lengthened, AreWithin};
 
 use crate::room::{Mark, Room};
 use crate::rows::Part;
@@ -97,6 +97,19 @@ impl Block {
         self.counts.clear();
     }
 
+    /// The least and the greatest of its counts.
+    fn bounds(&self) -> (u32, u32)
+        ensures { AreWithin result.0 result.1 self.now }
+    {
+        let (mut low, mut high) = (u32::MAX, 0u32);
+        for place in 0..self.counts.len() {
+            let count = self.counts[place];
+            low = low.min(count);
+            high = high.max(count);
+        }
+        (low, high)
+    }
+
     /// The same block again.
     pub(crate) fn copy(&self) -> Result<Block, AllocError>
         ensures { IfOk result (λ copied. copied ≡ self.now) }
@@ -113,6 +126,7 @@ fn reach(counts: &mut Vec<u32>, place: usize) -> Result<(), AllocError>
     ensures err { OnErr result (counts.new.items ≡ counts.old.items) }
 {
     if counts.len() <= place {
+        counts.reserve_exact(place + 1 - counts.len())?;
         counts.resize(place + 1, 0)?;
     }
     Ok(())
@@ -125,6 +139,7 @@ fn lengthen(counts: &mut Vec<u32>, others: &Vec<u32>) -> Result<(), AllocError>
 {
     let len = counts.len();
     if len < others.len() {
+        counts.reserve_exact(others.len() - len)?;
         let (_, rest) = others.as_slice().split_at(len);
         counts.extend_from_slice(rest)?;
     }
@@ -142,18 +157,21 @@ fn raise(counts: &mut Vec<u32>, others: &Vec<u32>)
     }
 }
 
-/// A block that clocks share. It never changes.
+/// A block that clocks share, with the least and the greatest of its counts. It never changes.
 #[derive(Drop)]
 pub(crate) struct Shared {
-    block: Rc<(Block, Mark)>,
+    block: Rc<(Block, u32, u32, Mark)>,
 }
 
 impl Model for Shared {
     ghost use Rattle.std.specs.Prelude.{List, ℕ};
+    ghost use Rattle.er_clock.specs.Inner.Merging.{AreWithin};
 
     ghost Value = { List ℕ };
 
     ghost view = { λ s. s.block.value.0 };
+
+    ghost invariant = { λ s. AreWithin s.block.value.1 s.block.value.2 s.block.value.0 };
 }
 
 impl Shared {
@@ -161,7 +179,8 @@ impl Shared {
     fn new(room: &Room, block: Block) -> Result<Shared, AllocError>
         ensures { IfOk result (λ shared. shared ≡ block) }
     {
-        match Rc::new(room.alloc, (block, room.block()?)) {
+        let (low, high) = block.bounds();
+        match Rc::new(room.alloc, (block, low, high, room.block()?)) {
             Ok(block) => Ok(Shared { block }),
             Err(_) => Err(AllocError),
         }
@@ -172,6 +191,16 @@ impl Shared {
         ensures { result.now ≡ self.now }
     {
         &self.block.as_ref().0
+    }
+
+    // Whether the least count is as great as the other's greatest. So blocks whose counts are all the same are compared at once.
+    #[inline(always)]
+    fn exceeds(&self, other: &Shared) -> bool
+        ensures { IsTrue result → (u : ℕ) → get_or other.now u 0 ≤ get_or self.now u 0 }
+    {
+        let (block, low, _, _) = self.block.as_ref();
+        let (others, _, high, _) = other.block.as_ref();
+        high <= low && others.counts.len() <= block.counts.len()
     }
 }
 
@@ -193,7 +222,7 @@ impl Part for Shared {
     }
 
     fn covers(&self, other: &Self) -> bool {
-        self.block().covers(other.block())
+        self.exceeds(other) || self.block().covers(other.block())
     }
 
     fn again(&self) -> Result<Self, AllocError> {
@@ -202,6 +231,13 @@ impl Part for Shared {
     }
 
     fn joined(&self, other: &Self, room: &Room) -> Result<Self, AllocError> {
+        // Of two equal blocks the other one stays, so that threads which learn the same come to share one.
+        if other.exceeds(self) {
+            return other.again();
+        }
+        if self.exceeds(other) {
+            return self.again();
+        }
         let (one, two) = (self.block(), other.block());
         if two.covers(one) {
             return other.again();

@@ -1,7 +1,7 @@
 //! Vector clocks: what each thread, lock and object knows of the threads' steps.
 //!
 //! Begin with [`Clocks`], the clocks of a list of steps. It goes on by one step at a time, and a thread's [`ThreadClock`] says which epochs
-//! happen before what the thread does now. [`Hints`] and [`index_of`] find what a number names, without a hash as a rule.
+//! happen before what the thread does now.
 //!
 //! What it promises, by the names of clauses: clocks that stand for a list of steps stand for the longer list after one more step
 //! (`goes_on`), where a refused step moves nothing; an error changes no count, and says which limit the step is beyond (`err`, `limit`).
@@ -15,13 +15,11 @@
 
 pub use clock::{Epoch, Limit, NoTick};
 pub use clocks::Clocks;
-pub use hints::{Hints, index_of};
 pub use threads::ThreadClock;
 
 mod block;
 mod clock;
 mod clocks;
-mod hints;
 mod room;
 mod rows;
 mod table;

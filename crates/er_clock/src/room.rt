@@ -17,9 +17,9 @@ pub(crate) struct Room {
 }
 
 impl Room {
-    /// How many rows there is room for before any step: some 20 MB.
-    const FIRST: usize = 1 << 16;
-    /// For how many rows more a step makes room. Of 65,000 threads that each signal an object of their own, each takes 8.
+    /// How many rows there is room for before any step: some 10 MB.
+    const FIRST: usize = 1 << 15;
+    /// For how many rows more a step makes room: some 2.7 KB. Of 65,000 threads that each signal an object of their own, each takes 8.
     const EACH: usize = 9;
 
     /// Nothing is counted yet. It takes no memory.

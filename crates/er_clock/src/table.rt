@@ -1,12 +1,13 @@
 //! Clocks by number.
-ghost use Rattle.std.specs.Prelude.{◌≡◌, ◌↔◌, ◌≤◌, ◌<◌, ◌^◌, ◌-◌, ◌+◌, ◌==◌, ℕ, nat_eq, max, cond, IsTrue, OnOk, OnErr, IsErrOf};
+ghost use Rattle.std.specs.Prelude.{◌≡◌, ◌↔◌, ◌≤◌, ◌<◌, ◌^◌, ◌-◌, ◌+◌, ◌==◌, ℕ, nat_eq, max, cond, slice_get, Some, None, IfSome, IfNone, IsTrue, OnOk, OnErr, IsErrOf};
+ghost use Rattle.indexmap.specs.IndexMap.{get, keys, index_map_len, IsUnique};
 ghost use Rattle.er_clock.specs.Clock.{count_in, Joins, Stays};
 ghost use Rattle.er_clock.specs.Table.{known_by};
 
 use crate::clock::{Clock, Limit, NoTick};
-use crate::hints::{Hints, index_of};
 use crate::room::Room;
 use er_event::ThreadId;
+use er_keys::Hints;
 use indexmap::IndexMap;
 use std::alloc::{AllocError, Global};
 use std::marker::Model;
@@ -51,7 +52,7 @@ impl ClockTable {
     pub(crate) fn get(&self, number: u32) -> &Clock
         ensures { (u : ℕ) → count_in result.now u ≡ known_by self.now number u }
     {
-        match index_of(&self.clocks, self.places.hint(number), number) {
+        match index_of(&self.clocks, self.places.hint(number as u64), number) {
             Some(index) => &self.clocks[index],
             None => &self.empty,
         }
@@ -70,17 +71,16 @@ impl ClockTable {
         ensures ok { OnOk result ((n u : ℕ) → known_by self.new n u ≡ cond (number == n) (max (known_by self.old n u) (count_in other.now u)) (known_by self.old n u)) }
         ensures err { OnErr result ((n u : ℕ) → known_by self.new n u ≡ known_by self.old n u) }
     {
-        match index_of(&self.clocks, self.places.hint(number), number) {
+        match index_of(&self.clocks, self.places.hint(number as u64), number) {
             Some(index) => {
-                self.places.note(number, index);
+                self.places.note(number as u64, index);
                 let clock = &mut self.clocks[index];
                 take(clock, other, is_covered, room)
             }
             None => {
                 let mut clock = Clock::new(room.alloc);
                 clock.join(other, room)?;
-                self.places.make_room()?;
-                self.places.note(number, self.clocks.len());
+                self.places.note(number as u64, self.clocks.len());
                 self.clocks.insert(number, clock)?;
                 Ok(())
             }
@@ -95,17 +95,16 @@ impl ClockTable {
         ensures full { IsErrOf result (NoTick.Beyond Limit.Count) → known_by self.old number thread ≡ 2 ^ 32 - 1 }
         ensures others { (limit : Limits) → IsErrOf result (NoTick.Beyond limit) → limit ≡ Limit.Count }
     {
-        match index_of(&self.clocks, self.places.hint(number), number) {
+        match index_of(&self.clocks, self.places.hint(number as u64), number) {
             Some(index) => {
-                self.places.note(number, index);
+                self.places.note(number as u64, index);
                 let known = &mut self.clocks[index];
                 known.tick(thread, room)
             }
             None => {
                 let mut clock = Clock::new(room.alloc);
                 clock.tick(thread, room)?;
-                self.places.make_room()?;
-                self.places.note(number, self.clocks.len());
+                self.places.note(number as u64, self.clocks.len());
                 match self.clocks.insert(number, clock) {
                     Ok(_) => Ok(()),
                     Err(_) => Err(NoTick::OutOfMemory),
@@ -119,7 +118,7 @@ impl ClockTable {
         requires { (u : ℕ) × (0 < known_by self.old number u) }
         ensures { (n u : ℕ) → known_by self.new n u ≡ cond (number == n) (count_in other.old u) (known_by self.old n u) }
     {
-        match index_of(&self.clocks, self.places.hint(number), number) {
+        match index_of(&self.clocks, self.places.hint(number as u64), number) {
             Some(index) => mem::swap(&mut self.clocks[index], other),
             None => {}
         }
@@ -136,5 +135,20 @@ fn take(clock: &mut Clock, other: &Clock, is_covered: bool, room: &Room) -> Resu
         clock.catch_up(other)
     } else {
         clock.join(other, room)
+    }
+}
+
+// Where the clock of this number stands. It looks at the one at `hint` first, and needs no hash if that is the one, or if there is none.
+#[inline]
+fn index_of<V>(map: &IndexMap<u32, V>, hint: usize, number: u32) -> Option<usize>
+    ensures key { IfSome result (λ index. slice_get (keys map.now) index ≡ Some number) }
+    ensures within { IfSome result (λ index. index < index_map_len map.now) }
+    ensures none { IfNone result (get nat_eq map.now number ≡ None) }
+    ensures unique { IsUnique nat_eq map.now }
+{
+    match map.as_slice().get_index(hint) {
+        Some((key, _)) if *key == number => Some(hint),
+        _ if map.is_empty() => None,
+        _ => map.get_index_of(&number),
     }
 }

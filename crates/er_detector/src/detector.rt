@@ -1,5 +1,5 @@
 //! A detector: shards under locks of their own, and the two counters.
-ghost use Rattle.std.specs.Prelude.{◌≡◌, ◌<◌, ◌≤◌, ◌⊎◌, ◌&&◌, ℕ, [], IsTrue, IsFalse, IfOk, IfErr, IfSome, IsErrOf, IsErrAnd, OnOk, OnErr, Err, Some, None, length, vec_len};
+ghost use Rattle.std.specs.Prelude.{◌≡◌, ◌<◌, ◌≤◌, ◌⊎◌, ◌&&◌, ℕ, [], IsTrue, IsFalse, IfOk, IfErr, IfSome, IsErrOf, IsErrAnd, OnOk, OnErr, Err, Some, None, length, vec_len, ◌++◌, filter};
 ghost use Rattle.std.specs.List.{All};
 ghost use Rattle.er_event.specs.Span.{page_count, part_lo, parts_below, parts_of};
 ghost use Rattle.er_held.specs.Held.{nothing_held};
@@ -9,13 +9,12 @@ ghost use Rattle.er_shadow.specs.Shadows.{needs_set};
 ghost use Rattle.er_seat.specs.Seats.{holdings_of};
 ghost use Rattle.er_detector.specs.Calls.{is_seat_of, is_shard_of, IsListed, IsEntered, IsIgnored, IsReused, HasReused, may_refuse, may_refuse_reuse};
 ghost use Rattle.er_detector.specs.Limits.{IsShardCount};
-ghost use Rattle.er_detector.specs.Races.{IsRace};
+ghost use Rattle.er_detector.specs.Races.{IsRace, is_race};
 
 use crate::Config;
-use crate::races::add_races;
 use crossbeam_utils::CachePadded;
 use er_event::{Kind, PageRange, Refusal, Reply, Site, ThreadId, Word, WordRange};
-use er_journal::Entry;
+use er_journal::{Entry, What};
 use er_seat::{Seat, VacantSeat};
 use er_shard::Shard;
 use er_table::LocksetTable;
@@ -24,8 +23,7 @@ use std::marker::Model;
 use std::sync::atomic::{AtomicU64, Ordering};
 use std::sync::{Mutex, MutexGuard, Wait};
 
-/// Shards under locks of their own, with the counters of tickets and of seats. Contracts see how it was made. (The tool of the 1997
-/// paper has one memory for all threads, which it runs in turn.)
+/// Shards under locks of their own, with the counters of tickets and of seats. Contracts see how it was made.
 #[derive(Drop)]
 pub struct Detector<'t> {
     config: Config,
@@ -69,8 +67,7 @@ pub struct ReuseStopped {
 }
 
 impl<'t> Detector<'t> {
-    /// A detector to which nothing was done. The sets of locks that its shards need go into the table. The only error is that there is
-    /// no memory.
+    /// A detector to which nothing was done. The sets of locks that its shards need go into the table. The only error is that there is no memory.
     pub fn new(
         alloc: Global,
         table: &'t LocksetTable,
@@ -92,8 +89,8 @@ impl<'t> Detector<'t> {
         })
     }
 
-    /// A seat that made no call and whose thread holds nothing. Threads are numbered by their seats, from 0. Refused if there is no
-    /// memory for the first call (`OutOfMemory`), and if all seats are taken (`TooManyThreads`).
+    /// A seat that made no call and whose thread holds nothing. Threads are numbered by their seats, from 0. Refused if there is no memory for the
+    /// first call (`OutOfMemory`), and if all seats are taken (`TooManyThreads`).
     pub fn open_seat(&self) -> Result<Seat, Refusal>
         ensures name { IfOk result (λ seat. seat.name ≡ self.now.name) }
         ensures thread { IfOk result (λ seat. seat.thread < self.now.max_threads) }
@@ -131,11 +128,9 @@ impl<'t> Detector<'t> {
         self.shards[number as usize].lock(rt)
     }
 
-    /// Makes an access in a shard whose lock the caller holds (section 2 of the 1997 paper). If the seat ignores, the access is listed
-    /// and changes no shard.
-    ///
-    /// Refused if the seat or the shard isn't the detector's, or the word isn't the shard's (`ForeignSeat`), if the shard's journal is
-    /// full (`JournalFull`), if a set of locks finds no place in the table (`TableFull`), and if there is no memory (`OutOfMemory`).
+    /// Makes an access in a shard whose lock the caller holds. If the seat ignores, the access is listed and changes no shard. Refused if the seat or
+    /// the shard isn't the detector's, or the word isn't the shard's (`ForeignSeat`), if the shard's journal is full (`JournalFull`), if a set of
+    /// locks finds no place in the table (`TableFull`), and if there is no memory (`OutOfMemory`).
     pub fn access_in<R: Wait>(
         &self,
         rt: &R,
@@ -169,8 +164,8 @@ impl<'t> Detector<'t> {
         Ok(seat.record_access(rt, shard, ticket, word, kind, site)?)
     }
 
-    /// The same under the lock of the word's shard, which isn't taken if the seat ignores (section 2 of the 1997 paper). `ForeignSeat`
-    /// also means that a caller of `shard` put another shard behind the lock.
+    /// The same under the lock of the word's shard, which isn't taken if the seat ignores. `ForeignSeat` also means that a caller of `shard` put
+    /// another shard behind the lock.
     pub fn access<R: Wait>(
         &self,
         rt: &R,
@@ -198,11 +193,15 @@ impl<'t> Detector<'t> {
         }
         // A caller of `shard` may have put another shard behind the lock.
         let mut shard = self.shard(rt, self.shard_of(word));
-        self.access_in(rt, &mut shard, seat, word, kind, site)
+        if !self.has(&shard, word) {
+            return Err(Refusal::ForeignSeat);
+        }
+        let ticket = self.next_ticket();
+        Ok(seat.record_access(rt, &mut shard, ticket, word, kind, site)?)
     }
 
-    /// Puts a range of words to a new use, page by page and each page under its shard's lock (section 3.3 of the 1997 paper). If a page
-    /// is refused, those before it stay done. Refused as `access`, but never for a full table.
+    /// Puts a range of words to a new use, page by page and each page under its shard's lock. If a page is refused, those before it stay done.
+    /// Refused as `access`, but never for a full table.
     pub fn reuse<R: Wait>(
         &self,
         rt: &R,
@@ -227,8 +226,8 @@ impl<'t> Detector<'t> {
         Ok(())
     }
 
-    /// The entries of races, shard by shard and each shard under its lock. Other threads may go on meanwhile, so it shows no one
-    /// moment of all shards. The only error is that there is no memory.
+    /// The entries of races, shard by shard and each shard under its lock. Other threads may go on meanwhile, so it shows no one moment of all
+    /// shards. The only error is that there is no memory.
     pub fn races<R: Wait>(&self, rt: &R) -> Result<Vec<Entry>, AllocError>
         ensures { IfOk result (λ races. All IsRace races.items) }
     {
@@ -283,20 +282,17 @@ impl<'t> Detector<'t> {
         Ok(seat.reuse(&mut shard, ticket, *part)?)
     }
 
-    // Whether the shard is the detector's, and the word is one of its words.
     fn has(&self, shard: &Shard<'t>, word: Word) -> bool
         ensures { result ≡ is_shard_of self.now shard.now word }
     {
         shard.name() == self.config.name && shard.number() == self.shard_of(word)
     }
 
-    // The next ticket.
     fn next_ticket(&self) -> u64 {
         self.tickets.fetch_add(1, Ordering::SeqCst)
     }
 }
 
-// The shard of this number, to which nothing was done.
 fn empty_shard<'t>(
     alloc: Global,
     table: &'t LocksetTable,
@@ -331,4 +327,42 @@ fn ignored(seat: &mut Seat, word: Word, kind: Kind, site: Site) -> Result<Reply,
 {
     seat.record_ignored(word, kind, site)?;
     Ok(Reply::Ignored)
+}
+
+/// Adds copies of the journal's entries of races, in order.
+pub(crate) fn add_races(races: &mut Vec<Entry>, journal: &[Entry]) -> Result<(), AllocError>
+    ensures { OnOk result (races.new.items ≡ races.old.items ++ filter is_race journal.now) }
+{
+    for entry in journal {
+        if is_race(entry) {
+            races.push(copy_of(entry)?)?;
+        }
+    }
+    Ok(())
+}
+
+fn is_race(entry: &Entry) -> bool
+    ensures { result ≡ is_race entry.now }
+{
+    matches!(entry.reply.reply(), Reply::Race)
+}
+
+fn copy_of(entry: &Entry) -> Result<Entry, AllocError>
+    ensures { IfOk result (λ copied. copied ≡ entry.now) }
+{
+    Ok(Entry {
+        ticket: entry.ticket,
+        what: copy_of_what(&entry.what)?,
+        thread: entry.thread,
+        reply: entry.reply.copy(),
+    })
+}
+
+fn copy_of_what(what: &What) -> Result<What, AllocError>
+    ensures { IfOk result (λ copied. copied ≡ what.now) }
+{
+    match what {
+        What::Access(stamp) => Ok(What::Access(stamp.copy()?)),
+        What::Reset(range) => Ok(What::Reset(*range)),
+    }
 }

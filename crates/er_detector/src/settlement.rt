@@ -15,12 +15,8 @@ use er_settle::{JournalView, Run, SeatView, Unsettled, settle_lists};
 use er_shard::Shard;
 use std::alloc::{AllocError, Global};
 
-/// Settles a detector's parts and its seats: checks that the seats' calls and the shards' journals agree, and merges them. A
-/// shard is known by its place among the parts.
-///
-/// A fault other than `Memory` is the first that applies. The run has each seat's calls in their order, those with tickets by rising
-/// ticket, one without a ticket directly before its seat's next call with one, and the rest at the end by seat number. Its replies and
-/// states are what `er_model`'s `a_merge_is_legal` says of each merge of what such types keep.
+/// Settles a detector's parts and its seats, as `settle_lists` of `er_settle` does with what they keep. A shard is known by its place among
+/// the parts.
 pub fn settle_parts(alloc: Global, parts: Parts<'_>, seats: Vec<Seat>) -> Result<Run, Unsettled>
     ensures first { IfErr result (IsFirst parts.entry.name parts.entry.opened seats.items (journals_of parts.entry.shards.items)) }
     ensures settled { IfOk result (λ run. IsSettled parts.entry.name parts.entry.opened seats.items (journals_of parts.entry.shards.items)) }
@@ -34,13 +30,8 @@ pub fn settle_parts(alloc: Global, parts: Parts<'_>, seats: Vec<Seat>) -> Result
 
     // All numbers are below 2^30, so where more seats than this were opened, one is missing either way.
     let opened = parts.opened.min(u64::from(u32::MAX)) as u32;
-    settle_lists(
-        alloc,
-        parts.name,
-        opened,
-        views.as_slice(),
-        journals.as_slice(),
-    )
+    let (seats, journals) = (views.as_slice(), journals.as_slice());
+    settle_lists(alloc, parts.name, opened, seats, journals)
 }
 
 /// Takes a detector's shards out of their locks and settles them with its seats. No caller knows what the shards held, so of a
@@ -70,11 +61,7 @@ fn seat_views(alloc: Global, seats: &[Seat]) -> Result<Vec<SeatView<'_>>, AllocE
     Ok(views)
 }
 
-// The shards' journals, to be settled.
-fn journal_views<'a>(
-    alloc: Global,
-    shards: &'a [Shard<'_>],
-) -> Result<Vec<JournalView<'a>>, AllocError>
+fn journal_views<'a>(alloc: Global, shards: &'a [Shard]) -> Result<Vec<JournalView<'a>>, AllocError>
     ensures { IfOk result (λ views. views.items ≡ journals_of shards.now) }
 {
     let mut views = Vec::with_capacity(alloc, shards.len())?;

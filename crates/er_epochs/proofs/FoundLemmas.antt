@@ -1,5 +1,5 @@
 -- Which tag is found, by what the reads and the write find.
-use Rattle.std.proofs.Common.{◌≡◌, ◌∙◌, ◌^◌, ◌&&◌, ℕ, Bool, true, false, ◌||◌, nat_lt, cond, List, [], ◌∷◌, ◌++◌, filter, is_some, Option, Some, None, refl, sym, ap}
+use Rattle.std.proofs.Common.{◌≡◌, ◌∙◌, ◌^◌, ◌&&◌, ℕ, Bool, true, false, ◌||◌, nat_lt, cond, List, [], ◌++◌, is_some, Option, Some, None, refl, sym, ap}
 use Rattle.std.proofs.lemmas.List.Folds.{find-append}
 use Rattle.std.specs.List.{find, list_any}
 use Rattle.std.specs.Option.{option_map, option_or, option_to_list}

@@ -321,10 +321,6 @@ pub found_or : {A : Type 0} (first second : Option (ℕ × A)) → option_map (�
 found_or (Some found) second = refl
 found_or None second = refl
 
-pub found_in : {A : Type 0} (number : ℕ) (found : Option (ℕ × A)) → option_map (λ (found : ℕ × A). found.0) (option_map (λ (found : ℕ × A). (number * 128 + found.0, found.1)) found) ≡ option_map (λ i. number * 128 + i) (option_map (λ (found : ℕ × A). found.0) found)
-found_in number (Some found) = refl
-found_in number None = refl
-
 pub all_or : {X : Type 0} (P : X → Type 0) (first second : Option X) → IfSome first P → IfSome second P → IfSome (option_or first second) P
 all_or P (Some x) second here there = here
 all_or P None second here there = there

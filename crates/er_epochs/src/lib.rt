@@ -12,8 +12,6 @@
 pub use reads::Tagged;
 pub use words::OrderWords;
 
-mod block;
-mod lists;
 mod reads;
 mod word;
 mod words;

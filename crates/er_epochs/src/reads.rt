@@ -1,15 +1,16 @@
-//! The reads of a word since its last write, where several are kept.
-ghost use Rattle.std.specs.Prelude.{◌≡◌, ◌≤◌, ℕ, ◌∷◌, ◌++◌, ◌&&◌, [], reverse, filter, not, nat_eq, false, IsTrue, IfOk, OnOk, OnErr};
-ghost use Rattle.indexmap.specs.IndexMap.{get};
+//! The reads of a word since its last write, where several are kept, and the lists of all words that have several.
+ghost use Rattle.std.specs.Prelude.{◌≡◌, ◌≤◌, ◌<◌, ℕ, ◌∷◌, ◌++◌, ◌&&◌, [], reverse, filter, not, nat_eq, slice_get, false, Some, IsTrue, IfOk, OnOk, OnErr};
+ghost use Rattle.indexmap.specs.IndexMap.{get, keys, index_map_len, IsUnique};
 ghost use Rattle.er_order.specs.Following.{is_unordered};
 ghost use Rattle.er_order.specs.Keeping.{IsNoted, first_apart};
 ghost use Rattle.er_clock.specs.Counts.{count_by};
-ghost use Rattle.er_epochs.specs.Epochs.{is_apart, is_replaced, pair_of, readers_in, reads_beside, tag_of_first, tagged};
+ghost use Rattle.er_epochs.specs.Epochs.{is_apart, is_replaced, pair_of, readers_in, reads_beside, tag_found, tag_of_first, tagged, IsStoredBy};
+ghost use Rattle.er_epochs.specs.Words.{list_of, said, stored_beside};
 
-use crate::word::{NONE, SEVERAL};
+use crate::word::{NONE, OrderWord, SEVERAL};
 use er_clock::{Epoch, ThreadClock};
-use er_event::ThreadId;
-use er_keys::{HashKeys, NumberHasher};
+use er_event::{Kind, ThreadId};
+use er_keys::{HashKeys, NumberHasher, index_of};
 use indexmap::IndexMap;
 use std::alloc::{AllocError, Global};
 use std::marker::Model;
@@ -60,7 +61,17 @@ impl<A: Copy> Reads<A> {
         ensures ok { OnOk result (self.new ≡ reads_beside (readers_in reader count tag) self.old) }
         ensures err { OnErr result (reads_beside (readers_in reader count tag) self.new ≡ reads_beside (readers_in reader count tag) self.old) }
     {
-        gather(&mut self.reads, reader, count, tag)
+        let reads = &mut self.reads;
+        if reader == SEVERAL {
+            return Ok(());
+        }
+        reads.clear();
+        if reader < NONE {
+            let thread = ThreadId::new(reader);
+            let epoch = Epoch { thread, count };
+            reads.push(Tagged { epoch, tag })?;
+        }
+        Ok(())
     }
 
     /// The tag of the last read that doesn't happen before what the clock's thread does now.
@@ -81,34 +92,120 @@ impl<A: Copy> Reads<A> {
         ensures ok { OnOk result (IsNoted pair_of (count_by clock.now) self.old (tagged clock.now.0 (count_by clock.now clock.now.0) tag) self.new) }
         ensures err { OnErr result (self.new ≡ self.old) }
     {
-        note_read(alloc, keys, &mut self.reads, clock, tag)
+        let reads = &mut self.reads;
+        if put_over_last(reads, clock, tag) {
+            return Ok(());
+        }
+        if reads.len() < FEW {
+            return note_among_few(reads, clock, tag);
+        }
+        if reads.len() < reads.capacity() {
+            reads.push(access_by(clock, tag))?;
+            return Ok(());
+        }
+        note_among_many(alloc, keys, reads, clock, tag)
     }
 }
 
-// Makes the list what a word says of its reads.
-fn gather<A: Copy>(
-    reads: &mut Vec<Tagged<A>>,
-    reader: u32,
-    count: u32,
-    tag: A,
-) -> Result<(), AllocError>
-    ensures ok { OnOk result (reverse reads.new.items ≡ reads_beside (readers_in reader count tag) (reverse reads.old.items)) }
-    ensures err { OnErr result (reads_beside (readers_in reader count tag) (reverse reads.new.items) ≡ reads_beside (readers_in reader count tag) (reverse reads.old.items)) }
-{
-    if reader == SEVERAL {
-        return Ok(());
+/// The lists of the words that have several reads in no order, by the words' numbers. A word that no longer has such reads gives its list
+/// up, so memory goes by the words that have them now. Contracts see the lists by `list_of`.
+#[derive(Drop)]
+pub(crate) struct ReadLists<A> {
+    lists: IndexMap<u64, Reads<A>, NumberHasher>,
+    keys: HashKeys,
+    alloc: Global,
+}
+
+impl<A> Model for ReadLists<A> {
+    ghost use Rattle.er_epochs.specs.Words.{WordLists};
+
+    ghost Value = { WordLists A };
+
+    ghost view = { λ l. l.lists.entries };
+}
+
+impl<A: Copy> ReadLists<A> {
+    /// No word has a list. Their numbers are hashed by these keys.
+    pub(crate) fn new(alloc: Global, keys: HashKeys) -> Self
+        ensures { result ≡ [] }
+    {
+        ReadLists {
+            lists: IndexMap::with_hasher(alloc, NumberHasher::new(keys)),
+            keys,
+            alloc,
+        }
     }
-    reads.clear();
-    if reader < NONE {
-        reads.push(Tagged {
-            epoch: Epoch {
-                thread: ThreadId::new(reader),
-                count,
-            },
-            tag,
-        })?;
+
+    /// Whether no word has a list.
+    pub(crate) fn is_empty(&self) -> bool
+        ensures { IsTrue result → self.now ≡ [] }
+    {
+        self.lists.is_empty()
     }
-    Ok(())
+
+    /// One counted access, by the thread whose clock this is, of the word of this number. Returns the word after it, and the
+    /// tag of the last access that it is a race with, if it is reported as one. `AllocError`: memory was refused, and the word says what it said.
+    #[inline]
+    pub(crate) fn access(
+        &mut self,
+        number: u64,
+        word: OrderWord<A>,
+        clock: &ThreadClock<'_>,
+        kind: Kind,
+        tag: A,
+    ) -> Result<(OrderWord<A>, Option<A>), AllocError>
+        ensures kept { IfOk result (λ r. IsStoredBy (count_by clock.now) (stored_beside self.old number (said word)) (tagged clock.now.0 (count_by clock.now clock.now.0) tag) kind (stored_beside self.new number (said r.0))) }
+        ensures found { IfOk result (λ r. r.1 ≡ tag_found (count_by clock.now) (stored_beside self.old number (said word)) kind) }
+        ensures err { OnErr result (stored_beside self.new number (said word) ≡ stored_beside self.old number (said word)) }
+        ensures others { (w : ℕ) → nat_eq number w ≡ false → list_of self.new w ≡ list_of self.old w }
+    {
+        if let Some(after) = word.access(clock, kind, tag) {
+            return Ok(after);
+        }
+        let (next, rival) = self.advance(number, word, clock, kind, tag)?;
+        if !next.has_list() {
+            self.forget(word.hint(), number);
+        }
+        Ok((next, rival))
+    }
+
+    // The same for a word that has a list or gets one. The list stays even if the word has no use for it any more.
+    fn advance(
+        &mut self,
+        number: u64,
+        word: OrderWord<A>,
+        clock: &ThreadClock<'_>,
+        kind: Kind,
+        tag: A,
+    ) -> Result<(OrderWord<A>, Option<A>), AllocError>
+        ensures kept { IfOk result (λ r. IsStoredBy (count_by clock.now) (stored_beside self.old number (said word)) (tagged clock.now.0 (count_by clock.now clock.now.0) tag) kind (stored_beside self.new number (said r.0))) }
+        ensures found { IfOk result (λ r. r.1 ≡ tag_found (count_by clock.now) (stored_beside self.old number (said word)) kind) }
+        ensures err { OnErr result (stored_beside self.new number (said word) ≡ stored_beside self.old number (said word)) }
+        ensures others { (w : ℕ) → nat_eq number w ≡ false → list_of self.new w ≡ list_of self.old w }
+    {
+        let index = reach(self.alloc, &mut self.lists, word.hint(), number)?;
+        let reads = &mut self.lists[index];
+        word.access_listed(reads, index, self.alloc, self.keys, clock, kind, tag)
+    }
+
+    /// The tag of the last one of the listed reads of the word of this number that doesn't happen before what the clock's thread does now.
+    pub(crate) fn find(&self, hint: usize, number: u64, clock: &ThreadClock<'_>) -> Option<A>
+        ensures { result ≡ tag_of_first (count_by clock.now) (list_of self.now number) }
+    {
+        match index_of(&self.lists, hint, number) {
+            Some(index) => self.lists[index].find(clock),
+            None => None,
+        }
+    }
+
+    /// Lets go of the list of the word of this number, if there is one.
+    pub(crate) fn forget(&mut self, hint: usize, number: u64)
+        ensures { (w : ℕ) → nat_eq number w ≡ false → list_of self.new w ≡ list_of self.old w }
+    {
+        if let Some(index) = index_of(&self.lists, hint, number) {
+            self.lists.swap_remove_index(index);
+        }
+    }
 }
 
 // The tag of the last read that the clock doesn't cover.
@@ -129,30 +226,6 @@ pub(crate) fn access_by<A: Copy>(clock: &ThreadClock<'_>, tag: A) -> Tagged<A>
     Tagged {
         epoch: clock.epoch(),
         tag,
-    }
-}
-
-// Notes a read in the clock's epoch.
-fn note_read<A: Copy>(
-    alloc: Global,
-    keys: HashKeys,
-    reads: &mut Vec<Tagged<A>>,
-    clock: &ThreadClock<'_>,
-    tag: A,
-) -> Result<(), AllocError>
-    ensures ok { OnOk result (IsNoted pair_of (count_by clock.now) (reverse reads.old.items) (tagged clock.now.0 (count_by clock.now clock.now.0) tag) (reverse reads.new.items)) }
-    ensures err { OnErr result (reads.new.items ≡ reads.old.items) }
-{
-    if put_over_last(reads, clock, tag) {
-        return Ok(());
-    }
-    if reads.len() < FEW {
-        note_among_few(reads, clock, tag)
-    } else if reads.len() < reads.capacity() {
-        reads.push(access_by(clock, tag))?;
-        Ok(())
-    } else {
-        note_among_many(alloc, keys, reads, clock, tag)
     }
 }
 
@@ -207,23 +280,15 @@ fn note_among_many<A: Copy>(
     ensures ok { OnOk result (IsNoted pair_of (count_by clock.now) (reverse reads.old.items) (tagged clock.now.0 (count_by clock.now clock.now.0) tag) (reverse reads.new.items)) }
     ensures err { OnErr result (reads.new.items ≡ reads.old.items) }
 {
-    let turned = turned(alloc, reads)?;
+    let mut turned = Vec::new(alloc);
+    turned.extend_from_slice(reads)?;
+    turn(&mut turned);
     let mut left = useful_of(alloc, keys, &turned, clock)?;
     left.reserve(left.len())?;
     turn(&mut left);
     left.push(access_by(clock, tag))?;
     *reads = left;
     Ok(())
-}
-
-// The same from the last one to the first.
-fn turned<A: Copy>(alloc: Global, reads: &Vec<Tagged<A>>) -> Result<Vec<Tagged<A>>, AllocError>
-    ensures { IfOk result (λ turned. turned.items ≡ reverse reads.now.items) }
-{
-    let mut turned = Vec::new(alloc);
-    turned.extend_from_slice(reads)?;
-    turn(&mut turned);
-    Ok(turned)
 }
 
 // Puts the last one first, and so on.
@@ -261,15 +326,31 @@ fn is_useful(
 ) -> bool
     ensures { result ≡ (is_unordered (count_by clock.now) (epoch.now.thread, epoch.now.count) && not (is_replaced (get nat_eq counts.now epoch.now.thread) epoch.now.count)) }
 {
-    !clock.covers(*epoch) && !is_replaced(counts, *epoch)
-}
-
-// Whether its thread has a count that is no less.
-fn is_replaced(counts: &IndexMap<u64, u32, NumberHasher>, epoch: Epoch) -> bool
-    ensures { result ≡ is_replaced (get nat_eq counts.now epoch.thread) epoch.count }
-{
-    match counts.get(&u64::from(epoch.thread.number())) {
+    let replaced = match counts.get(&u64::from(epoch.thread.number())) {
         Some(&count) => epoch.count <= count,
         None => false,
+    };
+    !clock.covers(*epoch) && !replaced
+}
+
+// Where the list of the word of this number stands. If there was none, it is made.
+fn reach<A: Copy>(
+    alloc: Global,
+    lists: &mut IndexMap<u64, Reads<A>, NumberHasher>,
+    hint: usize,
+    number: u64,
+) -> Result<usize, AllocError>
+    ensures key { IfOk result (λ index. slice_get (keys lists.new) index ≡ Some number) }
+    ensures within { IfOk result (λ index. index < index_map_len lists.new) }
+    ensures unique { IsUnique nat_eq lists.new }
+    ensures same { (w : ℕ) → list_of lists.new.entries w ≡ list_of lists.old.entries w }
+{
+    match index_of(lists, hint, number) {
+        Some(index) => Ok(index),
+        None => {
+            let index = lists.len();
+            lists.insert(number, Reads::new(alloc))?;
+            Ok(index)
+        }
     }
 }

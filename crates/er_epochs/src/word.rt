@@ -144,20 +144,10 @@ impl<A: Copy> OrderWord<A> {
         }
         let is_alone = self.is_read_ordered(clock);
         match kind {
-            Kind::Read => {
-                if is_alone {
-                    Some((self.read(access_by(clock, tag)), None))
-                } else {
-                    None
-                }
-            }
-            Kind::Write => {
-                if is_alone {
-                    Some((self.written(access_by(clock, tag)), None))
-                } else {
-                    Some((self.told(), self.find(clock, kind, None)))
-                }
-            }
+            Kind::Read if is_alone => Some((self.read(access_by(clock, tag)), None)),
+            Kind::Read => None,
+            Kind::Write if is_alone => Some((self.written(access_by(clock, tag)), None)),
+            Kind::Write => Some((self.told(), self.find(clock, kind, None))),
         }
     }
 
@@ -226,18 +216,8 @@ impl<A: Copy> OrderWord<A> {
     {
         match kind {
             Kind::Read => None,
-            Kind::Write => self.find_any_read(clock, listed),
-        }
-    }
-
-    // The same, whatever the kind is.
-    fn find_any_read(self, clock: &ThreadClock<'_>, listed: Option<A>) -> Option<A>
-        ensures { (reads : List (Access A)) → listed ≡ tag_of_first (count_by clock.now) reads → result ≡ tag_of_first (count_by clock.now) (reads_beside (said self).readers reads) }
-    {
-        if self.reader == SEVERAL {
-            listed
-        } else {
-            unordered(self.reader, self.read_count, self.read_tag, clock)
+            Kind::Write if self.reader == SEVERAL => listed,
+            Kind::Write => unordered(self.reader, self.read_count, self.read_tag, clock),
         }
     }
 

@@ -1,7 +1,7 @@
 -- Which fault of the program stands for a fault of a text or of a demo.
 use Rattle.std.specs.Prelude.{ℕ, Option, Some, None}
-use Rattle.er_load.specs.declared.faults.LoadFault.{LoadFault}
-use Rattle.er_load.specs.declared.faults.LoadFault.TheVariants as load
+use Rattle.er_load.specs.declared.workloads.LoadFault.{LoadFault}
+use Rattle.er_load.specs.declared.workloads.LoadFault.TheVariants as load
 use Rattle.er_lines.specs.declared.faults.ReadFault.{ReadFault}
 use Rattle.er_lines.specs.declared.faults.ReadFault.TheVariants as reading
 use Rattle.er_exit.specs.declared.faults.Fault.{Fault}

@@ -1,6 +1,6 @@
 -- What is noted of a trace, behind its report.
 use Rattle.std.specs.Prelude.{◌≡◌, ◌⊎◌, ℕ, zero, suc, ◌++◌, Bool, true, false, List, [], codes, decimal}
-use Rattle.er_exit.specs.declared.notes.TextNotes.{TextNotes}
+use Rattle.er_exit.specs.declared.faults.TextNotes.{TextNotes}
 
 -- a line, if it is noted
 abbrev pub line_if : Bool → List ℕ → List ℕ

@@ -1,19 +1,20 @@
-//! What is written behind a fault's line.
-ghost use Rattle.std.specs.Prelude.{◌≡◌, ◌≤◌, ◌++◌, true, length, IfOk, OnOk};
+//! What is written behind a fault's line: a hint, and what a person is shown of the file.
+ghost use Rattle.std.specs.Prelude.{◌≡◌, ◌≤◌, ◌++◌, true, length, IfOk, OnOk, ◌∷◌, List, ℕ, false};
 ghost use Rattle.er_device.specs.Device.{inner_of};
 ghost use Rattle.er_exit.specs.Plain.{is_plain};
 ghost use Rattle.er_exit.specs.Written.{AddsPlain, part_text};
+ghost use Rattle.er_exit.specs.Inner.Excerpts.{line_with};
 
-use crate::excerpts::Excerpt;
-use crate::files::{open_ordinary, reason_of};
+use crate::faults::put;
 use crate::hints::{file_hint, row_of};
-use crate::lines::put;
-use crate::plain::{Put, put_fitting};
-use crate::quotes::put_quote;
+use crate::plain::{Put, put_fitting, put_quote};
+use er_binary::Decoded;
 use er_device::Device;
 use er_text::TextFault;
 use std::alloc::{AllocError, Global};
-use std::io::Write;
+use std::fs;
+use std::fs::File;
+use std::io::{Read, Write};
 use std::rt::Files;
 
 /// What went wrong with a file.
@@ -43,6 +44,27 @@ where
     }
 }
 
+/// How many bytes an ordinary file has. None if it is no such file: a FIFO could wait for ever.
+pub fn size_of<R: Files>(rt: &R, path: &str) -> Option<u64> {
+    match fs::metadata(rt, path) {
+        Ok(found) if found.is_file() => Some(found.len()),
+        _ => None,
+    }
+}
+
+/// Whether the file is an ordinary one, which can be read twice.
+pub fn is_ordinary<R: Files>(rt: &R, path: &str) -> bool {
+    size_of(rt, path).is_some()
+}
+
+/// Opens an ordinary file. None if it is no such file, or can't be opened.
+pub fn open_ordinary<R: Files>(rt: &R, path: &str) -> Option<R::File> {
+    if !is_ordinary(rt, path) {
+        return None;
+    }
+    File::open(rt, path).ok()
+}
+
 fn put_plain<E: Write>(errors: &mut Device<E>, text: &[u8])
     requires { is_plain text.now ≡ true }
     ensures { AddsPlain (E.contents (inner_of errors.old)) (E.contents (inner_of errors.new)) }
@@ -63,7 +85,8 @@ fn advice_of<R: Files + AllocGlobal>(rt: &R, trouble: Trouble<'_>, byte_limit: u
     };
     let mut excerpt = Excerpt::new(rt.alloc(), line);
     if let Some(file) = path.and_then(|path| open_ordinary(rt, path)) {
-        excerpt.read(&mut Device::new(file), byte_limit)?;
+        let text = Decoded::new(rt.alloc(), file);
+        excerpt.read(&mut Device::new(text), byte_limit)?;
     }
     let line = excerpt.line.as_slice();
     let (place, hint) = row_of(kind, of_rules, line);
@@ -95,4 +118,89 @@ fn put_part(out: &mut Vec<u8>, front: &[u8], text: &str, columns: usize, back: &
     out.extend_from_slice(front)?;
     put_fitting(out, text.as_bytes(), columns)?;
     out.extend_from_slice(back)
+}
+
+// How a file begins, and one of its lines, as far as its text was read.
+#[derive(Drop)]
+struct Excerpt {
+    /// The first bytes, as many as tell what sort of file it is.
+    head: Vec<u8>,
+    /// The line, or of a long one its first bytes, of which there are at most 8,192.
+    line: Vec<u8>,
+    /// How many lines come before the one that is sought.
+    before: u64,
+    /// Whether the line's end was found.
+    ended: bool,
+}
+
+// How many bytes of a beginning are kept.
+const MOST_HEAD: usize = 8;
+
+// How many bytes of a line are enough to show it.
+const ENOUGH: usize = 4096;
+
+impl Excerpt {
+    /// Nothing of a text, of which the line of this number is sought, counted from 1.
+    fn new(alloc: Global, number: u64) -> Excerpt {
+        Excerpt {
+            head: Vec::new(alloc),
+            line: Vec::new(alloc),
+            before: number.saturating_sub(1),
+            ended: false,
+        }
+    }
+
+    /// Reads up to the line's end, and at most a piece more than `byte_limit` bytes. A failed read ends the text.
+    fn read<D: Read>(&mut self, reader: &mut Device<D>, byte_limit: u64) -> Put {
+        let mut buffer = [0u8; 4096];
+        for _ in 0..u64::MAX {
+            let Ok(count) = reader.read(&mut buffer) else {
+                break;
+            };
+            let piece = &buffer[..count];
+            let more = MOST_HEAD.saturating_sub(self.head.len());
+            self.head.extend_from_slice(&piece[..count.min(more)])?;
+            self.take_all(piece)?;
+            let is_shown = self.ended || self.line.len() >= ENOUGH;
+            if count == 0 || is_shown || reader.taken() > byte_limit {
+                break;
+            }
+        }
+        Ok(())
+    }
+
+    fn take_all(&mut self, piece: &[u8]) -> Put
+        ensures { OnOk result ((rest : List ℕ) → line_with self.new.before self.new.ended self.new.line.items rest ≡ line_with self.old.before self.old.ended self.old.line.items (piece.now ++ rest)) }
+    {
+        for byte in piece {
+            self.take(*byte)?;
+        }
+        Ok(())
+    }
+
+    fn take(&mut self, byte: u8) -> Put
+        ensures { OnOk result ((rest : List ℕ) → line_with self.new.before self.new.ended self.new.line.items rest ≡ line_with self.old.before self.old.ended self.old.line.items (byte ∷ rest)) }
+    {
+        match (self.before, byte) {
+            _ if self.ended => {}
+            (0, b'\n') => self.ended = true,
+            (0, _) => self.line.push(byte)?,
+            (_, b'\n') => self.before -= 1,
+            _ => {}
+        }
+        Ok(())
+    }
+}
+
+// Why a file can't be had, as the system says. Empty if it says nothing.
+fn reason_of<R: Files + AllocGlobal>(rt: &R, path: &str) -> Result<String, AllocError> {
+    match fs::metadata(rt, path) {
+        Ok(found) if found.is_dir() => String::from_str(rt.alloc(), "it is a folder"),
+        Ok(found) if found.is_file() => match File::open(rt, path) {
+            Ok(_) => Ok(String::new(rt.alloc())),
+            Err(error) => error.to_string(rt.alloc()),
+        },
+        Ok(_) => Ok(String::new(rt.alloc())),
+        Err(error) => error.to_string(rt.alloc()),
+    }
 }

@@ -31,7 +31,6 @@ pub fn run_demo<R: Threads + Wait + Sync, O: Write>(
     Ok(u8::from(races > 0))
 }
 
-// Writes the line of a demo to the output.
 fn write_demo<O: Write>(
     alloc: Global,
     name: &str,

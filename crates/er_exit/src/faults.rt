@@ -1,17 +1,22 @@
-//! Why a command line ends without its result.
-ghost use Rattle.std.specs.Prelude.{◌≡◌};
+//! Why a command line ends without its result, and the lines that the program writes by itself.
+ghost use Rattle.std.specs.Prelude.{◌≡◌, IfOk, string_bytes};
 ghost use Rattle.er_exit.specs.Faults.{demo_fault, rules_fault, trace_fault};
-ghost use Rattle.er_exit.specs.Lines.{text_of};
+ghost use Rattle.er_exit.specs.Lines.{text_of, damage_line, damage_lines, fault_line, lost_line};
 ghost use Rattle.er_exit.specs.declared.faults.Fault.TheVariants.{Memory};
 ghost use Rattle.er_exit.specs.Statuses.{fault_status};
+ghost use Rattle.er_device.specs.Device.{inner_of, has_failed};
+ghost use Rattle.er_exit.specs.Writes.{GetsLine, WritesBytes};
+ghost use Rattle.er_exit.specs.Notes.{HasAdded, line_if, notes_text, unordered_line};
 
 use er_clock::Limit;
 use er_damage::Damage;
+use er_device::Device;
 use er_event::Refusal;
 use er_load::LoadFault;
 use er_settle::Unsettled;
-use er_text::{ReadFault, TextFault};
-use std::alloc::AllocError;
+use er_text::{Lost, ReadFault, TextFault};
+use std::alloc::{AllocError, Global};
+use std::io::Write;
 
 /// Why a command line ended without its result.
 #[derive(Clone, Copy, Debug, PartialEq, Eq)]
@@ -122,4 +127,129 @@ impl From<AllocError> for Fault {
     fn from(_error: AllocError) -> Fault {
         Fault::Memory
     }
+}
+
+/// Writes the fault's line to the errors, and returns its status. Without memory for the line it writes `out of memory`.
+pub fn report_fault<E: Write>(alloc: Global, fault: Fault, errors: &mut Device<E>) -> u8
+    ensures status { result ≡ fault_status fault }
+    ensures line { GetsLine (E.contents (inner_of errors.old)) (E.contents (inner_of errors.new)) (fault_line fault) (has_failed errors.new) }
+{
+    match line_of(alloc, fault) {
+        Ok(line) => put(errors, line.as_bytes()),
+        Err(_) => put(errors, b"out of memory\n"),
+    }
+    fault.row().0
+}
+
+/// Writes these bytes to the errors, unless a write has failed. If this one fails they stay cut off: there is nowhere left to report that.
+pub fn put<E: Write>(errors: &mut Device<E>, bytes: &[u8])
+    ensures { WritesBytes (E.contents (inner_of errors.old)) (E.contents (inner_of errors.new)) bytes.now (has_failed errors.new) }
+{
+    if errors.failed() {
+        return;
+    }
+    let _ = errors.write_all(bytes);
+}
+
+/// What is noted of a trace, behind its report.
+#[derive(Clone, Copy, Debug, PartialEq, Eq)]
+pub struct TextNotes {
+    /// Whether it is noted that the trace, a text 3, has no line `end`.
+    pub no_end: bool,
+    /// Whether it is noted that the last line has no line feed.
+    pub no_line_feed: bool,
+    /// How many accesses are unordered, if it is noted that the trace records no order, and else 0.
+    pub unordered: u64,
+}
+
+/// Adds the lines of these notes. If there is no memory for them, the lines stay as they are.
+pub fn add_notes(alloc: Global, lines: &mut Vec<u8>, notes: TextNotes)
+    ensures { HasAdded lines.old.items lines.new.items notes }
+{
+    if let Ok(text) = notes_text(alloc, notes) {
+        let _ = lines.extend_from_slice(text.as_bytes());
+    }
+}
+
+type Line = Result<String, AllocError>;
+
+fn line_of(alloc: Global, fault: Fault) -> Line
+    ensures { IfOk result (λ line. string_bytes line ≡ fault_line fault) }
+{
+    let (_, text) = fault.row();
+    match fault {
+        Fault::Text(TextFault { line, .. }) => format!(in alloc; "line {line}: {text}\n"),
+        Fault::Suppressions(None, TextFault { line, .. }) => {
+            format!(in alloc; "suppressions line {line}: {text}\n")
+        }
+        Fault::Suppressions(Some(file), TextFault { line, .. }) => {
+            format!(in alloc; "suppressions file {file} line {line}: {text}\n")
+        }
+        Fault::Damaged(damage) => damage_lines(alloc, &damage),
+        Fault::NoStep(line) => format!(in alloc; "line {line}: {text}\n"),
+        Fault::OpenSuppressions(Some(file)) => format!(in alloc; "{text} file {file}\n"),
+        Fault::ReadSuppressions(file) => format!(in alloc; "{text} in suppressions file {file}\n"),
+        Fault::Refused(_) => format!(in alloc; "refused: {text}\n"),
+        Fault::Unsettled(_) => format!(in alloc; "unsettled: {text}\n"),
+        _ => format!(in alloc; "{text}\n"),
+    }
+}
+
+fn damage_lines(alloc: Global, damage: &Damage) -> Line
+    ensures { IfOk result (λ lines. string_bytes lines ≡ damage_lines damage.now) }
+{
+    let refused = damage_line(alloc, damage.refused, "refused step")?;
+    let held_twice = damage_line(alloc, damage.held_twice, "lock held twice")?;
+    let no_line_feed = damage_line(alloc, damage.no_line_feed, "no line feed")?;
+    let no_end = damage_line(alloc, damage.no_end, "no end")?;
+    let lost = lost_line(alloc, damage.lost)?;
+    format!(in alloc; "{refused}{held_twice}{no_line_feed}{no_end}{lost}")
+}
+
+fn lost_line(alloc: Global, lost: Option<Lost>) -> Line
+    ensures { IfOk result (λ written. string_bytes written ≡ lost_line lost) }
+{
+    match lost {
+        Some(Lost { line, events }) => { format!(in alloc; "line {line}: events lost: {events}\n") }
+        None => Ok(String::new(alloc)),
+    }
+}
+
+fn damage_line(alloc: Global, line: Option<u64>, text: &str) -> Line
+    ensures { IfOk result (λ written. string_bytes written ≡ damage_line line text.now) }
+{
+    match line {
+        Some(line) => format!(in alloc; "line {line}: {text}\n"),
+        None => Ok(String::new(alloc)),
+    }
+}
+
+const NO_END: &str = "note: the trace has no end: it may be cut off\n";
+
+const NO_LINE_FEED: &str = "note: the last line has no line feed: it may be cut off\n";
+
+fn notes_text(alloc: Global, notes: TextNotes) -> Line
+    ensures { IfOk result (λ text. string_bytes text ≡ notes_text notes) }
+{
+    let no_end = line_if(notes.no_end, NO_END);
+    let no_line_feed = line_if(notes.no_line_feed, NO_LINE_FEED);
+    let unordered = unordered_line(alloc, notes.unordered)?;
+    format!(in alloc; "{no_end}{no_line_feed}{unordered}")
+}
+
+fn unordered_line(alloc: Global, count: u64) -> Line
+    ensures { IfOk result (λ line. string_bytes line ≡ unordered_line count) }
+{
+    if count == 0 {
+        return Ok(String::new(alloc));
+    }
+    format!(in alloc;
+        "note: this trace records no order: record it with --order; {count} unordered accesses may be ordered\n"
+    )
+}
+
+fn line_if(is_noted: bool, line: &'static str) -> &'static str
+    ensures { result.now ≡ line_if is_noted line.now }
+{
+    if is_noted { line } else { "" }
 }

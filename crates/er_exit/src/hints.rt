@@ -1,7 +1,6 @@
 //! Where to look in a faulty line, and what to do about the fault.
-ghost use Rattle.std.specs.Prelude.{◌≤◌, length};
+ghost use Rattle.std.specs.Prelude.{◌≤◌, length, IfSome};
 
-use crate::places::{extra_at, find, name_at, word_start};
 use er_text::TextKind;
 
 // How a file begins that is no text, and what helps.
@@ -48,6 +47,8 @@ pub(crate) fn row_of(kind: TextKind, of_rules: bool, line: &[u8]) -> (usize, &'s
         TextKind::BadName => (name_at(line), "a name has 1 to 128 letters, digits and _ . : / - and no lock is named none"),
         TextKind::MissingOperand => (line.len(), "the line ends early; was the file cut off?"),
         TextKind::BadVerb if of_rules => (verb, "a rule is: site SITE, or: words ADDRESS BYTES"),
+        TextKind::BadVerb if begins(line, &[b"damaged at byte ", b"cut off at byte "]) =>
+            (0, "the option --until-fault reports what the binary trace has before this byte"),
         TextKind::BadVerb if begins(step, &[b"level"]) => (verb, "the verb level needs the header eraser trace 2"),
         TextKind::BadVerb if begins(step, &[b"start", b"join", b"signal", b"await"]) =>
             (verb, "the verbs start, join, signal and await need the header eraser trace 3"),
@@ -68,4 +69,77 @@ pub(crate) fn row_of(kind: TextKind, of_rules: bool, line: &[u8]) -> (usize, &'s
 
 fn begins(bytes: &[u8], fronts: &[&[u8]]) -> bool {
     fronts.iter().any(|front| bytes.starts_with(front))
+}
+
+/// Where a word is too long, or else has a byte that stands in no site, or else one that stands in no name, or 0.
+pub(crate) fn name_at(line: &[u8]) -> usize
+    ensures { result ≤ length line.now }
+{
+    let place = long_word(line)
+        .or(find(line, is_hidden))
+        .or(find(line, is_foreign));
+    place.unwrap_or(0)
+}
+
+// Where the first word of more than 128 bytes begins.
+fn long_word(line: &[u8]) -> Option<usize>
+    ensures { IfSome result (λ start. start ≤ length line.now) }
+{
+    let mut start = 0;
+    for at in 0..line.len() {
+        if is_gap(line[at]) {
+            start = at + 1;
+        } else if at - start >= 128 {
+            return Some(start);
+        }
+    }
+    None
+}
+
+// Whether the byte isn't printable, and parts no words.
+fn is_hidden(byte: u8) -> bool {
+    byte != b'\t' && (byte < b' ' || byte > b'~')
+}
+
+// Whether the byte stands in no name, and parts no words.
+fn is_foreign(byte: u8) -> bool {
+    !(byte.is_ascii_alphanumeric() || b"_.:/- \t".contains(&byte))
+}
+
+fn is_gap(byte: u8) -> bool {
+    byte == b' ' || byte == b'\t'
+}
+
+/// Where the first byte stands that passes the test.
+pub(crate) fn find<F: Fn(u8) -> bool>(line: &[u8], test: F) -> Option<usize>
+    requires { F.IsAlwaysCallable test }
+    ensures { IfSome result (λ place. place ≤ length line.now) }
+{
+    line.iter().position(|byte| test(*byte))
+}
+
+/// Where a comment begins behind a step, or else the last word.
+pub(crate) fn extra_at(line: &[u8]) -> usize
+    ensures { result ≤ length line.now }
+{
+    if let Some(place) = find(line, |byte| byte == b'#') {
+        return place;
+    }
+    match line.iter().rposition(|byte| is_gap(*byte)) {
+        Some(gap) => gap + 1,
+        None => 0,
+    }
+}
+
+/// Where the word with so many words before it begins, or the line's end if there are fewer.
+pub(crate) fn word_start(line: &[u8], words: usize) -> usize
+    ensures { result ≤ length line.now }
+{
+    let start = find(line, |byte| !is_gap(byte)).unwrap_or(line.len());
+    if words == 0 {
+        return start;
+    }
+    let rest = &line[start..];
+    let end = start + find(rest, is_gap).unwrap_or(rest.len());
+    end + word_start(&line[end..], words - 1)
 }

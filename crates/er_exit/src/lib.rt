@@ -6,21 +6,12 @@
 //! line. This crate needs none of the crates that replay a trace, so that it is proved beside them.
 #![tactic(auto)]
 
+pub use advice::{Trouble, advise, is_ordinary, open_ordinary, size_of};
+pub use demos::run_demo;
+pub use faults::{Fault, TextNotes, add_notes, put, report_fault};
+
 mod advice;
 mod demos;
-mod excerpts;
 mod faults;
-mod files;
 mod hints;
-mod lines;
-mod notes;
-mod places;
 mod plain;
-mod quotes;
-
-pub use advice::{Trouble, advise};
-pub use demos::run_demo;
-pub use faults::Fault;
-pub use files::{is_ordinary, open_ordinary, size_of};
-pub use lines::{put, report_fault};
-pub use notes::{TextNotes, add_notes};

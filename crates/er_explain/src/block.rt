@@ -1,21 +1,22 @@
 //! `Block`, the books of words that lie side by side.
-ghost use Rattle.std.specs.Prelude.{◌≡◌, ◌<◌, ◌≤◌, ◌+◌, ◌&&◌, ℕ, nat_eq, nat_le, cond, [], length, slice_set, slice_index_or, option_copied, OnOk};
+ghost use Rattle.std.specs.Prelude.{◌≡◌, ◌<◌, ◌≤◌, ◌+◌, ◌&&◌, ℕ, nat_eq, nat_le, cond, [], length, slice_set, slice_index_or, option_copied, OnOk, ◌==◌};
 ghost use Rattle.er_explain.specs.Book.{Untouched};
 ghost use Rattle.er_explain.specs.Books.{book_accessed};
 ghost use Rattle.er_explain.specs.Inner.Places.{book_of, number_at, place_at, AreApart};
 ghost use Rattle.er_explain.specs.WordBooks.{book_at_place, joining_in};
 ghost use Rattle.er_held.specs.ThreadLocks.{held_by};
 ghost use Rattle.er_model.specs.Following.{locks_for};
+ghost use Rattle.std.specs.List.{position_or_len};
+ghost use Rattle.std.specs.Simd.Lanes.{chunk};
 
+use crate::Made;
 use crate::book::{Access, Book, Joint};
-use crate::places::number_at;
 use er_held::ThreadLocks;
 use std::alloc::{AllocError, Global};
 use std::marker::Model;
+use std::simd::prelude::*;
 
-/// The books of words that lie side by side.
-///
-/// Only a word that was accessed since its last reuse has a book. So a block takes little memory if few of its words are used.
+/// The books of words that lie side by side. Only a word that was accessed since its last reuse has a book. So a block takes little memory if few of its words are used.
 #[derive(Drop)]
 pub(crate) struct Block<A> {
     // In no order.
@@ -43,7 +44,6 @@ impl<A> Model for Block<A> {
 }
 
 impl<A: Copy> Block<A> {
-    /// No word was accessed yet.
     pub(crate) fn new(alloc: Global) -> Block<A>
         ensures { (i : ℕ) → book_at_place result i ≡ Untouched }
     {
@@ -62,7 +62,7 @@ impl<A: Copy> Block<A> {
         locks: &ThreadLocks,
         place: usize,
         access: Access<A>,
-    ) -> Result<(), AllocError>
+    ) -> Made<()>
         requires { place < 128 }
         ensures { OnOk result ((i : ℕ) → book_at_place self.new i ≡ cond (nat_eq place i) (book_accessed (book_at_place self.old place) access access.thread access.kind (locks_for (held_by locks.now access.thread) access.kind)) (book_at_place self.old i)) }
     {
@@ -88,7 +88,6 @@ impl<A: Copy> Block<A> {
         remove_between(&mut self.books, &mut self.places, spare, lo, hi);
     }
 
-    /// The joining of the word at a place, if a second thread has joined.
     pub(crate) fn joining(&self, place: usize) -> Option<&Joint<Access<A>>>
         requires { place < 128 }
         ensures { option_copied result ≡ joining_in (book_at_place self.now place) }
@@ -98,7 +97,6 @@ impl<A: Copy> Block<A> {
     }
 }
 
-// The joining that a book says.
 fn joining_at<A>(books: &[Book<A>], number: usize) -> Option<&Joint<Access<A>>>
     ensures { option_copied result ≡ joining_in (book_at_place books.now number) }
 {
@@ -108,7 +106,6 @@ fn joining_at<A>(books: &[Book<A>], number: usize) -> Option<&Joint<Access<A>>>
     }
 }
 
-// Puts a place at a number.
 fn put(places: &mut [u8; 128], number: usize, place: u8)
     requires { number < 128 }
     ensures { places.new ≡ slice_set places.old number place }
@@ -160,3 +157,40 @@ fn remove<A: Copy>(
 }
 
 const _: () = prove!(size_of::<Block<u64>>() == 192);
+
+/// How many places are looked at in one turn.
+const LANES: usize = 16;
+
+/// The number at which a place stands first, if that is one of the first `count`, and else one that isn't.
+#[inline]
+pub(crate) fn number_at(places: &[u8; 128], count: usize, place: u8) -> usize
+    requires { count ≤ 128 }
+    ensures found { result < count → result ≡ number_at places.now place }
+    ensures none { count ≤ result → count ≤ number_at places.now place }
+{
+    let mut start = 0;
+    while start < count {
+        let ahead = places_ahead(places, start, place);
+        if ahead < LANES {
+            return start + ahead;
+        }
+        start += LANES;
+    }
+    start
+}
+
+// Of the places from `start` on, how many of the next stand before this one, or 16.
+#[inline(always)]
+fn places_ahead(places: &[u8], start: usize, place: u8) -> usize
+    requires { start + 16 ≤ length places.now }
+    ensures { result ≡ position_or_len (λ p. p == place) (chunk start 16 places.now) }
+{
+    let hits = u8x16::from_slice(&places[start..])
+        .simd_eq(u8x16::splat(place))
+        .to_bitmask();
+    if hits == 0 {
+        LANES
+    } else {
+        hits.trailing_zeros() as usize
+    }
+}

@@ -6,9 +6,10 @@ ghost use Rattle.er_explain.specs.WordBooks.{joining_in};
 ghost use Rattle.er_held.specs.ThreadLocks.{held_by};
 ghost use Rattle.er_model.specs.Following.{locks_for};
 
+use crate::Made;
 use er_event::{Kind, LockId, ThreadId};
 use er_held::ThreadLocks;
-use std::alloc::{AllocError, Global};
+use std::alloc::Global;
 use std::marker::Model;
 use std::mem;
 
@@ -42,7 +43,6 @@ struct Parts<A> {
 }
 
 /// A word that a second thread has joined: its first access, the joining, the first write since, and the locks of the joining.
-///
 /// It stands apart from its book. So a book of a word that one thread alone has accessed, as most are, is small.
 #[derive(Drop)]
 pub struct Joint<A> {
@@ -122,7 +122,7 @@ impl<A: Copy> Joint<Access<A>> {
         locks: &ThreadLocks,
         first: Access<A>,
         join: Access<A>,
-    ) -> Result<Joint<Access<A>>, AllocError>
+    ) -> Made<Joint<Access<A>>>
         ensures { IfOk result (λ joint. joint ≡ begun first join join.kind (locks_for (held_by locks.now join.thread) join.kind)) }
     {
         let cover = locks.cover_of(alloc, join.thread, join.kind)?;
@@ -143,27 +143,23 @@ impl<A: Copy> Joint<Access<A>> {
         };
         joint.parts.first = first;
         joint.parts.join = join;
-        joint.parts.write = match join.kind {
-            Kind::Read => None,
-            Kind::Write => Some(join),
-        };
+        joint.parts.write = matches!(join.kind, Kind::Write).then_some(join);
         put_locks(&mut joint.parts.pairs, cover.as_slice())?;
         Ok(joint)
     }
 
-    // A later access.
     fn go_on(&mut self, locks: &ThreadLocks, access: Access<A>)
         ensures { self.new ≡ gone_on self.old access access.kind (locks_for (held_by locks.now access.thread) access.kind) }
     {
         if let (None, Kind::Write) = (self.parts.write, access.kind) {
             self.parts.write = Some(access);
         }
-        look_for_uncovered(&mut self.parts.pairs, locks, access);
+        find_uncovered(&mut self.parts.pairs, locks, access);
     }
 }
 
 // Puts a pair for each lock in place of all that are there.
-fn put_locks<A: Copy>(pairs: &mut Vec<Pair<A>>, locks: &[LockId]) -> Result<(), AllocError>
+fn put_locks<A: Copy>(pairs: &mut Vec<Pair<A>>, locks: &[LockId]) -> Made<()>
     ensures { OnOk result (pairs.new.items ≡ map (λ l. record { lock = l; at = None }) locks.now) }
 {
     pairs.clear();
@@ -173,12 +169,7 @@ fn put_locks<A: Copy>(pairs: &mut Vec<Pair<A>>, locks: &[LockId]) -> Result<(), 
     Ok(())
 }
 
-// The pairs after a later access.
-fn look_for_uncovered<A: Copy>(
-    pairs: &mut [Pair<Access<A>>],
-    locks: &ThreadLocks,
-    access: Access<A>,
-)
+fn find_uncovered<A: Copy>(pairs: &mut [Pair<Access<A>>], locks: &ThreadLocks, access: Access<A>)
     ensures { pairs.new ≡ map (pair_after access (locks_for (held_by locks.now access.thread) access.kind)) pairs.old }
 {
     for i in 0..pairs.len() {
@@ -186,7 +177,6 @@ fn look_for_uncovered<A: Copy>(
     }
 }
 
-// The pair after a later access. What was found stays.
 fn pair_after<A: Copy>(
     pair: Pair<Access<A>>,
     locks: &ThreadLocks,
@@ -198,10 +188,8 @@ fn pair_after<A: Copy>(
     if found.is_some() || locks.covers(access.thread, access.kind, lock) {
         return pair;
     }
-    Pair {
-        lock,
-        at: Some(access),
-    }
+    let at = Some(access);
+    Pair { lock, at }
 }
 
 impl<A: Copy> Book<A> {
@@ -221,7 +209,7 @@ impl<A: Copy> Book<A> {
         spare: &mut Vec<Joint<Access<A>>>,
         locks: &ThreadLocks,
         access: Access<A>,
-    ) -> Result<(), AllocError>
+    ) -> Made<()>
         ensures { OnOk result (self.new ≡ book_accessed self.old access access.thread access.kind (locks_for (held_by locks.now access.thread) access.kind)) }
     {
         match &mut self.packed {

@@ -10,7 +10,7 @@ ghost use Rattle.er_model.specs.Answers.{answer, reading_of};
 ghost use Rattle.er_model.specs.Explanations.{Explanation as Explained, Explains, latest, locks_listed, word_of};
 
 use crate::book::{Access, Joint};
-use crate::{Explanation, Uncovered, WordBooks};
+use crate::{Explanation, Made, Uncovered, WordBooks};
 use er_event::{Event, Reply, Step, Word};
 use er_held::ThreadLocks;
 use er_keys::HashKeys;
@@ -33,7 +33,6 @@ pub fn explain(alloc: Global, steps: &[Step], k: u64) -> Result<Option<Explanati
     Ok(ending_at(found, k))
 }
 
-// The word that the step at a place accesses, if it is an access.
 fn word_at(steps: &[Step], place: u64) -> Option<Word>
     ensures word { result ≡ word_of (slice_get steps.now place) }
     ensures within { IsSome result → place < length steps.now }
@@ -55,11 +54,7 @@ fn ending_at(found: Option<Explanation>, place: u64) -> Option<Explanation>
 }
 
 // What explains a race of a word, if its book has found all that it takes.
-fn told_of(
-    alloc: Global,
-    books: &WordBooks<u64>,
-    word: Word,
-) -> Result<Option<Explanation>, AllocError>
+fn told_of(alloc: Global, books: &WordBooks<u64>, word: Word) -> Made<Option<Explanation>>
     ensures { IfOk result (λ found. (e : Explained) → (found ≡ Some e) ↔ (named_book name_of (book_in books.now word) ≡ Joined (joining_of e))) }
 {
     match books.joining(word) {
@@ -69,7 +64,7 @@ fn told_of(
 }
 
 // What a joining says of a race, if it has found all that an explanation needs.
-fn told_by(alloc: Global, joint: &Joint<Access<u64>>) -> Result<Option<Explanation>, AllocError>
+fn told_by(alloc: Global, joint: &Joint<Access<u64>>) -> Made<Option<Explanation>>
     ensures { IfOk result (λ found. (e : Explained) → (found ≡ Some e) ↔ (named_joining name_of joint.now ≡ joining_of e)) }
 {
     let Some(write) = joint.write() else {
@@ -94,7 +89,7 @@ fn told_by(alloc: Global, joint: &Joint<Access<u64>>) -> Result<Option<Explanati
 }
 
 // The books of all words after the first `end` steps.
-fn books_of(alloc: Global, steps: &[Step], end: usize) -> Result<WordBooks<u64>, AllocError>
+fn books_of(alloc: Global, steps: &[Step], end: usize) -> Made<WordBooks<u64>>
     requires { end ≤ length steps.now }
     ensures { IfOk result (λ books. (w : ℕ) → named_book name_of (book_in books w) ≡ book_at (reading_of steps.now) w end) }
 {

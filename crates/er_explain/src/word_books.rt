@@ -7,6 +7,7 @@ ghost use Rattle.er_held.specs.ThreadLocks.{held_by};
 ghost use Rattle.er_model.specs.Following.{locks_for, marked};
 ghost use Rattle.er_model.specs.Words.{is_within, Reused};
 
+use crate::Made;
 use crate::block::Block;
 use crate::book::{Access, Joint};
 use er_event::{Event, PageRange, Step, Word};
@@ -16,10 +17,7 @@ use indexmap::IndexMap;
 use std::alloc::{AllocError, Global};
 use std::marker::Model;
 
-/// A book for each word, as steps go by. An access is named as the caller likes, by its place in a list or by its line, and by its thread and its
-/// kind. Contracts see the books by `book_in`.
-///
-/// The books of 128 words that lie side by side are kept in one block, which is made at the first access of one of them. A step takes one look
+/// A book for each word, as steps go by. Contracts see the books by `book_in`. The books of 128 words that lie side by side are kept in one block, which is made at the first access of one of them. A step takes one look
 /// at them, and a reuse one look for each block of its range.
 #[derive(Drop)]
 pub struct WordBooks<A> {
@@ -61,11 +59,8 @@ impl<A: Copy> WordBooks<A> {
         match step.event {
             Event::Access(kind, word, _) => {
                 if !locks.is_ignoring(step.thread) {
-                    let access = Access {
-                        at,
-                        thread: step.thread,
-                        kind,
-                    };
+                    let thread = step.thread;
+                    let access = Access { at, thread, kind };
                     self.access(locks, word, access)?;
                 }
             }
@@ -75,13 +70,7 @@ impl<A: Copy> WordBooks<A> {
         Ok(())
     }
 
-    // A counted access of a word.
-    fn access(
-        &mut self,
-        locks: &ThreadLocks,
-        word: Word,
-        access: Access<A>,
-    ) -> Result<(), AllocError>
+    fn access(&mut self, locks: &ThreadLocks, word: Word, access: Access<A>) -> Made<()>
         ensures { OnOk result ((w : ℕ) → book_in self.new w ≡ cond (word == w) (book_accessed (book_in self.old word) access access.thread access.kind (locks_for (held_by locks.now access.thread) access.kind)) (book_in self.old w)) }
     {
         let number = word.block();
@@ -103,7 +92,6 @@ impl<A: Copy> WordBooks<A> {
         }
     }
 
-    // Empties the books of a range.
     fn reuse(&mut self, range: PageRange)
         ensures { (w : ℕ) → book_in self.new w ≡ cond (is_within w range) Untouched (book_in self.old w) }
     {
@@ -115,7 +103,6 @@ impl<A: Copy> WordBooks<A> {
         }
     }
 
-    // Empties books of a block, both ends included.
     fn empty(&mut self, number: u64, from: usize, to: usize)
         requires { to < 128 }
         ensures { (w : ℕ) → book_in self.new w ≡ cond (is_place_in number from to w) Untouched (book_in self.old w) }

@@ -9,7 +9,7 @@ use Rattle.er_report.specs.declared.reports.Form.{Form}
 use Rattle.er_report.specs.declared.reports.Form.TheVariants.{Text, BySite, Json, Sarif, Html}
 use Rattle.er_report.specs.declared.reports.Reports.{Reports}
 use Rattle.er_rules.specs.Rules.{Target}
-use Rattle.er_sarif.specs.Document.{sarif_reports}
+use Rattle.er_json.specs.Sarif.{sarif_reports}
 use Rattle.er_sites.specs.Sites.{AreSitesOf}
 use Rattle.er_trace.specs.Names.{NameTable}
 

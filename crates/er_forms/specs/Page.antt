@@ -8,7 +8,8 @@ use Rattle.er_forms.specs.declared.style.TheConstants.{STYLE}
 use Rattle.er_json.specs.Document.{json_reports}
 use Rattle.er_places.specs.Places.{PlaceTable}
 use Rattle.er_print.specs.Styles.{escaped, string_text}
-use Rattle.er_print.specs.Values.{values_text}
+pub use Rattle.er_print.specs.Values.{values_text}
+pub use Rattle.er_report.specs.Reports.{HaveNames}
 use Rattle.er_report.specs.declared.reports.Reports.{Reports}
 use Rattle.er_trace.specs.Names.{NameTable}
 

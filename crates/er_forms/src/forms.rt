@@ -6,15 +6,14 @@ ghost use Rattle.er_rules.specs.Rules.{targets_of};
 
 use crate::excerpts::Excerpt;
 use crate::page::html_text;
-use er_json::json_text;
-use er_places::Places;
-use er_print::reports_text;
+use er_json::{json_text, sarif_text};
+use er_places::{Legend, Places};
+use er_print::{Built, reports_text};
 use er_report::{Form, Reports};
 use er_rules::Suppressions;
-use er_sarif::sarif_text;
 use er_sites::sites_text;
 use er_trace::Names;
-use std::alloc::{AllocError, Global};
+use std::alloc::Global;
 
 /// The reports of a trace in a form, with the names of its numbers. The places of accesses that reasons name are for all forms but the
 /// text, the rules of suppressions for SARIF, and the excerpts of source files for the page.
@@ -26,15 +25,16 @@ pub fn render(
     places: &Places,
     suppressions: &Suppressions,
     excerpts: &[Excerpt],
-) -> Result<Vec<u8>, AllocError>
+) -> Built
     requires { HaveNames names.now reports.now }
     ensures { IfOk result (λ text. IsForm form names.now places.now (targets_of suppressions.now) excerpts.now reports.now text.items) }
 {
+    let legend = &Legend { names, places };
     match form {
         Form::Text => reports_text(alloc, reports, names),
-        Form::BySite => sites_text(alloc, reports, names, places),
-        Form::Json => json_text(alloc, reports, names, places),
-        Form::Sarif => sarif_text(alloc, reports, names, suppressions, places),
-        Form::Html => html_text(alloc, reports, names, places, excerpts),
+        Form::BySite => sites_text(alloc, reports, legend),
+        Form::Json => json_text(alloc, reports, legend),
+        Form::Sarif => sarif_text(alloc, reports, legend, suppressions),
+        Form::Html => html_text(alloc, reports, legend, excerpts),
     }
 }

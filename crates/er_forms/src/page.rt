@@ -1,9 +1,7 @@
 //! The page: the reports and the excerpts as blocks of data, and excerpts as JSON.
 ghost use Rattle.std.specs.Prelude.{◌≡◌, ◌++◌, flat_map, IfOk, OnOk};
-ghost use Rattle.er_forms.specs.Page.{IsInert, block_text, excerpt_text, excerpts_text, html_reports, inert, source_byte};
+ghost use Rattle.er_forms.specs.Page.{HaveNames, IsInert, block_text, excerpt_text, excerpts_text, html_reports, inert, source_byte, values_text};
 ghost use Rattle.er_json.specs.Document.{json_reports};
-ghost use Rattle.er_print.specs.Values.{values_text};
-ghost use Rattle.er_report.specs.Reports.{HaveNames};
 
 use crate::excerpts::Excerpt;
 use crate::picture::PICTURE;
@@ -11,29 +9,20 @@ use crate::script::SCRIPT;
 use crate::shell::{BEFORE_SCRIPT, BETWEEN, BODY, CLOSING, OPENING};
 use crate::style::STYLE;
 use er_json::json_text;
-use er_places::Places;
-use er_print::{comma_before, put_escaped, put_number, put_string};
+use er_places::Legend;
+use er_print::{Built, Put, comma_before, put_escaped, put_number, put_string};
 use er_report::Reports;
-use er_trace::Names;
-use std::alloc::{AllocError, Global};
-
-type Put = Result<(), AllocError>;
+use std::alloc::Global;
 
 /// The reports as a page, with these names for their numbers and these excerpts of source files. Each reason of a race says where its access
 /// was and what its thread held, as far as the places are known.
 #[tactic(auto, using(crate::proofs::InertLemmas::inert_block), unfolding(crate::specs::Page::html_reports))]
-pub fn html_text(
-    alloc: Global,
-    reports: &Reports,
-    names: &Names,
-    places: &Places,
-    excerpts: &[Excerpt],
-) -> Result<Vec<u8>, AllocError>
-    requires { HaveNames names.now reports.now }
-    ensures text { IfOk result (λ text. text.items ≡ html_reports names.now places.now reports.now excerpts.now) }
-    ensures inert { IsInert (block_text (json_reports names.now places.now reports.now)) × IsInert (block_text (excerpts_text excerpts.now)) }
+pub fn html_text(alloc: Global, reports: &Reports, legend: &Legend, excerpts: &[Excerpt]) -> Built
+    requires { HaveNames legend.now.names.now reports.now }
+    ensures text { IfOk result (λ text. text.items ≡ html_reports legend.now.names.now legend.now.places.now reports.now excerpts.now) }
+    ensures inert { IsInert (block_text (json_reports legend.now.names.now legend.now.places.now reports.now)) × IsInert (block_text (excerpts_text excerpts.now)) }
 {
-    let json = json_text(alloc, reports, names, places)?;
+    let json = json_text(alloc, reports, legend)?;
     let sources = excerpts_text(alloc, excerpts)?;
     let mut text = Vec::new(alloc);
     text.extend_from_slice(OPENING)?;
@@ -49,7 +38,6 @@ pub fn html_text(
     Ok(text)
 }
 
-// Puts JSON as a block of the page.
 #[tactic(auto, unfolding(crate::specs::Page::block_text))]
 fn put_block(out: &mut Vec<u8>, json: &[u8]) -> Put
     ensures { OnOk result (out.new.items ≡ out.old.items ++ block_text json.now) }
@@ -69,9 +57,8 @@ fn put_inert(out: &mut Vec<u8>, byte: u8) -> Put
     }
 }
 
-// Excerpts as an array of objects.
 #[tactic(auto, unfolding(crate::specs::Page::excerpts_text))]
-fn excerpts_text(alloc: Global, excerpts: &[Excerpt]) -> Result<Vec<u8>, AllocError>
+fn excerpts_text(alloc: Global, excerpts: &[Excerpt]) -> Built
     ensures { IfOk result (λ json. json.items ≡ excerpts_text excerpts.now) }
 {
     let mut json = Vec::new(alloc);
@@ -104,7 +91,6 @@ fn put_excerpt(out: &mut Vec<u8>, excerpt: &Excerpt) -> Put
     out.extend_from_slice(b"\"}")
 }
 
-// Puts the bytes of a source file's lines as those of a string.
 fn put_source(out: &mut Vec<u8>, text: &[u8]) -> Put
     ensures { OnOk result (out.new.items ≡ out.old.items ++ flat_map source_byte text.now) }
 {

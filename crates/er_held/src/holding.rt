@@ -8,8 +8,7 @@ use er_event::{Event, Level, LockId, Lockset, Mode, Refusal};
 use std::alloc::{AllocError, Global};
 use std::marker::Model;
 
-/// The locks that one thread holds, each in a mode (section 2 of the 1997 paper), its interrupt level (section 3.4 of it), and
-/// how many ignore brackets it has open (section 3 of it; that they nest is own).
+/// The locks that one thread holds, each in a mode, its interrupt level, and how many ignore brackets it has open, which may nest.
 #[derive(Drop)]
 pub struct Held {
     any_mode: Lockset,
@@ -48,7 +47,7 @@ impl Held {
         }
     }
 
-    /// The locks that are held in any mode, which protect a read (section 2 of the 1997 paper).
+    /// The locks that are held in any mode, which protect a read.
     pub fn held(&self) -> &Lockset
         ensures locks { result.now ≡ self.now.held }
         ensures limit { length self.now.held ≤ 95 }
@@ -57,7 +56,7 @@ impl Held {
         &self.any_mode
     }
 
-    /// The locks that are held in write mode, which protect a write (section 2 of the 1997 paper).
+    /// The locks that are held in write mode, which protect a write.
     pub fn write_held(&self) -> &Lockset
         ensures { result.now ≡ self.now.write_held }
     {
@@ -79,14 +78,14 @@ impl Held {
         self.depth
     }
 
-    /// Whether an ignore bracket is open (section 3 of the 1997 paper).
+    /// Whether an ignore bracket is open.
     pub fn ignoring(&self) -> bool
         ensures { IsTrue result ↔ (0 < self.now.depth) }
     {
         self.depth > 0
     }
 
-    /// Takes a lock that is held in neither mode (section 2 of the 1997 paper).
+    /// Takes a lock that is held in neither mode.
     pub fn acquire(&mut self, lock: LockId, mode: Mode) -> Result<(), Refusal>
         ensures refused { (why : Refusal) → refused_by self.old (Event.Acquire lock mode) ≡ Some why → result ≡ Err why }
         ensures accepted { OnOk result (refused_by self.old (Event.Acquire lock mode) ≡ None) }
@@ -154,7 +153,7 @@ impl Held {
         }
     }
 
-    /// Gives up a lock that is held in this mode (section 2 of the 1997 paper). It takes no memory.
+    /// Gives up a lock that is held in this mode. It takes no memory.
     pub fn release(&mut self, lock: LockId, mode: Mode) -> Result<(), Refusal>
         ensures refused { (why : Refusal) → refused_by self.old (Event.Release lock mode) ≡ Some why → result ≡ Err why }
         ensures accepted { OnOk result (refused_by self.old (Event.Release lock mode) ≡ None) }
@@ -205,7 +204,7 @@ impl Held {
         self.write_mode.remove(lock);
     }
 
-    /// Opens an ignore bracket (section 3 of the 1997 paper). It takes no memory.
+    /// Opens an ignore bracket. It takes no memory.
     pub fn ignore_on(&mut self) -> Result<(), Refusal>
         ensures refused { (why : Refusal) → refused_by self.old Event.IgnoreOn ≡ Some why → result ≡ Err why }
         ensures accepted { OnOk result (refused_by self.old Event.IgnoreOn ≡ None) }
@@ -220,7 +219,7 @@ impl Held {
         Ok(())
     }
 
-    /// Closes the innermost ignore bracket (section 3 of the 1997 paper). It takes no memory.
+    /// Closes the innermost ignore bracket. It takes no memory.
     pub fn ignore_off(&mut self) -> Result<(), Refusal>
         ensures refused { (why : Refusal) → refused_by self.old Event.IgnoreOff ≡ Some why → result ≡ Err why }
         ensures accepted { OnOk result (refused_by self.old Event.IgnoreOff ≡ None) }
@@ -235,8 +234,8 @@ impl Held {
         Ok(())
     }
 
-    /// Goes to an interrupt level, whose locks and those of the levels below it are then held in write mode (section 3.4 of the
-    /// 1997 paper). A level that is no higher takes no memory.
+    /// Goes to an interrupt level, whose locks and those of the levels below it are then held in write mode. A level that is no
+    /// higher takes no memory.
     pub fn set_level(&mut self, level: Level) -> Result<(), Refusal>
         ensures ok { OnOk result (self.new ≡ changed_by self.old (Event.Level level)) }
         ensures err { OnErr result (self.new ≡ self.old) }
@@ -265,6 +264,7 @@ impl Held {
     }
 
     /// Makes the change of one event, or refuses it. An access, a reuse, a show and an order event change nothing and are never refused.
+    #[inline]
     pub fn change(&mut self, event: Event) -> Result<(), Refusal>
         ensures refused { (why : Refusal) → refused_by self.old event ≡ Some why → result ≡ Err why }
         ensures accepted { OnOk result (refused_by self.old event ≡ None) }

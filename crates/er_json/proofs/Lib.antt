@@ -1,2 +1,4 @@
 pub mod PutLemmas
 pub mod RowLemmas
+pub mod ResultLemmas
+pub mod SuppressedLemmas

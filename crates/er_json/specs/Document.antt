@@ -5,20 +5,24 @@ use Rattle.er_event.specs.Refusal.{text_of, refusal_of}
 use Rattle.er_event.specs.declared.refusals.NoRoom.{NoRoom}
 use Rattle.er_event.specs.declared.refusals.Refusal.{Refusal}
 use Rattle.er_event.specs.declared.steps.Event.{Event}
-use Rattle.er_event.specs.declared.steps.Event.TheVariants.{Acquire, Release, Access, Reuse, IgnoreOn, IgnoreOff, Show, Level, Sync}
-use Rattle.er_event.specs.declared.steps.Mode.TheVariants as mode
+use Rattle.er_event.specs.declared.steps.Event.TheVariants.{Acquire, Release}
 use Rattle.er_event.specs.declared.steps.Step.{Step}
 use Rattle.er_event.specs.declared.steps.WordState.{WordState}
 use Rattle.er_event.specs.declared.steps.WordState.TheVariants.{Virgin, Exclusive, Shared, SharedModified}
 use Rattle.er_places.specs.Places.{PlaceTable}
-use Rattle.er_places.specs.Reasons.{reason_place}
-use Rattle.er_places.specs.declared.place.Place.{Place}
-use Rattle.er_print.specs.Printed.{address_text, bytes_between, kind_text, lost_text, order_text}
+pub use Rattle.er_places.specs.Places.{HasPlaceNames}
+pub use Rattle.er_places.specs.Reasons.{reason_place}
+use Rattle.er_places.specs.declared.places.Place.{Place}
+use Rattle.er_print.specs.Printed.{address_text, bytes_between, event_verb, kind_text, lost_text}
 use Rattle.er_print.specs.Styles.{lock_in, locks_in, named_site, site_in, thread_in}
-use Rattle.er_print.specs.Values.{values_text}
+pub use Rattle.er_print.specs.Values.{values_text}
 use Rattle.er_print.specs.declared.styles.Style.TheVariants as style
 use Rattle.er_report.specs.Lines.{LineView, RaceView, RacedView, RefusedView, ShownView}
-use Rattle.er_report.specs.Report.{Summary, told}
+use Rattle.er_report.specs.Report.{Summary}
+pub use Rattle.er_report.specs.Lines.{line_view}
+pub use Rattle.er_report.specs.Names.{HasEventNames, HasLabelName, HasLockNames, HasNames, HasRaceNames, HasReasonNames, HasStateNames}
+pub use Rattle.er_report.specs.Report.{told}
+pub use Rattle.er_report.specs.Reports.{HaveNames}
 use Rattle.er_report.specs.declared.report.Because.{Because}
 use Rattle.er_report.specs.declared.report.Deed.{Deed}
 use Rattle.er_report.specs.declared.report.Deed.TheVariants as deed
@@ -76,20 +80,6 @@ race_front names race (deed.Reuse range) =
 -- why it is a race
 abbrev pub reasons_end : NameTable → PlaceTable → List Because → List ℕ
 reasons_end names table explained = values_text (reason_text names table) explained ++ codes "]}"
-
--- what a thread asked for
-abbrev pub event_verb : Event → List ℕ
-event_verb (Acquire lock mode.Write) = codes "lock"
-event_verb (Acquire lock mode.Read) = codes "rlock"
-event_verb (Release lock mode.Write) = codes "unlock"
-event_verb (Release lock mode.Read) = codes "runlock"
-event_verb IgnoreOn = codes "ignore-on"
-event_verb IgnoreOff = codes "ignore-off"
-event_verb (Access kind word site) = kind_text kind
-event_verb (Reuse range) = codes "reuse"
-event_verb (Show word) = codes "show"
-event_verb (Level level) = codes "level"
-event_verb (Sync sync) = order_text sync
 
 -- the lock of a lock event; any other has none
 abbrev pub event_lock : NameTable → Event → List ℕ

@@ -1,17 +1,13 @@
 //! The whole text: a document for each report.
 ghost use Rattle.std.specs.Prelude.{◌≡◌, ◌++◌, ◌&&◌, All, false, flat_map, map, IfOk, IfSome, OnOk};
-ghost use Rattle.er_json.specs.Document.{counts_member, document_if, document_text, json_reports, lists_text, rows_text, sign_if, stop_member, totals_member};
+ghost use Rattle.er_json.specs.Document.{HasNames, HaveNames, counts_member, document_if, document_text, json_reports, line_view, lists_text, rows_text, sign_if, stop_member, told, totals_member};
 ghost use Rattle.er_json.specs.Inner.Sections.{has_none, is_in, next_text, rows_in, separator_text};
-ghost use Rattle.er_report.specs.Lines.{line_view};
-ghost use Rattle.er_report.specs.Names.{HasNames};
-ghost use Rattle.er_report.specs.Report.{told};
-ghost use Rattle.er_report.specs.Reports.{HaveNames};
 
 use crate::rows::put_row;
 use er_event::NoRoom;
-use er_places::Places;
+use er_places::Legend;
 use er_print::Piece::{Number, Text};
-use er_print::{Put, Style, comma_before, put_all, put_lost, put_number};
+use er_print::{Built, Put, Style, comma_before, put, put_lost, put_number};
 use er_report::{Line, Report, Reports};
 use er_trace::Names;
 use std::alloc::{AllocError, Global};
@@ -24,27 +20,22 @@ const ORDER_HEADING: &[u8] = b"{\"format\":1,\"analysis\":\"happens-before\",\n\
 /// The JSON of the reports, with these names for their numbers: a document for each report. Two documents are the items of a list, that
 /// of the lockset rule first. Each reason of a race says where its access was and what its thread held, as far as the places are known.
 #[tactic(auto, unfolding(crate::specs::Document::json_reports))]
-pub fn json_text(
-    alloc: Global,
-    reports: &Reports,
-    names: &Names,
-    places: &Places,
-) -> Result<Vec<u8>, AllocError>
-    requires { HaveNames names.now reports.now }
-    ensures { IfOk result (λ text. text.items ≡ json_reports names.now places.now reports.now) }
+pub fn json_text(alloc: Global, reports: &Reports, legend: &Legend) -> Built
+    requires { HaveNames legend.now.names.now reports.now }
+    ensures { IfOk result (λ text. text.items ≡ json_reports legend.now.names.now legend.now.places.now reports.now) }
 {
     let mut text = Vec::new(alloc);
     let (lockset, unordered) = (&reports.lockset, &reports.unordered);
     put_sign(&mut text, reports, b"[\n")?;
-    put_document(&mut text, LOCKSET_HEADING, names, places, lockset)?;
+    put_document(&mut text, LOCKSET_HEADING, legend, lockset)?;
     put_sign(&mut text, reports, b",\n")?;
-    put_document(&mut text, ORDER_HEADING, names, places, unordered)?;
+    put_document(&mut text, ORDER_HEADING, legend, unordered)?;
     put_sign(&mut text, reports, b"]\n")?;
     Ok(text)
 }
 
 /// Puts a sign that stands around or between the texts of two reports, if there are two.
-pub fn put_sign(out: &mut Vec<u8>, reports: &Reports, sign: &[u8]) -> Put
+pub(crate) fn put_sign(out: &mut Vec<u8>, reports: &Reports, sign: &[u8]) -> Put
     ensures { OnOk result (out.new.items ≡ out.old.items ++ sign_if reports.now sign.now) }
 {
     if reports.lockset.is_some() && reports.unordered.is_some() {
@@ -55,22 +46,16 @@ pub fn put_sign(out: &mut Vec<u8>, reports: &Reports, sign: &[u8]) -> Put
 
 // Puts the document of a report, if there is one. It begins with this heading of its first list.
 #[tactic(auto, unfolding(crate::specs::Document::document_text))]
-fn put_document(
-    out: &mut Vec<u8>,
-    heading: &[u8],
-    names: &Names,
-    places: &Places,
-    report: &Option<Report>,
-) -> Put
-    requires { IfSome report.now (λ report. All (HasNames names.now) report.lines.items) }
-    ensures { OnOk result (out.new.items ≡ out.old.items ++ document_if heading.now names.now places.now report.now) }
+fn put_document(out: &mut Vec<u8>, heading: &[u8], legend: &Legend, report: &Option<Report>) -> Put
+    requires { IfSome report.now (λ report. All (HasNames legend.now.names.now) report.lines.items) }
+    ensures { OnOk result (out.new.items ≡ out.old.items ++ document_if heading.now legend.now.names.now legend.now.places.now report.now) }
 {
     match report {
         Some(report) => {
-            put_lists(out, heading, names, places, &report.lines)?;
-            put_stop(out, names, report.stop)?;
+            put_lists(out, heading, legend, &report.lines)?;
+            put_stop(out, legend.names, report.stop)?;
             put_counts(out, &report.rule_counts)?;
-            put_totals(out, names, report)
+            put_totals(out, legend.names, report)
         }
         None => Ok(()),
     }
@@ -86,33 +71,26 @@ enum Section {
 
 // Puts the three lists, each behind its heading, which closes the one before it. The last is still open.
 #[tactic(auto, unfolding(crate::specs::Document::lists_text))]
-fn put_lists(
-    out: &mut Vec<u8>,
-    heading: &[u8],
-    names: &Names,
-    places: &Places,
-    lines: &[Line],
-) -> Put
-    requires { All (HasNames names.now) lines.now }
-    ensures { OnOk result (out.new.items ≡ out.old.items ++ lists_text heading.now names.now places.now (map line_view lines.now)) }
+fn put_lists(out: &mut Vec<u8>, heading: &[u8], legend: &Legend, lines: &[Line]) -> Put
+    requires { All (HasNames legend.now.names.now) lines.now }
+    ensures { OnOk result (out.new.items ≡ out.old.items ++ lists_text heading.now legend.now.names.now legend.now.places.now (map line_view lines.now)) }
 {
     out.extend_from_slice(heading)?;
-    put_rows(out, names, places, lines, Section::Races)?;
+    put_rows(out, legend, lines, Section::Races)?;
     out.extend_from_slice(b"],\n\"refused\":[")?;
-    put_rows(out, names, places, lines, Section::Refused)?;
+    put_rows(out, legend, lines, Section::Refused)?;
     out.extend_from_slice(b"],\n\"shown\":[")?;
-    put_rows(out, names, places, lines, Section::Shown)?;
+    put_rows(out, legend, lines, Section::Shown)?;
     Ok(())
 }
 
-// Puts the objects of a list, each on a line of its own.
-fn put_rows(out: &mut Vec<u8>, names: &Names, places: &Places, lines: &[Line], of: Section) -> Put
-    requires { All (HasNames names.now) lines.now }
-    ensures { OnOk result (out.new.items ≡ out.old.items ++ rows_text (flat_map (rows_in of names.now places.now) (map line_view lines.now))) }
+fn put_rows(out: &mut Vec<u8>, legend: &Legend, lines: &[Line], of: Section) -> Put
+    requires { All (HasNames legend.now.names.now) lines.now }
+    ensures { OnOk result (out.new.items ≡ out.old.items ++ rows_text (flat_map (rows_in of legend.now.names.now legend.now.places.now) (map line_view lines.now))) }
 {
     let mut is_first = true;
     for line in lines {
-        is_first = put_line_in(out, names, places, line, of, is_first)?;
+        is_first = put_line_in(out, legend, line, of, is_first)?;
     }
     Ok(())
 }
@@ -120,25 +98,23 @@ fn put_rows(out: &mut Vec<u8>, names: &Names, places: &Places, lines: &[Line], o
 // Puts the object of a line, if the list has one, and returns whether the next one is the first.
 fn put_line_in(
     out: &mut Vec<u8>,
-    names: &Names,
-    places: &Places,
+    legend: &Legend,
     line: &Line,
     of: Section,
     is_first: bool,
 ) -> Result<bool, AllocError>
-    requires { HasNames names.now line.now }
-    ensures text { OnOk result (out.new.items ≡ out.old.items ++ next_text is_first (rows_in of names.now places.now (line_view line.now))) }
-    ensures first { IfOk result (λ still. still ≡ (is_first && has_none (rows_in of names.now places.now (line_view line.now)))) }
+    requires { HasNames legend.now.names.now line.now }
+    ensures text { OnOk result (out.new.items ≡ out.old.items ++ next_text is_first (rows_in of legend.now.names.now legend.now.places.now (line_view line.now))) }
+    ensures first { IfOk result (λ still. still ≡ (is_first && has_none (rows_in of legend.now.names.now legend.now.places.now (line_view line.now)))) }
 {
     if !is_in(of, line) {
         return Ok(is_first);
     }
     put_separator(out, is_first)?;
-    put_row(out, names, places, line)?;
+    put_row(out, legend, line)?;
     Ok(false)
 }
 
-// Whether a list has an object of the line.
 fn is_in(of: Section, line: &Line) -> bool
     ensures { result ≡ is_in of (line_view line.now) }
 {
@@ -151,7 +127,7 @@ fn is_in(of: Section, line: &Line) -> bool
 }
 
 /// Puts what stands before a row: a comma, unless it is the first of its list, and a line feed.
-pub fn put_separator(out: &mut Vec<u8>, is_first: bool) -> Put
+pub(crate) fn put_separator(out: &mut Vec<u8>, is_first: bool) -> Put
     ensures { OnOk result (out.new.items ≡ out.old.items ++ separator_text is_first) }
 {
     match is_first {
@@ -168,16 +144,12 @@ fn put_stop(out: &mut Vec<u8>, names: &Names, stop: Option<(u64, NoRoom)>) -> Pu
     let Some((line, cause)) = stop else {
         return out.extend_from_slice(b"],\n\"stop\":null");
     };
-    let pieces = [
-        Number(b"],\n\"stop\":{\"line\":", line),
-        Text(b",\"why\":\""),
-        Text(cause.refusal().text().as_bytes()),
-        Text(b"\"}"),
-    ];
-    put_all(out, Style::Json, names, &pieces)
+    put!(out, Style::Json, names;
+        Number(b"],\n\"stop\":{\"line\":", line), Text(b",\"why\":\""),
+        Text(cause.refusal().text().as_bytes()), Text(b"\"}")
+    )
 }
 
-// Puts how many races each rule took.
 #[tactic(auto, unfolding(crate::specs::Document::counts_member))]
 fn put_counts(out: &mut Vec<u8>, counts: &[u64]) -> Put
     ensures { OnOk result (out.new.items ≡ out.old.items ++ counts_member counts.now) }
@@ -195,13 +167,10 @@ fn put_counts(out: &mut Vec<u8>, counts: &[u64]) -> Put
 fn put_totals(out: &mut Vec<u8>, names: &Names, report: &Report) -> Put
     ensures { OnOk result (out.new.items ≡ out.old.items ++ totals_member (told report.now)) }
 {
-    let pieces = [
-        Number(b",\n\"totals\":{\"steps\":", report.steps),
-        Number(b",\"races\":", report.races),
-        Number(b",\"suppressed\":", report.suppressed),
-        Number(b",\"refused\":", report.refused),
-    ];
-    put_all(out, Style::Json, names, &pieces)?;
+    put!(out, Style::Json, names;
+        Number(b",\n\"totals\":{\"steps\":", report.steps), Number(b",\"races\":", report.races),
+        Number(b",\"suppressed\":", report.suppressed), Number(b",\"refused\":", report.refused)
+    )?;
     put_lost(out, b",\"lost\":", report.lost, b"")?;
     out.extend_from_slice(b"}}\n")?;
     Ok(())

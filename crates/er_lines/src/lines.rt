@@ -15,13 +15,15 @@ use std::alloc::{AllocError, Global};
 use std::io::Read;
 use std::marker::Model;
 
-/// A line in front of a reader: how many bytes it has, and how many LFs follow it, one or none.
+/// A line in front of a reader.
 ///
 /// It has no Boolean, since that would leave 7 bytes of padding. They are copied in pieces that overlap, and each copy waits for the one before.
 #[derive(Clone, Copy)]
 pub struct FrontLine {
-    len: usize,
-    breaks: usize,
+    /// Its bytes, without its LF.
+    pub len: usize,
+    /// How many LFs follow it: one, or none behind the last line.
+    pub breaks: usize,
 }
 
 /// A reader of lines: the next line has this number, and `start` bytes of the text stand before it.

@@ -23,7 +23,7 @@ use Rattle.er_seat.specs.Seats.{held_after, holdings_of}
 use Rattle.er_load.specs.Inner.Accepted.{accepts, after}
 use Rattle.er_load.specs.Inner.Progress.{HasMade, IsSeatAt, done_before}
 use Rattle.er_load.specs.Inner.Scripts.{events_by, events_in_all}
-use Rattle.er_load.specs.declared.scripts.Action.{Action}
+use Rattle.er_load.specs.declared.runner.Action.{Action}
 use Rattle.er_load.specs.Workloads.{stage_events, times, each_word, locked, page, page_events, count_events, table_events}
 use Rattle.er_load.specs.declared.workloads.Workload.{Workload}
 use Rattle.er_load.specs.declared.workloads.Workload.TheVariants.{LockedCounter, RacyCounter, InitThenRead, RwTable, ReusePool, IgnoredStats}

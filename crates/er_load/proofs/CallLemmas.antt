@@ -13,7 +13,7 @@ use Rattle.er_event.specs.declared.steps.Reply.{Reply}
 use Rattle.er_settle.specs.Seats.{SeatList}
 use Rattle.er_seat.specs.Seats.{with_call, holdings_of, ticketed, ignored}
 use Rattle.er_detector.specs.Calls.{IsListed, IsIgnored}
-use Rattle.er_load.specs.declared.scripts.Action.{Action}
+use Rattle.er_load.specs.declared.runner.Action.{Action}
 use Rattle.er_load.specs.Inner.Progress.{HasMade}
 use Rattle.er_load.specs.Inner.Scripts.{events_by, events_in_all}
 use Rattle.er_event.proofs.Results.{on_ok}

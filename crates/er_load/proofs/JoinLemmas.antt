@@ -9,12 +9,12 @@ use Rattle.er_event.specs.declared.refusals.Refusal.TheVariants.{OutOfMemory}
 use Rattle.er_event.specs.declared.steps.Event.{Event}
 use Rattle.er_settle.specs.Seats.{SeatList}
 use Rattle.er_settle.proofs.PairLemmas.{to_map}
-use Rattle.er_load.specs.declared.stages.Worker.{Worker}
+use Rattle.er_load.specs.declared.runs.Worker.{Worker}
 use Rattle.er_load.specs.declared.workloads.Workload.{Workload}
 use Rattle.er_load.specs.declared.workloads.Stage.{Stage}
 use Rattle.er_load.specs.Faults.{MayFail, may_meet}
-use Rattle.er_load.specs.declared.faults.LoadFault.{LoadFault}
-use Rattle.er_load.specs.declared.faults.LoadFault.TheVariants.{Refused}
+use Rattle.er_load.specs.declared.workloads.LoadFault.{LoadFault}
+use Rattle.er_load.specs.declared.workloads.LoadFault.TheVariants.{Refused}
 use Rattle.er_event.proofs.Lists.{get_seam}
 use Rattle.er_load.specs.Inner.Progress.{IsSeatAt, AreSeatsAt, EndsAt, AreWorkers, AreAnswersAt, AreMet, first_refusal, done_after}
 

@@ -16,7 +16,7 @@ use Rattle.er_settle.specs.declared.unsettled.Unsettled.{Unsettled}
 use Rattle.er_settle.specs.declared.unsettled.Unsettled.TheVariants.{ForeignSeat, SeatTwice, SeatMissing, Order, Entries, Answer, Memory}
 use Rattle.er_settle.specs.Seats.{SeatList}
 use Rattle.er_load.specs.Faults.{MayFail}
-use Rattle.er_load.specs.declared.faults.LoadFault.TheVariants.{Unsettled as NotSettled}
+use Rattle.er_load.specs.declared.workloads.LoadFault.TheVariants.{Unsettled as NotSettled}
 use Rattle.er_load.specs.declared.workloads.Workload.{Workload}
 use Rattle.er_load.specs.declared.workloads.Stage.TheVariants.{First, Second}
 use Rattle.er_load.specs.Inner.Progress.{detector_name, IsSeatAt, AreSeatsAt, done_before, done_after}

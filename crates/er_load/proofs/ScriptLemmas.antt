@@ -3,8 +3,8 @@ use Rattle.std.proofs.Common.{◌≡◌, ◌∙◌, ℕ, ◌+◌, List, [], ◌�
 use Rattle.std.proofs.Math.Numerals.{add-one}
 use Rattle.er_event.specs.declared.steps.Event.{Event}
 use Rattle.er_event.specs.declared.steps.Kind.{Kind}
-use Rattle.er_load.specs.declared.scripts.Action.{Action}
-use Rattle.er_load.specs.declared.scripts.Action.TheVariants.{Access}
+use Rattle.er_load.specs.declared.runner.Action.{Action}
+use Rattle.er_load.specs.declared.runner.Action.TheVariants.{Access}
 use Rattle.er_load.specs.Inner.Scripts.{events_by, events_in_all}
 use Rattle.er_load.specs.Workloads.{times, each_word, access}
 

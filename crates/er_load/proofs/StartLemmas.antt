@@ -4,8 +4,8 @@ use Rattle.std.specs.Prelude.{Some, slice_get}
 use Rattle.std.proofs.lemmas.Option.{slice_get_within}
 use Rattle.er_event.specs.declared.steps.Event.{Event}
 use Rattle.er_settle.specs.Seats.{SeatList}
-use Rattle.er_load.specs.declared.stages.Worker.{Worker}
-use Rattle.er_load.specs.declared.stages.Worker.TheVariants.{Idle}
+use Rattle.er_load.specs.declared.runs.Worker.{Worker}
+use Rattle.er_load.specs.declared.runs.Worker.TheVariants.{Idle}
 use Rattle.er_load.specs.declared.workloads.Workload.{Workload}
 use Rattle.er_load.specs.declared.workloads.Stage.{Stage}
 use Rattle.er_load.specs.declared.workloads.Stage.TheVariants.{First, Second}

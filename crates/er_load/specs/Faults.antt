@@ -2,8 +2,8 @@
 use Rattle.std.specs.Prelude.{Bool, true, false, IsTrue}
 use Rattle.er_event.specs.declared.refusals.Refusal.{Refusal}
 use Rattle.er_event.specs.declared.refusals.Refusal.TheVariants.{JournalFull, TableFull, OutOfMemory, ForeignSeat as ForeignCall, TooManyThreads}
-use Rattle.er_load.specs.declared.faults.LoadFault.{LoadFault}
-use Rattle.er_load.specs.declared.faults.LoadFault.TheVariants.{Refused, WorkerNotStarted, WorkerLost, Unsettled}
+use Rattle.er_load.specs.declared.workloads.LoadFault.{LoadFault}
+use Rattle.er_load.specs.declared.workloads.LoadFault.TheVariants.{Refused, WorkerNotStarted, WorkerLost, Unsettled}
 use Rattle.er_settle.specs.declared.unsettled.Unsettled.TheVariants.{ForeignSeat, SeatTwice}
 
 -- a refusal that no definition gives: there was no room, or the detector doesn't know the seat or the shard, or has no seat left

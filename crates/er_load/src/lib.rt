@@ -16,13 +16,9 @@
 #![tactic(auto)]
 
 pub use er_detector::{Run, Unsettled};
-pub use faults::LoadFault;
 pub use runs::run_workload;
-pub use workloads::Workload;
+pub use workloads::{LoadFault, Workload};
 
-mod faults;
 mod runner;
 mod runs;
-mod scripts;
-mod stages;
 mod workloads;

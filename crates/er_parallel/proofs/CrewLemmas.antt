@@ -17,9 +17,9 @@ use Rattle.er_parallel.specs.Inner.Merging.{AreApart, AreMerged, HasItem, NoHead
 use Rattle.er_parallel.specs.Inner.Taking.{HasDone, HasTaken}
 use Rattle.er_parallel.specs.Tasks.{worker_for}
 use Rattle.er_parallel.specs.Usual.{usual}
-use Rattle.er_parallel.specs.declared.faults.ReplayFault.{ReplayFault}
-use Rattle.er_parallel.specs.declared.task.Share.{Share}
-use Rattle.er_parallel.specs.declared.unusual.Unusual.{Unusual}
+use Rattle.er_parallel.specs.declared.config.ReplayFault.{ReplayFault}
+use Rattle.er_parallel.specs.declared.worker.Share.{Share}
+use Rattle.er_parallel.specs.declared.worker.Unusual.{Unusual}
 use Rattle.er_parallel.specs.declared.worker.WorkFault.{WorkFault}
 use Rattle.er_parallel.specs.declared.worker.Worker.{Worker}
 use Rattle.er_parallel.proofs.GatheringLemmas.{get_some}

@@ -12,7 +12,7 @@ use Rattle.er_model.proofs.Runs.{answers-length, answers-get}
 use Rattle.er_parallel.specs.Crews.{AreUnusual, IsAmong, IsAnswered}
 use Rattle.er_parallel.specs.Inner.Gathering.{AreRightBut, IsRight}
 use Rattle.er_parallel.specs.Usual.{usual, usual_answers}
-use Rattle.er_parallel.specs.declared.unusual.Unusual.{Unusual}
+use Rattle.er_parallel.specs.declared.worker.Unusual.{Unusual}
 
 abbrev Given : Type 0
 Given = List (Result Reply Refusal)

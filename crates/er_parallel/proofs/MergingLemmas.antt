@@ -6,7 +6,7 @@ use Rattle.er_model.proofs.Parts.{in_range}
 use Rattle.er_model.proofs.Search.{below_or_at}
 use Rattle.er_parallel.specs.Crews.{Rise}
 use Rattle.er_parallel.specs.Inner.Merging.{AreApart, AreMerged, HasHead, HasItem, IsIn, IsLeastHead, IsLesserHead, IsTaken, NoHeadBelow, count_found, machines_of}
-use Rattle.er_parallel.specs.declared.unusual.Unusual.{Unusual}
+use Rattle.er_parallel.specs.declared.worker.Unusual.{Unusual}
 use Rattle.er_parallel.specs.declared.worker.Worker.{Worker}
 
 some_same : {A : Type 0} (x y : A) → Some x ≡ Some y → x ≡ y

@@ -30,8 +30,8 @@ use Rattle.er_parallel.specs.Faults.{AsksForSet}
 use Rattle.er_parallel.specs.Usual.{usual}
 use Rattle.er_parallel.specs.Inner.Taking.{AreIdle, HasCome, HasDone, IsFoundSoFar, IsIdle, IsKept, IsOwn}
 use Rattle.er_parallel.specs.Tasks.{worker_for}
-use Rattle.er_parallel.specs.declared.task.Share.{Share}
-use Rattle.er_parallel.specs.declared.unusual.Unusual.{Unusual}
+use Rattle.er_parallel.specs.declared.worker.Share.{Share}
+use Rattle.er_parallel.specs.declared.worker.Unusual.{Unusual}
 use Rattle.er_parallel.proofs.FollowingLemmas.{apart, replied-same, asks-same}
 use Rattle.er_replay.specs.Standing.{Replayed, found_no_room, holding, states}
 use Rattle.er_replay.specs.Wants.{asks_by, is_access}

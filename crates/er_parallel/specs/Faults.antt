@@ -5,8 +5,8 @@ use Rattle.er_event.specs.declared.refusals.NoRoom.TheVariants as room
 use Rattle.er_event.specs.declared.steps.Step.{Step}
 use Rattle.er_model.specs.Answers.{state_at}
 use Rattle.er_model.specs.Holdings.{holdings_at}
-use Rattle.er_parallel.specs.declared.faults.ReplayFault.{ReplayFault}
-use Rattle.er_parallel.specs.declared.faults.ReplayFault.TheVariants as fault
+use Rattle.er_parallel.specs.declared.config.ReplayFault.{ReplayFault}
+use Rattle.er_parallel.specs.declared.config.ReplayFault.TheVariants as fault
 use Rattle.er_replay.specs.Wants.{asks_by}
 
 -- the step at some position of the list asks the table for a set

@@ -3,7 +3,7 @@ use Rattle.std.specs.Prelude.{ℕ, ◌%◌, ◌≤◌, ◌<◌}
 use Rattle.er_event.specs.declared.steps.Event.{Event}
 use Rattle.er_event.specs.declared.steps.Event.TheVariants.{Acquire, Release, Access, Reuse, IgnoreOn, IgnoreOff, Show, Level, Sync}
 use Rattle.er_journal.specs.Merges.{shard_of}
-use Rattle.er_parallel.specs.declared.task.Share.{Share}
+use Rattle.er_parallel.specs.declared.worker.Share.{Share}
 
 -- the shard of an event's words; an event on no word goes with shard 0
 abbrev pub shard_for : ℕ → Event → ℕ

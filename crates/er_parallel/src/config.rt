@@ -1,8 +1,10 @@
-//! How a parallel replay is made.
+//! How a parallel replay is made, and why it has no answers.
 ghost use Rattle.std.specs.Prelude.{◌≡◌, IsSome, IfSome};
 ghost use Rattle.er_parallel.specs.Limits.{IsShardCount, IsSetCount};
 
+use er_event::NoRoom;
 use er_keys::HashKeys;
+use std::alloc::AllocError;
 
 /// How a parallel replay is made. The numbers are in their limits.
 #[derive(Clone, Copy, Debug, PartialEq, Eq)]
@@ -52,6 +54,44 @@ impl ReplayConfig {
             shards: self.shards,
             max_sets: self.max_sets,
             keys,
+        }
+    }
+}
+
+/// Why a parallel replay has no answers.
+#[derive(Clone, Copy, Debug, PartialEq, Eq)]
+pub enum ReplayFault {
+    /// There was no memory.
+    Memory,
+    /// A set of locks found no place in the table.
+    TableFull,
+    /// A worker couldn't be started.
+    WorkerNotStarted,
+    /// A worker that was started gave nothing back. The joins of today always answer, so nothing comes to this.
+    WorkerLost,
+}
+
+impl From<AllocError> for ReplayFault {
+    ghost use Rattle.std.specs.Prelude.{◌≡◌};
+    ghost use Rattle.er_parallel.specs.declared.config.ReplayFault.TheVariants.{Memory};
+
+    ghost from_gives = { λ _ fault. fault ≡ Memory };
+
+    fn from(_error: AllocError) -> ReplayFault {
+        ReplayFault::Memory
+    }
+}
+
+impl From<NoRoom> for ReplayFault {
+    ghost use Rattle.std.specs.Prelude.{◌≡◌};
+    ghost use Rattle.er_parallel.specs.Faults.{fault_of};
+
+    ghost from_gives = { λ cause fault. fault ≡ fault_of cause };
+
+    fn from(cause: NoRoom) -> ReplayFault {
+        match cause {
+            NoRoom::TableFull => ReplayFault::TableFull,
+            NoRoom::JournalFull | NoRoom::OutOfMemory => ReplayFault::Memory,
         }
     }
 }

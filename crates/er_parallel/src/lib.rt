@@ -28,19 +28,13 @@
 //! ```
 #![tactic(auto)]
 
-pub use config::ReplayConfig;
+pub use config::{ReplayConfig, ReplayFault};
 pub use crew::Crew;
 pub use er_gate::{Gate, OpenGate, PairGate};
-pub use faults::ReplayFault;
 pub use replay::replay_parallel;
-pub use unusual::Unusual;
+pub use worker::Unusual;
 
 mod config;
 mod crew;
-mod faults;
-mod gathering;
-mod merging;
 mod replay;
-mod task;
-mod unusual;
 mod worker;

@@ -1,17 +1,18 @@
 //! The replay of a list of steps by several workers.
-ghost use Rattle.std.specs.Prelude.{◌≡◌, ◌≤◌, [], IfErr, IfOk, IsErrOf, None};
+ghost use Rattle.std.specs.Prelude.{◌≡◌, ◌≤◌, [], IfOk, IsErrOf, None};
 ghost use Rattle.er_model.specs.Answers.{answers};
 ghost use Rattle.er_parallel.specs.Crews.{AreUnusual};
-ghost use Rattle.er_parallel.specs.Faults.{AsksForSet, MayFail};
+ghost use Rattle.er_parallel.specs.Faults.{AsksForSet};
+ghost use Rattle.er_parallel.specs.Usual.{usual_answers};
 
 use crate::crew::{start, take_batch};
-use crate::gathering::gather;
+use crate::worker::usual_answer;
 use crate::{ReplayConfig, ReplayFault, Unusual};
 use er_event::Step;
 use er_gate::Gate;
-use er_journal::Outcome;
+use er_journal::{Answers, Outcome};
 use er_table::LocksetTable;
-use std::alloc::Global;
+use std::alloc::{AllocError, Global};
 use std::sync::Wait;
 use std::thread::Threads;
 
@@ -25,8 +26,8 @@ use std::thread::Threads;
 /// shard whose step found none, `TableFull` or `Memory`. `Memory` also comes if the list of answers finds none. `TableFull` comes only
 /// if some step needs a set of locks, so never for a list on which each word has one thread.
 ///
-/// The clauses below don't say which worker's fault it is, since a caller never sees the workers. In `merging.rt` the clause `fault` of
-/// `merge`, which has the workers as its argument, says that it is the fault of the least shard.
+/// The clauses below don't say which worker's fault it is, since a caller never sees the workers: the clause `fault` of `merge` in `crew.rt`
+/// does.
 pub fn replay_parallel<G: Gate, R: Threads + Wait + Sync>(
     rt: &R,
     alloc: Global,
@@ -43,8 +44,19 @@ pub fn replay_parallel<G: Gate, R: Threads + Wait + Sync>(
     ensures table_full { IsErrOf result ReplayFault.TableFull → AsksForSet steps.now }
     ensures none_lost { ¬ IsErrOf result ReplayFault.WorkerLost }
 {
-    let table = LocksetTable::keyed(alloc, config.max_sets, config.keys)?;
-    let answered = answer_all(rt, alloc, &table, config, steps, workers, gate);
+    let ReplayConfig {
+        shards,
+        max_sets,
+        keys,
+        ..
+    } = config;
+    let table = LocksetTable::keyed(alloc, max_sets, keys)?;
+    let mut crew = match start(rt, alloc, &table, keys, workers) {
+        Ok(crew) => crew,
+        Err(fault) => return Err(fault),
+    };
+    let answered = take_batch(rt, alloc, shards, crew.as_mut_slice(), steps, false, gate);
+    drop(crew);
     drop(table);
     match answered {
         Ok(unusual) => Ok(Outcome {
@@ -55,26 +67,30 @@ pub fn replay_parallel<G: Gate, R: Threads + Wait + Sync>(
     }
 }
 
-// The answers that aren't the usual ones, by workers over this table.
-fn answer_all<G: Gate, R: Threads + Wait + Sync>(
-    rt: &R,
-    alloc: Global,
-    table: &LocksetTable,
-    config: ReplayConfig,
-    steps: &[Step],
-    workers: u32,
-    gate: &G,
-) -> Result<Vec<Unusual>, ReplayFault>
-    requires { (1 ≤ workers) × (workers ≤ 16) }
-    ensures answers { IfOk result (λ unusual. AreUnusual [] steps.now unusual.items) }
-    ensures fault { IfErr result (λ fault. MayFail steps.now fault) }
+// The answers to all steps of a list, of which these aren't the usual ones.
+fn gather(alloc: Global, steps: &[Step], unusual: Vec<Unusual>) -> Result<Answers, AllocError>
+    requires { AreUnusual [] steps.now unusual.items }
+    ensures { IfOk result (λ given. given ≡ answers steps.now) }
 {
-    let ReplayConfig { shards, keys, .. } = config;
-    let mut crew = match start(rt, alloc, table, keys, workers) {
-        Ok(crew) => crew,
-        Err(fault) => return Err(fault),
+    let Ok(mut given) = usual_answers(alloc, steps) else {
+        drop(unusual);
+        return Err(AllocError);
     };
-    let answered = take_batch(rt, alloc, shards, crew.as_mut_slice(), steps, false, gate);
-    drop(crew);
-    answered
+    for item in unusual {
+        let Unusual { at, answer, .. } = item;
+        given.set(at, answer)?;
+    }
+    Ok(given)
+}
+
+// The usual answer to each step.
+fn usual_answers(alloc: Global, steps: &[Step]) -> Result<Answers, AllocError>
+    ensures { IfOk result (λ given. given ≡ usual_answers steps.now) }
+{
+    let mut given = Answers::new(alloc);
+    given.reserve(steps.len())?;
+    for step in steps {
+        given.push(usual_answer(step))?;
+    }
+    Ok(given)
 }

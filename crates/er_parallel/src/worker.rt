@@ -1,21 +1,18 @@
 //! A worker of a crew: it answers the steps of its shards, and follows what the other steps make of their threads' holdings.
-ghost use Rattle.std.specs.Prelude.{◌≡◌, ◌+◌, ◌≤◌, ◌++◌, [], ℕ, false, List, length, slice_get, IsTrue, IsFalse, IsSome, IfOk, OnOk, OnErr, IsErrOf, IfErr, MatchResult, Ok, Err, Some};
+ghost use Rattle.std.specs.Prelude.{◌≡◌, ◌<◌, ◌%◌, ◌+◌, ◌≤◌, ◌++◌, [], ℕ, false, List, length, slice_get, IsTrue, IsFalse, IsSome, IfOk, OnOk, OnErr, IsErrOf, IfErr, MatchResult, Ok, Err, Some};
 ghost use Rattle.er_event.specs.declared.steps.Step.{Step as Steps};
 ghost use Rattle.er_parallel.specs.Crews.{HasFollowed};
 ghost use Rattle.er_parallel.specs.Faults.{AsksForSet};
 ghost use Rattle.er_parallel.specs.Inner.Faults.{MayBeFull};
 ghost use Rattle.er_parallel.specs.Inner.Taking.{AreIdle, HasCome, HasDone, HasTaken, IsBusy, IsIdle, IsKept, IsOwn};
-ghost use Rattle.er_parallel.specs.Tasks.{IsShare};
+ghost use Rattle.er_parallel.specs.Tasks.{IsShare, shard_for, worker_for};
 ghost use Rattle.er_parallel.specs.Usual.{usual};
 ghost use Rattle.er_model.specs.Following.{answered, state_after};
 ghost use Rattle.er_model.specs.Holdings.{after_step};
 ghost use Rattle.er_replay.specs.Standing.{found_no_room, holding, states, Stands};
 ghost use Rattle.er_replay.specs.Wants.{asks_by, is_access};
 
-use crate::Unusual;
-use crate::task::{Share, shard_for, worker_for};
-use crate::unusual::{is_access, is_usual};
-use er_event::{Lockset, NoRoom, Refusal, Reply, Step, ThreadId};
+use er_event::{Event, Lockset, NoRoom, PageRange, Refusal, Reply, Step, ThreadId};
 use er_keys::HashKeys;
 use er_replay::{Machine, no_room};
 use er_table::LocksetTable;
@@ -23,6 +20,28 @@ use std::alloc::{AllocError, Global};
 use std::collections::VecDeque;
 use std::sync::Wait;
 use std::thread::Promise;
+
+/// A step whose answer isn't the usual one. The usual answer to an access is `Quiet`, and to any other step `Done`. If changes are
+/// noted, it may also be an access that changed its word's state, with any answer.
+#[derive(Debug, Drop)]
+pub struct Unusual {
+    /// The position of the step in its batch.
+    pub at: usize,
+    /// The answer to the step.
+    pub answer: Result<Reply, Refusal>,
+    /// The locks that the step's thread holds there, if the answer is a race. Otherwise it has none.
+    pub held: Lockset,
+}
+
+/// A worker's share of all steps: of so many workers, the one of this number answers the steps of the shards that have its number modulo
+/// theirs. A step that is on no word goes with shard 0. With `noting` it also keeps the accesses that changed their words' states.
+#[derive(Clone, Copy)]
+pub(crate) struct Share {
+    pub(crate) shards: u32,
+    pub(crate) worker: u32,
+    pub(crate) workers: u32,
+    pub(crate) noting: bool,
+}
 
 /// What a thread that makes a worker promises: the worker has answered no step.
 #[derive(Drop)]
@@ -181,7 +200,7 @@ fn answer_own<R: Wait>(
 {
     let Step { thread, .. } = *step;
     let (answer, noted) = answer_one(rt, machine, step, share.noting);
-    if is_plain(step, &answer, noted) {
+    if !noted && is_usual(step, &answer) {
         return Ok(());
     }
     keep(alloc, machine, thread, at, answer, found)
@@ -237,14 +256,6 @@ fn answer_one<R: Wait>(
     }
 }
 
-// Whether the step isn't kept: its answer is the usual one, and it isn't noted.
-#[inline]
-fn is_plain(step: &Step, answer: &Result<Reply, Refusal>, noted: bool) -> bool
-    ensures { IsTrue result → (answer.now ≡ usual step.now.event) × (noted ≡ false) }
-{
-    !noted && is_usual(step, answer)
-}
-
 // The locks that the thread holds, if the answer is a race.
 fn locks_at_race(
     alloc: Global,
@@ -257,5 +268,91 @@ fn locks_at_race(
     match answer {
         Ok(Reply::Race) => machine.held(thread).held().copy(),
         _ => Ok(Lockset::new(alloc)),
+    }
+}
+
+/// The usual answer to a step.
+#[inline]
+pub(crate) fn usual_answer(step: &Step) -> Result<Reply, Refusal>
+    ensures { result ≡ usual step.now.event }
+{
+    Ok(if is_access(step) {
+        Reply::Quiet
+    } else {
+        Reply::Done
+    })
+}
+
+// Whether it is the usual answer to the step.
+#[inline]
+fn is_usual(step: &Step, answer: &Result<Reply, Refusal>) -> bool
+    ensures { IsTrue result → answer.now ≡ usual step.now.event }
+{
+    if is_access(step) {
+        matches!(answer, Ok(Reply::Quiet))
+    } else {
+        matches!(answer, Ok(Reply::Done))
+    }
+}
+
+// Whether the step reads or writes a word.
+#[inline]
+fn is_access(step: &Step) -> bool
+    ensures { result ≡ is_access step.now.event }
+{
+    let Step { event, .. } = *step;
+    matches!(event, Event::Access(..))
+}
+
+// The shard of an event's words. An event on no word goes with shard 0.
+#[inline]
+fn shard_for(shards: u32, event: Event) -> u32
+    requires { 0 < shards }
+    ensures shard { result ≡ shard_for shards event }
+    ensures limit { result < shards }
+{
+    match event {
+        Event::Access(_, word, _) | Event::Show(word) => remainder(word.page(), shards),
+        Event::Reuse(range) => {
+            let PageRange { lo, .. } = range;
+            remainder(lo.page(), shards)
+        }
+        Event::Acquire(..)
+        | Event::Release(..)
+        | Event::IgnoreOn
+        | Event::IgnoreOff
+        | Event::Level(_)
+        | Event::Sync(_) => 0,
+    }
+}
+
+// The number of the worker that answers the event.
+#[inline]
+fn worker_for(shards: u32, workers: u32, event: Event) -> u32
+    requires shards { 0 < shards }
+    requires workers { 0 < workers }
+    ensures { result ≡ worker_for shards workers event }
+{
+    let shard = shard_for(shards, event);
+    remainder(u64::from(shard), workers)
+}
+
+// What is left of a division. By the numbers that stand here the compiler divides without a division, which would take as long as the
+// rest of what a worker does at a step that isn't its own.
+#[inline]
+fn remainder(number: u64, by: u32) -> u32
+    requires { 0 < by }
+    ensures value { result ≡ number % by }
+    ensures limit { result < by }
+{
+    match by {
+        1 => 0,
+        2 => (number % 2) as u32,
+        4 => (number % 4) as u32,
+        8 => (number % 8) as u32,
+        16 => (number % 16) as u32,
+        32 => (number % 32) as u32,
+        64 => (number % 64) as u32,
+        _ => (number % u64::from(by)) as u32,
     }
 }

@@ -10,7 +10,7 @@ use Rattle.er_event.specs.declared.steps.Sync.TheVariants.{Start, Join, Signal, 
 use Rattle.er_model.specs.Holdings.{holdings_at}
 use Rattle.er_places.specs.Inner.Following.{AreNamed, Followed, StandsFor}
 use Rattle.er_places.specs.Places.{HasPlaceNames, or_else, place_below, place_by, place_of}
-use Rattle.er_places.specs.declared.place.Place.{Place}
+use Rattle.er_places.specs.declared.places.Place.{Place}
 use Rattle.er_report.proofs.NamedLemmas.{named_holdings, named_step}
 use Rattle.er_text.specs.Named.{KeepsNumbers, KeepsNames}
 use Rattle.er_trace.specs.Names.{NameTable}

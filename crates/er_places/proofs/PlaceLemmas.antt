@@ -12,7 +12,7 @@ use Rattle.er_model.proofs.Prefixes.{holdings-front, holdings-grow, holdings-emp
 use Rattle.er_model.specs.Holdings.{Holdings, after_step, holdings_at, holdings_end}
 use Rattle.er_places.specs.Inner.Following.{Followed, Follows, HasAll, StandsFor}
 use Rattle.er_places.specs.Places.{or_else, place_below, place_by, place_in, place_of}
-use Rattle.er_places.specs.declared.place.Place.{Place}
+use Rattle.er_places.specs.declared.places.Place.{Place}
 
 -- steps that come later change no earlier place
 module _ (steps more : List Step) (lines others : List ℕ) where

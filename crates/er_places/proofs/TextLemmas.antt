@@ -9,7 +9,7 @@ use Rattle.er_places.proofs.NameLemmas.{all-named, are-named}
 use Rattle.er_places.proofs.PlaceLemmas.{found-all}
 use Rattle.er_places.specs.Inner.Following.{Followed, HasAll, HasCome, HasEnded, StandsFor}
 use Rattle.er_places.specs.Places.{place_at, place_below, ArePlaces, HasPlaces, PlaceTable, place_on}
-use Rattle.er_places.specs.declared.place.Place.{Place}
+use Rattle.er_places.specs.declared.places.Place.{Place}
 use Rattle.er_text.proofs.BatchLaws.{forgotten}
 use Rattle.er_text.proofs.TextLaws.{same_trace}
 use Rattle.er_text.specs.Batches.{joined, HasRead, GivesBatch}

@@ -5,12 +5,13 @@ use Rattle.er_event.specs.declared.steps.Event.{Event}
 use Rattle.er_event.specs.declared.steps.Event.TheVariants.{Access}
 use Rattle.er_event.specs.declared.steps.Step.{Step}
 use Rattle.er_model.specs.Holdings.{Holdings, holdings_at}
-use Rattle.er_places.specs.declared.place.Place.{Place}
+use Rattle.er_places.specs.declared.places.Place.{Place}
 use Rattle.er_report.specs.Names.{HasLockNames}
 use Rattle.er_text.specs.Named.{KeepsNames}
 use Rattle.er_text.specs.Trace.{IsTrace, Tells}
 use Rattle.er_lines.specs.declared.faults.ReadFault.{ReadFault}
 use Rattle.er_trace.specs.Names.{NameTable}
+pub use Rattle.er_trace.specs.Names.{no_names}
 use Rattle.er_trace.specs.Trace.{Recording}
 
 -- the place of an access on this line by a thread that holds these locks; another event has none

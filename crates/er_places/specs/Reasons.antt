@@ -3,7 +3,7 @@ use Rattle.std.specs.Prelude.{ℕ, ◌==◌, ◌&&◌, Bool, cond, Option, Some,
 use Rattle.er_event.specs.declared.steps.Kind.{Kind}
 use Rattle.er_places.specs.Places.{PlaceTable, place_at}
 use Rattle.er_places.specs.Wanted.{same_kind}
-use Rattle.er_places.specs.declared.place.Place.{Place}
+use Rattle.er_places.specs.declared.places.Place.{Place}
 use Rattle.er_report.specs.declared.report.Because.{Because}
 
 -- the access has this thread and this kind

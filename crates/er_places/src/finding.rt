@@ -1,14 +1,11 @@
 //! A second look at a trace text, batch by batch.
 ghost use Rattle.std.specs.Prelude.{◌≡◌, ◌<◌, ◌≤◌, ◌+◌, ◌^◌, ◌++◌, ◌||◌, ℕ, List, Option, All, false, true, length, IfSome, IfOk, IfErr, OnOk};
 ghost use Rattle.er_device.specs.Device.{inner_of, has_failed, taken_of};
-ghost use Rattle.er_event.specs.declared.steps.Step.{Step};
-ghost use Rattle.er_places.specs.Inner.Following.{AreNamed, HasCome, HasEnded, StandsFor};
+ghost use Rattle.er_places.specs.Inner.Following.{HasCome, HasEnded, are_asked, is_wanted};
 ghost use Rattle.er_places.specs.Places.{ArePlaces, IsFaultOf};
-ghost use Rattle.er_places.specs.Wanted.{are_asked, is_wanted};
 ghost use Rattle.er_lines.specs.Lines.{bytes_past_limit};
 ghost use Rattle.er_lines.specs.Faults.{HasFailedBy};
 ghost use Rattle.er_lines.specs.Lending.{taken_by};
-ghost use Rattle.er_trace.specs.Trace.{IsNamed};
 
 use crate::Places;
 use crate::follower::Follower;
@@ -20,7 +17,6 @@ use er_trace::{NameKeys, Trace};
 use std::alloc::{AllocError, Global};
 use std::io::Read;
 
-/// How many lines a batch has.
 const BATCH_LINES: u32 = 1024;
 
 /// What reads the lines, the trace that each batch fills, and what is kept of the steps so far.
@@ -46,8 +42,7 @@ impl Finder {
         })
     }
 
-    /// Reads a batch, follows its steps and forgets them, and says whether more can be found. If each wanted line has its place, the rest of
-    /// the text isn't read.
+    /// Reads a batch, follows its steps and forgets them. Returns whether more can be found: not once each wanted line has its place.
     fn turn<D: Read>(&mut self, reader: &mut Device<D>, wanted: &Wanted) -> Result<bool, ReadFault>
         requires open { has_failed reader.old ≡ false }
         ensures come { (told : Option (List ℕ)) → HasCome (is_wanted wanted.now) told (D.remaining (inner_of reader.old)) self.old.lines self.old.trace self.old.follower
@@ -77,7 +72,6 @@ impl Finder {
         }
     }
 
-    /// Reads and follows batches as long as more can be found.
     fn run<D: Read>(&mut self, reader: &mut Device<D>, wanted: &Wanted) -> Result<(), ReadFault>
         requires open { has_failed reader.old ≡ false }
         ensures ended { (told : Option (List ℕ)) → HasCome (is_wanted wanted.now) told (D.remaining (inner_of reader.old)) self.old.lines self.old.trace self.old.follower
@@ -92,9 +86,8 @@ impl Finder {
     }
 }
 
-/// Reads a trace text of at most `byte_limit` bytes once more, whose names are hashed by these keys, and gives the places of the accesses on the lines that the
-/// reasons of each report's first races name. The steps of each batch of lines are forgotten, so that memory goes by the wanted lines, the threads and the names.
-/// Behind the batch in which the last wanted line has its place nothing is read, and nothing at all if no line is wanted.
+/// Reads a trace text of at most `byte_limit` bytes once more, and returns the places of the accesses that the reasons of each report's first races
+/// name. It hashes names by these keys. It reads nothing behind the batch with the last wanted line, and nothing at all if no line is wanted.
 pub fn places_of_reports<D: Read>(
     alloc: Global,
     reader: &mut Device<D>,
@@ -116,9 +109,6 @@ pub fn places_of_reports<D: Read>(
     let mut finder = Finder::new(alloc, byte_limit, keys)?;
     match finder.run(reader, &wanted) {
         Ok(()) => Ok(Places::of(finder.follower.into_places(), finder.trace)),
-        Err(why) => {
-            drop(finder);
-            Err(why)
-        }
+        Err(why) => Err(why),
     }
 }

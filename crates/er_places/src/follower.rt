@@ -1,19 +1,15 @@
 //! `Follower`, which notes places as steps go by.
 ghost use Rattle.std.specs.Prelude.{◌≡◌, ◌++◌, ◌==◌, ◌&&◌, ℕ, List, All, [], true, cond, nat_eq, length, IfSome, OnOk};
 ghost use Rattle.er_event.specs.declared.steps.Step.{Step as Steps};
-ghost use Rattle.er_held.specs.ThreadLocks.{held_by};
-ghost use Rattle.er_places.specs.Inner.Following.{Follows, HasAll, StandsFor};
-ghost use Rattle.er_places.specs.Places.{or_else, place_by, place_in};
-ghost use Rattle.er_places.specs.Wanted.{is_wanted};
-ghost use Rattle.er_trace.specs.Trace.{IsNamed};
+ghost use Rattle.er_places.specs.Inner.Following.{Follows, HasAll, IsNamed, StandsFor, held_by, is_wanted, place_in};
 
 use crate::Place;
-use crate::wanted::Wanted;
+use crate::wanted::{Put, Wanted};
 use er_event::{Event, Kind, Site, Step, ThreadId};
 use er_held::ThreadLocks;
 use er_keys::{HashKeys, NumberHasher};
 use er_trace::Trace;
-use std::alloc::{AllocError, Global};
+use std::alloc::Global;
 use std::collections::HashMap;
 use std::marker::Model;
 
@@ -46,7 +42,7 @@ impl Follower {
     }
 
     /// Goes on by the steps of a trace. `AllocError`: memory was refused, and nothing is known of what it has now.
-    pub(crate) fn follow(&mut self, wanted: &Wanted, trace: &Trace) -> Result<(), AllocError>
+    pub(crate) fn follow(&mut self, wanted: &Wanted, trace: &Trace) -> Put
         ensures level { length trace.now.lines ≡ length trace.now.steps }
         ensures named { All (IsNamed trace.now.names) trace.now.steps }
         ensures stands { (past : List Steps) (numbers : List ℕ) → length numbers ≡ length past → StandsFor (is_wanted wanted.now) self.old past numbers
@@ -64,11 +60,7 @@ impl Follower {
     pub(crate) fn into_places(self) -> HashMap<u64, Place, NumberHasher>
         ensures { result.entries ≡ self.places }
     {
-        let Follower {
-            alloc: _,
-            threads: _,
-            places,
-        } = self;
+        let Follower { places, .. } = self;
         places
     }
 
@@ -79,8 +71,7 @@ impl Follower {
         self.places.len() == wanted.len() && wanted.are_in(&self.places)
     }
 
-    // Goes on by one step.
-    fn follow_step(&mut self, wanted: &Wanted, step: &Step, line: u64) -> Result<(), AllocError>
+    fn follow_step(&mut self, wanted: &Wanted, step: &Step, line: u64) -> Put
         ensures { OnOk result (Follows (is_wanted wanted.now) self.old step.now line self.new) }
     {
         if let Event::Access(kind, _, site) = step.event {
@@ -93,26 +84,13 @@ impl Follower {
         Ok(())
     }
 
-    // Notes the place of an access.
-    fn note(
-        &mut self,
-        line: u64,
-        thread: ThreadId,
-        kind: Kind,
-        site: Site,
-    ) -> Result<(), AllocError>
+    fn note(&mut self, line: u64, thread: ThreadId, kind: Kind, site: Site) -> Put
         ensures threads { self.new.threads ≡ self.old.threads }
         ensures places { OnOk result ((l : ℕ) → place_in self.new.places l
             ≡ cond (nat_eq line l) (Some (record { line = line; thread = thread; kind = kind; site = site; held = (held_by self.old.threads thread).held; write_held = (held_by self.old.threads thread).write_held })) (place_in self.old.places l)) }
     {
         let held = self.threads.locks_of(self.alloc, thread)?;
-        let write_held = match self.threads.cover_of(self.alloc, thread, Kind::Write) {
-            Ok(locks) => locks,
-            Err(why) => {
-                drop(held);
-                return Err(why);
-            }
-        };
+        let write_held = self.threads.cover_of(self.alloc, thread, Kind::Write)?;
         let place = Place {
             line,
             thread,

@@ -22,11 +22,9 @@
 #![tactic(auto)]
 
 pub use finding::places_of_reports;
-pub use place::Place;
-pub use places::Places;
+pub use places::{Legend, Place, Places};
 
 mod finding;
 mod follower;
-mod place;
 mod places;
 mod wanted;

@@ -1,19 +1,33 @@
-//! `Places`, by line.
+//! Where accesses stood: `Place`, and `Places` by line.
 ghost use Rattle.std.specs.Prelude.{◌≡◌, ℕ, None, Some, option_copied, IfSome};
 ghost use Rattle.er_places.specs.Inner.Following.{AreNamed};
-ghost use Rattle.er_places.specs.Places.{HasPlaceNames, place_at, place_in};
+ghost use Rattle.er_places.specs.Places.{HasPlaceNames, no_names, place_at};
 ghost use Rattle.er_places.specs.Reasons.{access_place, fits, reason_place};
-ghost use Rattle.er_places.specs.Wanted.{same_kind};
-ghost use Rattle.er_trace.specs.Names.{no_names};
 
-use crate::Place;
-use er_event::{Kind, ThreadId};
+use er_event::{Kind, Lockset, Site, ThreadId};
 use er_keys::{HashKeys, NumberHasher};
 use er_report::Because;
 use er_trace::{Names, Trace};
 use std::alloc::Global;
 use std::collections::HashMap;
 use std::marker::Model;
+
+/// Where an access of a trace stood, and what its thread held.
+#[derive(Debug, PartialEq, Eq, Drop)]
+pub struct Place {
+    /// The line of the text, from 1.
+    pub line: u64,
+    /// Who made the access.
+    pub thread: ThreadId,
+    /// Whether it read or wrote.
+    pub kind: Kind,
+    /// Where in the program it stands.
+    pub site: Site,
+    /// The locks that the thread held then, in any mode.
+    pub held: Lockset,
+    /// Those of them that it held to write.
+    pub write_held: Lockset,
+}
 
 /// The places of some accesses, by the line of each, and the names of their numbers.
 #[derive(Drop)]
@@ -81,7 +95,15 @@ impl Places {
     }
 }
 
-// Whether the place is that of an access by this thread and of this kind.
+/// What the numbers of a report are called, and where the accesses of its reasons stood.
+#[derive(Clone, Copy)]
+pub struct Legend<'a> {
+    /// The names of the report's numbers.
+    pub names: &'a Names,
+    /// The places of accesses, as far as they are known. They have names of their own.
+    pub places: &'a Places,
+}
+
 fn fits(thread: ThreadId, kind: Kind, place: &Place) -> bool
     ensures { result ≡ fits thread kind place.now }
 {

@@ -14,7 +14,7 @@ use std::alloc::{AllocError, Global};
 use std::collections::{HashMap, HashSet};
 use std::marker::Model;
 
-type Put = Result<(), AllocError>;
+pub(crate) type Put = Result<(), AllocError>;
 
 /// The lines whose accesses are wanted.
 #[derive(Drop)]
@@ -31,8 +31,8 @@ impl Model for Wanted {
 }
 
 impl Wanted {
-    /// The lines of some races and those that their reasons name: of each site and kind the first race of each report, which is the one that people are shown. Of
-    /// a reuse it has the lines that its reasons name. Lines and sites are hashed by these keys.
+    /// The lines of the races that people are shown, which are the first of each site and kind in each report, and those that their reasons
+    /// name. Of a reuse only those that its reasons name. Lines and sites are hashed by these keys.
     pub(crate) fn of_reports(
         alloc: Global,
         keys: HashKeys,
@@ -75,7 +75,6 @@ impl Wanted {
         self.lines.contains(&line)
     }
 
-    // Adds the lines that a report asks about, if there is one.
     fn add_report(&mut self, alloc: Global, report: &Option<Report>) -> Put
         ensures { OnOk result ((line : ℕ) → is_wanted self.new line ≡ (is_wanted self.old line || asked_in report.now line)) }
     {
@@ -95,7 +94,7 @@ impl Wanted {
         Ok(())
     }
 
-    // Adds the line of a race and those that its reasons name, if it is the first of its site and kind. The sites are those of the races so far.
+    // The sites are those of the races so far.
     fn add_line(&mut self, sites: &mut HashSet<u64, NumberHasher>, line: &Line) -> Put
         ensures sites { OnOk result ((s : ℕ) (k : Kinds) → has_site sites.new.keys s k ≡ (has_site sites.old.keys s k || is_race_at s k line.now)) }
         ensures lines { OnOk result ((number : ℕ) → is_wanted self.new number ≡ (is_wanted self.old number || asks_unless (has_site sites.old.keys) number line.now)) }
@@ -119,7 +118,6 @@ impl Wanted {
         }
     }
 
-    // Adds the lines that these reasons name.
     fn add_lines(&mut self, reasons: &[Because]) -> Put
         ensures { OnOk result ((line : ℕ) → is_wanted self.new line ≡ (is_wanted self.old line || name_line reasons.now line)) }
     {

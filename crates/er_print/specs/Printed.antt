@@ -6,11 +6,9 @@ use Rattle.er_event.specs.Refusal.{text_of, refusal_of}
 use Rattle.er_event.specs.declared.refusals.NoRoom.{NoRoom}
 use Rattle.er_event.specs.declared.steps.Event.{Event}
 use Rattle.er_event.specs.declared.steps.Event.TheVariants.{Acquire, Release, Access, Reuse, IgnoreOn, IgnoreOff, Show, Level, Sync}
-use Rattle.er_event.specs.declared.steps.Sync.{Sync as SyncEvent}
 use Rattle.er_event.specs.declared.steps.Sync.TheVariants.{Start, Join, Signal, Await}
 use Rattle.er_event.specs.declared.steps.Kind.{Kind}
 use Rattle.er_event.specs.declared.steps.Kind.TheVariants as kind
-use Rattle.er_event.specs.declared.steps.Mode.{Mode}
 use Rattle.er_event.specs.declared.steps.Mode.TheVariants as mode
 use Rattle.er_event.specs.declared.steps.WordState.{WordState}
 use Rattle.er_event.specs.declared.steps.WordState.TheVariants.{Virgin, Exclusive, Shared, SharedModified}
@@ -30,6 +28,10 @@ use Rattle.er_print.specs.declared.lines.ReportKind.{ReportKind}
 use Rattle.er_print.specs.declared.lines.ReportKind.TheVariants.{Lockset, Unordered}
 use Rattle.er_print.specs.declared.styles.Style.TheVariants as style
 pub use Rattle.er_print.specs.Styles.{name_at}
+pub use Rattle.er_report.specs.Lines.{RacedView, line_view}
+pub use Rattle.er_report.specs.Names.{HasEventNames, HasLockNames, HasNames, HasRaceNames, HasReasonNames, HasStateNames}
+pub use Rattle.er_report.specs.Report.{told}
+pub use Rattle.er_report.specs.Reports.{HaveNames}
 
 -- so many lower-case hexadecimal digits, of which the last is the lowest
 unfoldable pub hex_digits : ℕ → ℕ → List ℕ
@@ -53,33 +55,28 @@ abbrev pub kind_text : Kind → List ℕ
 kind_text kind.Read = codes "read"
 kind_text kind.Write = codes "write"
 
--- the verbs of lock events, with the space before the lock
-abbrev pub acquire_text : Mode → List ℕ
-acquire_text mode.Write = codes "lock "
-acquire_text mode.Read = codes "rlock "
-
-abbrev pub release_text : Mode → List ℕ
-release_text mode.Write = codes "unlock "
-release_text mode.Read = codes "runlock "
-
--- the verbs of order events
-abbrev pub order_text : SyncEvent → List ℕ
-order_text (Start thread) = codes "start"
-order_text (Join thread) = codes "join"
-order_text (Signal object) = codes "signal"
-order_text (Await object) = codes "await"
+-- the verb of what a thread asked for
+abbrev pub event_verb : Event → List ℕ
+event_verb (Acquire lock mode.Write) = codes "lock"
+event_verb (Acquire lock mode.Read) = codes "rlock"
+event_verb (Release lock mode.Write) = codes "unlock"
+event_verb (Release lock mode.Read) = codes "runlock"
+event_verb IgnoreOn = codes "ignore-on"
+event_verb IgnoreOff = codes "ignore-off"
+event_verb (Access kind word site) = kind_text kind
+event_verb (Reuse range) = codes "reuse"
+event_verb (Show word) = codes "show"
+event_verb (Level level) = codes "level"
+event_verb (Sync (Start thread)) = codes "start"
+event_verb (Sync (Join thread)) = codes "join"
+event_verb (Sync (Signal object)) = codes "signal"
+event_verb (Sync (Await object)) = codes "await"
 
 -- what a thread asked for: the verb, and the lock of a lock event. Events that are never refused are their verbs alone
 abbrev pub event_text : NameTable → Event → List ℕ
-event_text names (Acquire lock mode) = acquire_text mode ++ lock_text names lock
-event_text names (Release lock mode) = release_text mode ++ lock_text names lock
-event_text names IgnoreOn = codes "ignore-on"
-event_text names IgnoreOff = codes "ignore-off"
-event_text names (Access kind word site) = kind_text kind
-event_text names (Reuse range) = codes "reuse"
-event_text names (Show word) = codes "show"
-event_text names (Level level) = codes "level"
-event_text names (Sync sync) = order_text sync
+event_text names (Acquire lock mode) = event_verb (Acquire lock mode) ++ codes " " ++ lock_text names lock
+event_text names (Release lock mode) = event_verb (Release lock mode) ++ codes " " ++ lock_text names lock
+event_text names event = event_verb event
 
 abbrev pub candidates_text : NameTable → List ℕ → List ℕ
 candidates_text names locks = codes ", candidates " ++ locks_text names locks

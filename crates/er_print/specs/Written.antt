@@ -1,8 +1,8 @@
 -- What writing a report leaves in the writer.
 use Rattle.std.specs.Prelude.{◌≡◌, ℕ, Bool, true, false, List, take, Option, Result, Ok, Err}
 use Rattle.std.specs.Io.KnownBytes.{Keeps, Appends}
-use Rattle.er_print.specs.declared.fault.WriteFault.{WriteFault}
-use Rattle.er_print.specs.declared.fault.WriteFault.TheVariants.{Memory, Write}
+use Rattle.er_print.specs.declared.report.WriteFault.{WriteFault}
+pub use Rattle.er_print.specs.declared.report.WriteFault.TheVariants.{Memory, Write}
 
 -- all of the text was written, or nothing for want of memory, or a prefix where a write failed
 abbrev pub WritesReport : {X : Type 0} → Option (List ℕ) → Option (List ℕ) → List ℕ → Result X WriteFault → Type 0

@@ -21,18 +21,14 @@
 //! ```
 #![tactic(auto)]
 
-pub use fault::{Put, WriteFault};
 pub use lines::{ReportKind, bytes_of, put_end, put_lost};
-pub use naming::{order_verb, verb};
-pub use numbers::{put_address, put_number};
+pub use naming::{event_verb, put_address, put_number, verb};
 pub use pieces::{Piece, put_all};
-pub use report::{report_text, reports_text, write_report, write_text};
+pub use report::{Built, Put, WriteFault, report_text, reports_text, write_report, write_text};
 pub use styles::{Style, comma_before, put_escaped, put_short, put_string};
 
-mod fault;
 mod lines;
 mod naming;
-mod numbers;
 mod pieces;
 mod report;
 mod styles;

@@ -1,18 +1,14 @@
 //! The lines of a report.
-ghost use Rattle.std.specs.Prelude.{◌≡◌, ◌++◌, All, decimal, flat_map, OnOk};
-ghost use Rattle.er_report.specs.Lines.{RacedView, line_view};
-ghost use Rattle.er_report.specs.Names.{HasNames, HasRaceNames, HasReasonNames};
-ghost use Rattle.er_report.specs.Report.{told};
-ghost use Rattle.er_print.specs.Printed.{bytes_between, deed_text, place_text, race_label, races_label, reason_text, line_text, stop_text, count_text, counts_text, lost_text, totals_text, end_text};
+ghost use Rattle.std.specs.Prelude.{◌≡◌, ◌<◌, [], ◌∷◌, ◌++◌, length, All, codes, decimal, flat_map, OnOk};
+ghost use Rattle.er_event.specs.Refusal.{text_of};
+ghost use Rattle.er_report.specs.declared.report.Deed.TheVariants as deed;
+ghost use Rattle.er_print.specs.Printed.{HasEventNames, event_text, kind_text, name_at, HasNames, HasRaceNames, HasReasonNames, RacedView, line_view, told, bytes_between, deed_text, place_text, race_label, races_label, reason_text, line_text, stop_text, count_text, counts_text, lost_text, totals_text, end_text};
 
-use crate::Put;
-use crate::numbers::put_number;
-use crate::pieces::Piece::{
-    Address, Event, Label, Locks, Name, NamedSite, Number, Site, State, Text, Thread, Verb,
-};
-use crate::pieces::put_all;
-use crate::styles::Style;
-use er_event::{NoRoom, PageRange, Word};
+use crate::naming::{put_address, put_event, put_number};
+use crate::pieces::Piece::{Address, Label, NamedSite, Number, State, Text, Thread, Verb};
+use crate::styles::{Style, put_locks_in, put_site_in};
+use crate::{Put, put};
+use er_event::{Kind, NoRoom, PageRange, Refusal, Step, ThreadId, Word};
 use er_report::{Because, Deed, Line, Race, Report};
 use er_trace::Names;
 
@@ -39,24 +35,13 @@ pub(crate) fn put_line(out: &mut Vec<u8>, of: ReportKind, names: &Names, line: &
             step,
             refusal,
         } => {
-            let pieces = [
-                Number(b"line ", *line),
-                Thread(b": refused: ", step.thread),
-                Event(b" ", &step.event),
-                Name(b": ", refusal.text().as_bytes()),
-                Text(b"\n"),
-            ];
-            put_all(out, Style::Plain, names, &pieces)
+            put_place(out, *line)?;
+            put_refused(out, names, step, *refusal)
         }
-        Line::Shown { line, word, state } => {
-            let pieces = [
-                Number(b"line ", *line),
-                Address(b": state ", *word),
-                State(b": ", state),
-                Text(b"\n"),
-            ];
-            put_all(out, Style::Plain, names, &pieces)
-        }
+        Line::Shown { line, word, state } => put!(out, Style::Plain, names;
+            Number(b"line ", *line), Address(b": state ", *word), State(b": ", state),
+            Text(b"\n")
+        ),
         _ => Ok(()),
     }
 }
@@ -71,37 +56,68 @@ fn put_race(out: &mut Vec<u8>, of: ReportKind, names: &Names, race: &Race<'_>) -
     put_reasons(out, names, race.explained)
 }
 
-// Puts what the thread of a race did.
 fn put_deed(out: &mut Vec<u8>, names: &Names, race: &Race<'_>) -> Put
     requires { HasRaceNames names.now race.now }
     ensures { OnOk result (out.new.items ≡ out.old.items ++ deed_text names.now race.now race.now.deed) }
 {
     match race.deed {
-        Deed::Access(kind, word) => {
-            let pieces = [
-                Thread(b"", race.thread),
-                Verb(b" ", kind),
-                Address(b" ", word),
-                Site(b" at ", race.site),
-                Locks(b", holds ", race.held),
-                Text(b"\n"),
-            ];
-            put_all(out, Style::Plain, names, &pieces)
-        }
-        Deed::Reuse(range) => {
-            let pieces = [
-                Thread(b"", race.thread),
-                Address(b" reuse ", range.lo),
-                Number(b" ", bytes_of(&range)),
-                NamedSite(b" at ", race.site),
-                Text(b"\n"),
-            ];
-            put_all(out, Style::Plain, names, &pieces)
-        }
+        Deed::Access(kind, word) => put_access(out, names, race, kind, word),
+        Deed::Reuse(range) => put!(out, Style::Plain, names;
+            Thread(b"", race.thread), Address(b" reuse ", range.lo),
+            Number(b" ", bytes_of(&range)), NamedSite(b" at ", race.site), Text(b"\n")
+        ),
     }
 }
 
-// Puts the lines of a race's reasons, one for each.
+// The commonest lines are put without a list of parts, which would cost as much again.
+#[inline]
+fn put_refused(out: &mut Vec<u8>, names: &Names, step: &Step, refusal: Refusal) -> Put
+    requires thread { step.now.thread < length names.now.threads }
+    requires event { HasEventNames names.now step.now.event }
+    ensures { OnOk result (out.new.items ≡ out.old.items ++ (codes "refused: " ++ name_at names.now.threads step.now.thread ++ codes " " ++ event_text names.now step.now.event ++ codes ": " ++ text_of refusal ++ 10 ∷ [])) }
+{
+    out.extend_from_slice(b"refused: ")?;
+    put_thread(out, names, step.thread)?;
+    out.extend_from_slice(b" ")?;
+    put_event(out, names, step.event)?;
+    out.extend_from_slice(b": ")?;
+    out.extend_from_slice(refusal.text().as_bytes())?;
+    out.extend_from_slice(b"\n")
+}
+
+#[inline]
+fn put_access(out: &mut Vec<u8>, names: &Names, race: &Race<'_>, kind: Kind, word: Word) -> Put
+    requires { HasRaceNames names.now race.now }
+    ensures { OnOk result (out.new.items ≡ out.old.items ++ deed_text names.now race.now (deed.Access kind word)) }
+{
+    put_thread(out, names, race.thread)?;
+    out.extend_from_slice(spaced_verb(kind))?;
+    put_address(out, word)?;
+    out.extend_from_slice(b" at ")?;
+    put_site_in(out, Style::Plain, names, race.site)?;
+    out.extend_from_slice(b", holds ")?;
+    put_locks_in(out, Style::Plain, names, race.held)?;
+    out.extend_from_slice(b"\n")
+}
+
+#[inline]
+fn put_thread(out: &mut Vec<u8>, names: &Names, thread: ThreadId) -> Put
+    requires { thread < length names.now.threads }
+    ensures { OnOk result (out.new.items ≡ out.old.items ++ name_at names.now.threads thread) }
+{
+    out.extend_from_slice(names.thread_name(thread).as_bytes())
+}
+
+// The verb of an access, between spaces.
+fn spaced_verb(kind: Kind) -> &'static [u8]
+    ensures { result.now ≡ codes " " ++ kind_text kind ++ codes " " }
+{
+    match kind {
+        Kind::Read => b" read ".as_slice(),
+        Kind::Write => b" write ".as_slice(),
+    }
+}
+
 fn put_reasons(out: &mut Vec<u8>, names: &Names, explained: &[Because]) -> Put
     requires { All (HasReasonNames names.now) explained.now }
     ensures { OnOk result (out.new.items ≡ out.old.items ++ flat_map (reason_text names.now) explained.now) }
@@ -112,7 +128,6 @@ fn put_reasons(out: &mut Vec<u8>, names: &Names, explained: &[Because]) -> Put
     Ok(())
 }
 
-// What a report of this kind calls a race.
 fn race_label(of: ReportKind) -> &'static [u8]
     ensures { result.now ≡ race_label of }
 {
@@ -129,19 +144,14 @@ pub fn bytes_of(range: &PageRange) -> u64
     (range.hi.number() - range.lo.number() + 1) * Word::BYTES
 }
 
-// Puts the line of one access that makes a race.
 fn put_reason(out: &mut Vec<u8>, names: &Names, because: &Because) -> Put
     requires { HasReasonNames names.now because.now }
     ensures { OnOk result (out.new.items ≡ out.old.items ++ reason_text names.now because.now) }
 {
-    let pieces = [
-        Label(b"  ", because.label),
-        Number(b": line ", because.line),
-        Thread(b", ", because.thread),
-        Verb(b" ", because.kind),
-        Text(b"\n"),
-    ];
-    put_all(out, Style::Plain, names, &pieces)
+    put!(out, Style::Plain, names;
+        Label(b"  ", because.label), Number(b": line ", because.line),
+        Thread(b", ", because.thread), Verb(b" ", because.kind), Text(b"\n")
+    )
 }
 
 /// Puts what a report ends with: the stop, the rules and the totals.
@@ -153,7 +163,6 @@ pub fn put_end(out: &mut Vec<u8>, of: ReportKind, report: &Report) -> Put
     put_totals(out, of, report)
 }
 
-// Puts the line of the stop, if there is one.
 fn put_stop(out: &mut Vec<u8>, stop: Option<(u64, NoRoom)>) -> Put
     ensures { OnOk result (out.new.items ≡ out.old.items ++ stop_text stop) }
 {
@@ -185,7 +194,6 @@ fn put_rule_count(out: &mut Vec<u8>, number: u64, count: u64) -> Put
     Ok(())
 }
 
-// Puts the line of totals.
 fn put_totals(out: &mut Vec<u8>, of: ReportKind, report: &Report) -> Put
     ensures { OnOk result (out.new.items ≡ out.old.items ++ totals_text of (told report.now)) }
 {
@@ -198,7 +206,6 @@ fn put_totals(out: &mut Vec<u8>, of: ReportKind, report: &Report) -> Put
     Ok(())
 }
 
-// What its totals call its races.
 fn races_label(of: ReportKind) -> &'static [u8]
     ensures { result.now ≡ races_label of }
 {
@@ -222,7 +229,6 @@ pub fn put_lost(out: &mut Vec<u8>, before: &[u8], lost: Option<u64>, after: &[u8
     }
 }
 
-// Puts a number behind a label.
 #[inline]
 fn put_labelled(out: &mut Vec<u8>, label: &[u8], n: u64) -> Put
     ensures { OnOk result (out.new.items ≡ out.old.items ++ (label.now ++ decimal n)) }

@@ -1,12 +1,30 @@
-//! What a step or a state says, and the verbs of steps.
-ghost use Rattle.std.specs.Prelude.{◌≡◌, ◌++◌, OnOk};
-ghost use Rattle.er_report.specs.Names.{HasLockNames, HasEventNames, HasStateNames};
-ghost use Rattle.er_print.specs.Printed.{kind_text, acquire_text, release_text, event_text, order_text, candidates_text, state_text};
+//! Numbers, events and states as text. Each is put behind the bytes that are there, with no text of its own in memory.
+ghost use Rattle.std.specs.Prelude.{◌≡◌, ◌++◌, ◌<◌, OnOk, decimal};
+ghost use Rattle.std.specs.Char.{digit_char};
+ghost use Rattle.er_print.specs.Printed.{HasEventNames, HasLockNames, HasStateNames, address_text, candidates_text, event_text, event_verb, hex_digits, kind_text, state_text};
 
 use crate::Put;
 use crate::styles::{Style, put_lock_in, put_locks_in};
-use er_event::{Event, Kind, Lockset, Mode, Sync, WordState};
+use er_event::{Event, Kind, Lockset, Mode, Sync, Word, WordState};
 use er_trace::Names;
+use itoa::Buffer;
+
+/// Puts a number in decimal, without leading zeros.
+#[inline]
+pub fn put_number(out: &mut Vec<u8>, n: u64) -> Put
+    ensures { OnOk result (out.new.items ≡ out.old.items ++ decimal n) }
+{
+    let mut digits = Buffer::new();
+    out.extend_from_slice(digits.format(n).as_bytes())
+}
+
+/// Puts the address of the word's first byte.
+pub fn put_address(out: &mut Vec<u8>, word: Word) -> Put
+    ensures { OnOk result (out.new.items ≡ out.old.items ++ address_text word) }
+{
+    out.extend_from_slice(b"0x")?;
+    put_hex(out, 12, word.address())
+}
 
 /// The verb of an access.
 pub fn verb(kind: Kind) -> &'static [u8]
@@ -18,57 +36,40 @@ pub fn verb(kind: Kind) -> &'static [u8]
     }
 }
 
+/// The verb of what a thread asked for.
+pub fn event_verb(event: Event) -> &'static [u8]
+    ensures { result.now ≡ event_verb event }
+{
+    match event {
+        Event::Acquire(_, Mode::Write) => b"lock".as_slice(),
+        Event::Acquire(_, Mode::Read) => b"rlock".as_slice(),
+        Event::Release(_, Mode::Write) => b"unlock".as_slice(),
+        Event::Release(_, Mode::Read) => b"runlock".as_slice(),
+        Event::IgnoreOn => b"ignore-on".as_slice(),
+        Event::IgnoreOff => b"ignore-off".as_slice(),
+        Event::Access(kind, _, _) => verb(kind),
+        Event::Reuse(_) => b"reuse".as_slice(),
+        Event::Show(_) => b"show".as_slice(),
+        Event::Level(_) => b"level".as_slice(),
+        Event::Sync(Sync::Start(_)) => b"start".as_slice(),
+        Event::Sync(Sync::Join(_)) => b"join".as_slice(),
+        Event::Sync(Sync::Signal(_)) => b"signal".as_slice(),
+        Event::Sync(Sync::Await(_)) => b"await".as_slice(),
+    }
+}
+
 /// Puts the verb of an event, and the lock of a lock event.
 pub(crate) fn put_event(out: &mut Vec<u8>, names: &Names, event: Event) -> Put
     requires { HasEventNames names.now event }
     ensures { OnOk result (out.new.items ≡ out.old.items ++ event_text names.now event) }
 {
-    match event {
-        Event::Acquire(lock, mode) => {
-            out.extend_from_slice(acquire_verb(mode))?;
-            put_lock_in(out, Style::Plain, names, lock)
+    out.extend_from_slice(event_verb(event))?;
+    match &event {
+        Event::Acquire(lock, _) | Event::Release(lock, _) => {
+            out.extend_from_slice(b" ")?;
+            put_lock_in(out, Style::Plain, names, *lock)
         }
-        Event::Release(lock, mode) => {
-            out.extend_from_slice(release_verb(mode))?;
-            put_lock_in(out, Style::Plain, names, lock)
-        }
-        Event::IgnoreOn => out.extend_from_slice(b"ignore-on"),
-        Event::IgnoreOff => out.extend_from_slice(b"ignore-off"),
-        Event::Access(kind, _, _) => out.extend_from_slice(verb(kind)),
-        Event::Reuse(_) => out.extend_from_slice(b"reuse"),
-        Event::Show(_) => out.extend_from_slice(b"show"),
-        Event::Level(_) => out.extend_from_slice(b"level"),
-        Event::Sync(sync) => out.extend_from_slice(order_verb(sync)),
-    }
-}
-
-/// The verb of an event that orders threads.
-pub fn order_verb(sync: Sync) -> &'static [u8]
-    ensures { result.now ≡ order_text sync }
-{
-    match sync {
-        Sync::Start(_) => b"start".as_slice(),
-        Sync::Join(_) => b"join".as_slice(),
-        Sync::Signal(_) => b"signal".as_slice(),
-        Sync::Await(_) => b"await".as_slice(),
-    }
-}
-
-fn acquire_verb(mode: Mode) -> &'static [u8]
-    ensures { result.now ≡ acquire_text mode }
-{
-    match mode {
-        Mode::Write => b"lock ".as_slice(),
-        Mode::Read => b"rlock ".as_slice(),
-    }
-}
-
-fn release_verb(mode: Mode) -> &'static [u8]
-    ensures { result.now ≡ release_text mode }
-{
-    match mode {
-        Mode::Write => b"unlock ".as_slice(),
-        Mode::Read => b"runlock ".as_slice(),
+        _ => Ok(()),
     }
 }
 
@@ -100,4 +101,27 @@ fn put_candidates(out: &mut Vec<u8>, names: &Names, locks: &Lockset) -> Put
 {
     out.extend_from_slice(b", candidates ")?;
     put_locks_in(out, Style::Plain, names, locks.as_slice())
+}
+
+// Puts so many hexadecimal digits, of which the last is the lowest.
+fn put_hex(out: &mut Vec<u8>, count: u32, n: u64) -> Put
+    ensures { OnOk result (out.new.items ≡ out.old.items ++ hex_digits count n) }
+{
+    if count == 0 {
+        return Ok(());
+    }
+    put_hex(out, count - 1, n / 16)?;
+    out.push(hex_digit(n % 16))?;
+    Ok(())
+}
+
+fn hex_digit(digit: u64) -> u8
+    requires { digit < 16 }
+    ensures { result ≡ digit_char digit }
+{
+    if digit < 10 {
+        b'0' + digit as u8
+    } else {
+        b'a' + (digit as u8 - 10)
+    }
 }

@@ -4,8 +4,7 @@ ghost use Rattle.er_print.specs.Inner.Joined.{joined_text};
 ghost use Rattle.er_print.specs.Pieces.{HasPieceName, HavePieceNames, before_of, piece_text, pieces_text, value_text};
 
 use crate::Put;
-use crate::naming::{put_event, put_state, verb};
-use crate::numbers::{put_address, put_number};
+use crate::naming::{put_address, put_event, put_number, put_state, verb};
 use crate::styles::{
     Style, put_label_in, put_lock_in, put_locks_in, put_name, put_named_site, put_site_in,
 };
@@ -54,6 +53,15 @@ pub fn put_all(out: &mut Vec<u8>, style: Style, names: &Names, pieces: &[Piece<'
         put_piece(out, style, names, piece)?;
     }
     Ok(())
+}
+
+/// Puts these parts of a text, as [`put_all`] does.
+#[macro_export]
+macro_rules! put {
+    ($out:expr, $style:expr, $names:expr; $($piece:expr),+ $(,)?) => {{
+        let pieces = [$($piece),+];
+        $crate::put_all($out, $style, $names, &pieces)
+    }};
 }
 
 fn put_piece(out: &mut Vec<u8>, style: Style, names: &Names, piece: &Piece<'_>) -> Put

@@ -1,20 +1,30 @@
-//! Whole reports.
+//! Whole reports, and why one was not written.
 ghost use Rattle.std.specs.Prelude.{◌≡◌, ◌++◌, ℕ, List, All, Err, IfErr, IfOk, IfSome, OnOk, false};
 ghost use Rattle.er_device.specs.Device.{inner_of, has_failed, taken_of};
-ghost use Rattle.er_report.specs.Names.{HasNames};
-ghost use Rattle.er_report.specs.Report.{told};
-ghost use Rattle.er_report.specs.Reports.{HaveNames};
-ghost use Rattle.er_print.specs.Printed.{report_text, reports_text, text_if_there, text_of_report};
-ghost use Rattle.er_print.specs.declared.fault.WriteFault.TheVariants.{Memory};
-ghost use Rattle.er_print.specs.Written.{WritesReport, FailsWriting};
+ghost use Rattle.er_print.specs.Printed.{HasNames, HaveNames, report_text, reports_text, text_if_there, text_of_report, told};
+ghost use Rattle.er_print.specs.Written.{FailsWriting, Memory, WritesReport};
 
 use crate::lines::{ReportKind, put_end, put_line};
-use crate::{Put, WriteFault};
 use er_device::Device;
 use er_report::{Report, Reports};
 use er_trace::Names;
 use std::alloc::{AllocError, Global};
 use std::io::Write;
+
+/// What a call returns that puts bytes behind others.
+pub type Put = Result<(), AllocError>;
+
+/// What a call returns that builds a text whole.
+pub type Built = Result<Vec<u8>, AllocError>;
+
+/// Why a report was not written in full.
+#[derive(Clone, Copy, Debug, PartialEq, Eq)]
+pub enum WriteFault {
+    /// No memory for the text. Nothing was written.
+    Memory,
+    /// The writer failed. A prefix of the text was written.
+    Write,
+}
 
 /// Writes a report of the lockset rule, with these names for its numbers. The text is whole before its first byte is written.
 pub fn write_report<W: Write>(
@@ -33,10 +43,7 @@ pub fn write_report<W: Write>(
 }
 
 /// Writes a text, unless there was no memory for it.
-pub fn write_text<W: Write>(
-    writer: &mut Device<W>,
-    text: Result<Vec<u8>, AllocError>,
-) -> Result<(), WriteFault>
+pub fn write_text<W: Write>(writer: &mut Device<W>, text: Built) -> Result<(), WriteFault>
     requires open { has_failed writer.old ≡ false }
     ensures bytes { (bytes : List ℕ) → IfOk text (λ text. text.items ≡ bytes) → WritesReport (W.contents (inner_of writer.old)) (W.contents (inner_of writer.new)) bytes result }
     ensures memory { IfErr text (λ why. result ≡ Err Memory) }
@@ -53,7 +60,7 @@ pub fn write_text<W: Write>(
 }
 
 /// The text of a report of the lockset rule, with these names for its numbers.
-pub fn report_text(alloc: Global, report: &Report, names: &Names) -> Result<Vec<u8>, AllocError>
+pub fn report_text(alloc: Global, report: &Report, names: &Names) -> Built
     requires { All (HasNames names.now) report.now.lines.items }
     ensures { IfOk result (λ text. text.items ≡ report_text names.now (told report.now)) }
 {
@@ -64,7 +71,7 @@ pub fn report_text(alloc: Global, report: &Report, names: &Names) -> Result<Vec<
 
 /// The texts of the reports that there are, one behind the other, with these names for their numbers.
 #[tactic(auto, unfolding(crate::specs::Printed::reports_text))]
-pub fn reports_text(alloc: Global, reports: &Reports, names: &Names) -> Result<Vec<u8>, AllocError>
+pub fn reports_text(alloc: Global, reports: &Reports, names: &Names) -> Built
     requires { HaveNames names.now reports.now }
     ensures { IfOk result (λ text. text.items ≡ reports_text names.now reports.now) }
 {
@@ -74,7 +81,6 @@ pub fn reports_text(alloc: Global, reports: &Reports, names: &Names) -> Result<V
     Ok(text)
 }
 
-// Puts the text of a report, if it is there.
 fn put_if_there(out: &mut Vec<u8>, of: ReportKind, report: &Option<Report>, names: &Names) -> Put
     requires { IfSome report.now (λ report. All (HasNames names.now) report.lines.items) }
     ensures { OnOk result (out.new.items ≡ out.old.items ++ text_if_there of names.now report.now) }
@@ -85,7 +91,6 @@ fn put_if_there(out: &mut Vec<u8>, of: ReportKind, report: &Option<Report>, name
     }
 }
 
-// Puts the text of a report.
 #[tactic(auto, unfolding(crate::specs::Printed::text_of_report))]
 fn put_report(out: &mut Vec<u8>, of: ReportKind, report: &Report, names: &Names) -> Put
     requires { All (HasNames names.now) report.now.lines.items }

@@ -5,7 +5,7 @@ ghost use Rattle.er_print.specs.Values.{between_text, comma_before};
 ghost use Rattle.er_report.specs.Names.{HasLabelName, HasLockName, HasLockNames};
 
 use crate::Put;
-use crate::numbers::put_number;
+use crate::naming::put_number;
 use er_event::{LockId, Site};
 use er_report::Label;
 use er_trace::Names;
@@ -169,7 +169,6 @@ fn put_spaced(out: &mut Vec<u8>, style: Style, names: &Names, locks: &[LockId]) 
     put_between(out, b' ', style, names, locks)
 }
 
-// Puts locks with this sign between them.
 fn put_between(out: &mut Vec<u8>, sign: u8, style: Style, names: &Names, locks: &[LockId]) -> Put
     requires { HasLockNames names.now locks.now }
     ensures { OnOk result (out.new.items ≡ out.old.items ++ between_text sign (lock_in style names.now) locks.now) }

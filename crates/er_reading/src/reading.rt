@@ -33,10 +33,10 @@ const PIECE_BYTES: usize = 65_536;
 /// How many lines are read before those that are cut into pieces. The header is mostly among them.
 const FIRST_LINES: u32 = 64;
 
-/// How many lines a batch has if there is one thread.
+/// How many lines a batch has if one thread reads and answers.
 const LINES_OF_ONE: u32 = 1_024;
 
-/// How many lines a batch has if there are several threads and the lines can't be read in pieces.
+/// How many lines a batch has if there are several threads and the lines aren't read in pieces.
 const BATCH_LINES: u32 = 131_072;
 
 /// A reader of a trace text that gives its steps batch by batch, and reads each batch by several threads.
@@ -47,6 +47,7 @@ const BATCH_LINES: u32 = 131_072;
 pub struct PieceReader {
     lines: TraceReader,
     pieces: Vec<Piece>,
+    is_alone: bool,
 }
 
 impl Model for PieceReader {
@@ -61,16 +62,17 @@ impl Model for PieceReader {
 }
 
 impl PieceReader {
-    /// A reader in front of a text of at most `limit` bytes, which reads by so many threads, 1 to 16. One thread reads line by line, and makes no
-    /// pieces. Names are hashed by these keys.
+    /// A reader in front of a text of at most `limit` bytes, which reads by `readers` threads, 1 to 16. One thread reads line by line, and makes no
+    /// pieces. Its batches are small if it is alone, so that they stay in the cache, and large if others answer them. Names are hashed by these keys.
     pub fn new(
         alloc: Global,
         limit: u64,
         keys: NameKeys,
-        workers: u32,
+        readers: u32,
+        is_alone: bool,
     ) -> Result<PieceReader, AllocError>
         requires limit { limit ≤ 2 ^ 62 }
-        requires workers { (1 ≤ workers) × (workers ≤ 16) }
+        requires readers { (1 ≤ readers) × (readers ≤ 16) }
         ensures limit { IfOk result (λ r. r.place.limit ≡ limit) }
         ensures number { IfOk result (λ r. r.place.number ≡ 1) }
         ensures start { IfOk result (λ r. r.place.start ≡ 0) }
@@ -78,17 +80,21 @@ impl PieceReader {
         ensures tail { IfOk result (λ r. r.tail ≡ no_tail) }
         ensures starts { IfOk result (λ r. (text : List ℕ) → HasRead text [] [] [] r (Some text) no_steps) }
     {
-        let size = if workers == 1 {
+        let size = if readers == 1 {
             LINE_WINDOW_BYTES
         } else {
             WINDOW_BYTES
         };
         let lines = TraceReader::with_window(alloc, limit, size)?;
-        let mut pieces = Vec::with_capacity(alloc, workers as usize)?;
-        for _ in 0..workers {
+        let mut pieces = Vec::with_capacity(alloc, readers as usize)?;
+        for _ in 0..readers {
             pieces.push_reserved(Piece::new(alloc, keys));
         }
-        Ok(PieceReader { lines, pieces })
+        Ok(PieceReader {
+            lines,
+            pieces,
+            is_alone,
+        })
     }
 
     /// Reads the whole lines that were read ahead by several threads, and adds what they say. Says whether it came to their end: it doesn't
@@ -157,7 +163,12 @@ impl PieceReader {
         ensures most { taken_by self.new.place ≤ self.new.place.limit + bytes_past_limit }
     {
         if self.pieces.len() == 1 {
-            return self.lines.next_batch(reader, trace, LINES_OF_ONE);
+            let most_lines = if self.is_alone {
+                LINES_OF_ONE
+            } else {
+                BATCH_LINES
+            };
+            return self.lines.next_batch(reader, trace, most_lines);
         }
         match self.lines.next_batch(reader, trace, FIRST_LINES)? {
             Batch::End => return Ok(Batch::End),

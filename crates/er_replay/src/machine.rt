@@ -20,7 +20,7 @@ use std::alloc::{AllocError, Global};
 use std::marker::Model;
 use std::sync::Wait;
 
-/// Each thread's holdings and each word's state (section 3 of the 1997 paper has the words' part).
+/// Each thread's holdings and each word's state.
 #[derive(Drop)]
 pub struct Machine<'t> {
     threads: Threads,
@@ -62,7 +62,7 @@ impl<'t> Machine<'t> {
         Ok(Machine { threads, words })
     }
 
-    /// Takes one step and says what it is answered (sections 2 and 3 of the 1997 paper).
+    /// Takes one step and says what it is answered.
     // Two loops take steps. A call at each step would add 3 % to a replay.
     #[inline(always)]
     pub fn step<R: Wait>(&mut self, rt: &R, step: Step) -> Result<Reply, Refusal>
@@ -245,7 +245,7 @@ impl<'t> Machine<'t> {
         self.threads.get(thread)
     }
 
-    /// What is known of a word (section 3 of the 1997 paper).
+    /// What is known of a word.
     pub fn state_of(&self, word: Word) -> Result<WordState, AllocError>
         ensures { (past : List Steps) → Stands self.now past → IfOk result (λ state. state ≡ state_end past word) }
     {

@@ -6,7 +6,7 @@ use Rattle.er_report.specs.declared.reports.Analysis.TheVariants.{Lockset}
 use Rattle.er_report.specs.declared.reports.Form.TheVariants.{Text}
 use Rattle.er_request.specs.declared.request.Replay.{Replay as Replaying}
 use Rattle.er_request.specs.declared.request.Request.{Request}
-use Rattle.er_request.specs.declared.request.Request.TheVariants.{Replay, Explain, Demo}
+use Rattle.er_request.specs.declared.request.Request.TheVariants.{Replay, Explain, Print, Demo}
 
 -- one of the words is this option
 abbrev pub names : {A : Type 0} → List ℕ → List (String A) → Bool
@@ -20,6 +20,7 @@ names_until_fault words = names (codes "--until-fault") words
 abbrev pub asks_until_fault : Request → Bool
 asks_until_fault (Replay replay) = replay.until_fault
 asks_until_fault (Explain explain) = false
+asks_until_fault (Print trace) = false
 asks_until_fault (Demo demo) = false
 
 -- one of the words is `--progress`
@@ -30,6 +31,7 @@ names_progress words = names (codes "--progress") words
 abbrev pub asks_progress : Request → Bool
 asks_progress (Replay replay) = replay.progress
 asks_progress (Explain explain) = false
+asks_progress (Print trace) = false
 asks_progress (Demo demo) = false
 
 -- one of the words is `--hints`
@@ -40,12 +42,21 @@ names_hints words = names (codes "--hints") words
 abbrev pub asks_hints : Request → Bool
 asks_hints (Replay replay) = replay.hints
 asks_hints (Explain explain) = false
+asks_hints (Print trace) = false
 asks_hints (Demo demo) = false
 
--- behind the program's name stand `replay` and `-` alone
+-- behind the program's name stand this command and `-` alone
+abbrev pub takes_input : {A : Type 0} → List ℕ → List (String A) → Bool
+takes_input command (program ∷ first ∷ trace ∷ []) = bytes_eq (string_bytes first) command && bytes_eq (string_bytes trace) (codes "-")
+takes_input command words = false
+
+-- they are `replay` and `-`
 abbrev pub replays_input : {A : Type 0} → List (String A) → Bool
-replays_input (program ∷ command ∷ trace ∷ []) = bytes_eq (string_bytes command) (codes "replay") && bytes_eq (string_bytes trace) (codes "-")
-replays_input words = false
+replays_input words = takes_input (codes "replay") words
+
+-- they are `print` and `-`
+abbrev pub prints_input : {A : Type 0} → List (String A) → Bool
+prints_input words = takes_input (codes "print") words
 
 -- a trace of at most so many bytes is replayed, if no other limit is given: 256 MiB
 abbrev pub usual_limit : ℕ
@@ -72,4 +83,12 @@ pub record IsUsual (replay : Replaying) : Type 0 where
 abbrev pub asks_usual : Request → Type 0
 asks_usual (Replay replay) = IsUsual replay × (replay.hints ≡ false)
 asks_usual (Explain explain) = ⊥
+asks_usual (Print trace) = ⊥
 asks_usual (Demo demo) = ⊥
+
+-- the text that the standard input means is to be written
+abbrev pub asks_print : Request → Type 0
+asks_print (Replay replay) = ⊥
+asks_print (Explain explain) = ⊥
+asks_print (Print trace) = trace.now ≡ codes "-"
+asks_print (Demo demo) = ⊥

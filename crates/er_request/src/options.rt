@@ -30,6 +30,8 @@ enum Shape {
     Values(&'static str, ValueParser<'static>),
     // A value that must be given, without an option's name before it.
     Word(&'static str, ValueParser<'static>),
+    // The same, with the value that it has if it isn't given.
+    DefaultWord(&'static str, ValueParser<'static>, &'static str),
 }
 
 // An option, or a word that must be given, and the option that it can't be used with.
@@ -72,6 +74,9 @@ const EXPLAIN: [Row; 3] = [
     Row { name: "line", shape: Shape::Word("LINE", ValueParser::Unsigned(0, u64::MAX)), without: None, help: "The line of the trace that the step stands on, from 1" },
     Row { name: "trace", shape: Shape::Word("TRACE", ValueParser::String), without: None, help: "The trace, or - for standard input" },
 ];
+
+#[rattlefmt::skip]
+const PRINT: [Row; 1] = [Row { name: "trace", shape: Shape::DefaultWord("TRACE", ValueParser::String, "-"), without: None, help: "The trace, or - for standard input" }];
 
 #[rattlefmt::skip]
 const DEMO: [Row; 1] = [Row { name: "name", shape: Shape::Word("NAME", ValueParser::Names(&DEMOS)), without: None, help: "What the threads do" }];
@@ -129,9 +134,10 @@ struct Part {
 }
 
 #[rattlefmt::skip]
-static PARTS: [Part; 3] = [
+static PARTS: [Part; 4] = [
     Part { name: "replay", about: "Replay a trace and report its races", after: None, rows: &REPLAY },
     Part { name: "explain", about: "Say why one step is a race or not, by the story of its word", after: Some(AFTER_EXPLAIN), rows: &EXPLAIN },
+    Part { name: "print", about: "Write the text of a trace, also of a binary one", after: None, rows: &PRINT },
     Part { name: "demo", about: "Run threads that call the detector, and print how many steps and races they made", after: None, rows: &DEMO },
 ];
 
@@ -174,6 +180,9 @@ fn argument_of<'a>(alloc: Global, row: Row) -> Result<Arg<'a>, AllocError> {
             .long(row.name)
             .action(ArgAction::Append),
         Shape::Word(value, takes) => with_value(named, value, takes).required(true),
+        Shape::DefaultWord(value, takes, default) => {
+            with_value(named, value, takes).default_value(default)
+        }
     };
     match row.without {
         Some(other) => argument.conflicts_with(other),

@@ -52,6 +52,7 @@ fn request_of<'a>(alloc: Global, all: &ArgMatches<'a>) -> Result<Option<Request<
             replay_of(found, suppressions.to_vec(alloc)?)
         }
         Some(("explain", found)) => explain_of(found),
+        Some(("print", found)) => found.get_str("trace").map(Request::Print),
         Some(("demo", found)) => demo_of(found),
         _ => None,
     })

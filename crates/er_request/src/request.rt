@@ -10,6 +10,8 @@ pub enum Request<'a> {
     Replay(Replay<'a>),
     /// The story of one step of a trace.
     Explain(Explain<'a>),
+    /// The text that a trace means. It has the path of the trace, or `-` for standard input.
+    Print(&'a str),
     /// A workload on threads of this program.
     Demo(Demo),
 }

@@ -1,6 +1,6 @@
 //! What the words of a command line ask for.
 ghost use Rattle.std.specs.Prelude.{◌≡◌, false, true, IfOk, IsOk};
-ghost use Rattle.er_request.specs.Words.{IsUsual, asks_hints, asks_progress, asks_until_fault, asks_usual, names, names_hints, names_progress, names_until_fault, replays_input, usual_limit};
+ghost use Rattle.er_request.specs.Words.{IsUsual, asks_hints, asks_print, asks_progress, asks_until_fault, asks_usual, names, names_hints, names_progress, names_until_fault, prints_input, replays_input, takes_input, usual_limit};
 
 use crate::reading::read_by_parser;
 use crate::request::{Replay, Request};
@@ -9,27 +9,32 @@ use er_report::{Analysis, Form};
 use std::alloc::Global;
 
 /// Reads a command line, of which the first word is the program's name. Steps before a fault are asked for only if a word asks for them,
-/// and so are how far a replay has come, and what helps people. `replay -` is read here, and what it asks for is proved. All other words are
-/// left to the parser.
+/// and so are how far a replay has come, and what helps people. `replay -` and `print -` are read here, and what they ask for is proved. All other
+/// words are left to the parser.
 pub fn read_request<'a>(alloc: Global, words: &'a [String]) -> Result<Request<'a>, Error>
     ensures until_fault { IfOk result (λ request. asks_until_fault request ≡ true → names_until_fault words.now ≡ true) }
     ensures progress { IfOk result (λ request. asks_progress request ≡ true → names_progress words.now ≡ true) }
     ensures hints { IfOk result (λ request. asks_hints request ≡ true → names_hints words.now ≡ true) }
     ensures usual { replays_input words.now ≡ true → IsOk result }
     ensures asks { replays_input words.now ≡ true → IfOk result asks_usual }
+    ensures prints { prints_input words.now ≡ true → IsOk result × IfOk result asks_print }
 {
-    if replays_input(words) {
+    if takes_input(words, "print") {
+        return Ok(Request::Print("-"));
+    }
+    if takes_input(words, "replay") {
         return Ok(Request::Replay(usual_replay(alloc)));
     }
     let request = read_by_parser(alloc, words)?;
     Ok(if_named(request, words))
 }
 
-fn replays_input(words: &[String]) -> bool
-    ensures { result ≡ replays_input words.now }
+// Whether the words are this command and `-`.
+fn takes_input(words: &[String], command: &str) -> bool
+    ensures { result ≡ takes_input command.now words.now }
 {
     match words {
-        [_, command, trace] => command.as_str() == "replay" && trace.as_str() == "-",
+        [_, first, trace] => first.as_str() == command && trace.as_str() == "-",
         _ => false,
     }
 }

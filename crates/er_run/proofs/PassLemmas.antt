@@ -13,8 +13,8 @@ use Rattle.er_report.specs.declared.report.Report.{Report}
 use Rattle.er_report.specs.declared.reports.Analysis.{Analysis}
 use Rattle.er_report.specs.declared.reports.Analysis.TheVariants.{Lockset, HappensBefore, Both}
 use Rattle.er_parallel.specs.Faults.{MayFail}
-use Rattle.er_parallel.specs.declared.faults.ReplayFault.{ReplayFault}
-use Rattle.er_parallel.specs.declared.faults.ReplayFault.TheVariants as replaying
+use Rattle.er_parallel.specs.declared.config.ReplayFault.{ReplayFault}
+use Rattle.er_parallel.specs.declared.config.ReplayFault.TheVariants as replaying
 use Rattle.er_run.specs.Faults.{IsFaultOfText, StopsFor, fault_of, fault_of_room, fault_of_stop}
 use Rattle.er_run.specs.Inner.Inspected.{IsInspected}
 use Rattle.er_run.specs.Inner.Outcomes.{AreBuilt, IsRunBuilt}

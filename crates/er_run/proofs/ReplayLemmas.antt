@@ -5,7 +5,7 @@ use Rattle.er_batch.specs.declared.verdict.Verdict.{Verdict}
 use Rattle.er_batch.specs.declared.verdict.Verdict.TheVariants as verdict
 use Rattle.er_journal.specs.declared.answers.Stopped.{Stopped}
 use Rattle.er_print.specs.Printed.{report_text}
-use Rattle.er_print.specs.declared.fault.WriteFault.TheVariants as writing
+use Rattle.er_print.specs.declared.report.WriteFault.TheVariants as writing
 use Rattle.er_report.specs.Report.{told as summary, Summary}
 use Rattle.er_report.specs.declared.report.Report.{Report}
 use Rattle.er_report.specs.declared.reports.Analysis.TheVariants.{Lockset}

@@ -8,8 +8,8 @@ use Rattle.er_text.specs.Batches.{joined}
 use Rattle.er_damage.specs.Damaged.{IsDamageOf, has_damage, no_damage}
 use Rattle.er_damage.specs.Standing.{Inspected, StandsFor}
 use Rattle.er_damage.specs.declared.damage.Damage.{Damage}
-use Rattle.er_parallel.specs.declared.faults.ReplayFault.{ReplayFault}
-use Rattle.er_parallel.specs.declared.faults.ReplayFault.TheVariants as replaying
+use Rattle.er_parallel.specs.declared.config.ReplayFault.{ReplayFault}
+use Rattle.er_parallel.specs.declared.config.ReplayFault.TheVariants as replaying
 use Rattle.er_run.specs.Faults.{fault_of}
 use Rattle.er_run.specs.Inner.Inspected.{HaveSeen, IsInspected, HasFound}
 use Rattle.er_run.specs.Faults.{IsNoDamage}

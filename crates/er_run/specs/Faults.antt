@@ -12,9 +12,9 @@ use Rattle.er_event.specs.declared.refusals.NoRoom.{NoRoom}
 use Rattle.er_event.specs.declared.refusals.NoRoom.TheVariants as room
 use Rattle.er_journal.specs.declared.answers.Stopped.{Stopped}
 use Rattle.er_parallel.specs.Faults.{AsksForSet}
-use Rattle.er_parallel.specs.declared.faults.ReplayFault.{ReplayFault}
-use Rattle.er_parallel.specs.declared.faults.ReplayFault.TheVariants as replaying
-use Rattle.er_print.specs.declared.fault.WriteFault.TheVariants as writing
+use Rattle.er_parallel.specs.declared.config.ReplayFault.{ReplayFault}
+use Rattle.er_parallel.specs.declared.config.ReplayFault.TheVariants as replaying
+use Rattle.er_print.specs.declared.report.WriteFault.TheVariants as writing
 use Rattle.er_report.specs.Reports.{asks_order}
 use Rattle.er_report.specs.declared.reports.Analysis.{Analysis}
 use Rattle.er_report.specs.declared.reports.Analysis.TheVariants.{Lockset, HappensBefore, Both}

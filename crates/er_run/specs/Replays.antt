@@ -6,7 +6,7 @@ use Rattle.er_batch.specs.declared.verdict.Verdict.{Verdict}
 use Rattle.er_batch.specs.declared.verdict.Verdict.TheVariants as verdict
 use Rattle.er_journal.specs.declared.answers.Stopped.{Stopped}
 use Rattle.er_print.specs.Printed.{report_text}
-use Rattle.er_print.specs.declared.fault.WriteFault.TheVariants as writing
+use Rattle.er_print.specs.declared.report.WriteFault.TheVariants as writing
 use Rattle.er_report.specs.Report.{report_of}
 use Rattle.er_report.specs.declared.reports.Analysis.TheVariants.{Lockset}
 use Rattle.er_rules.specs.Rules.{Target}

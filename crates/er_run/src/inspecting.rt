@@ -8,6 +8,7 @@ ghost use Rattle.er_trace.specs.Trace.{no_steps};
 
 use er_batch::Analyst;
 use er_damage::{Damage, Inspector};
+use er_event::Step;
 use er_text::Ending;
 use er_trace::Trace;
 use std::alloc::{AllocError, Global};
@@ -52,11 +53,22 @@ impl Analyst for Inspection {
 
     ghost stands = { λ seen asked r. IsInspected seen.inspector asked.strict r };
 
+    ghost ready = { λ seen asked r _. IsInspected seen.inspector asked.strict r };
+
     ghost wanted = { λ asked. asked.strict };
 
     ghost answered = { λ _. 0 };
 
     ghost found = { λ _. 0 };
+
+    fn prepare<R: Threads + Wait + Sync, B, F: FnMut() -> B>(
+        &mut self,
+        _rt: &R,
+        _steps: &[Step],
+        beside: &mut F,
+    ) -> B {
+        beside()
+    }
 
     fn answer<R: Threads + Wait + Sync>(
         &mut self,

@@ -34,7 +34,7 @@ type Analysts<'t, 'r> = Pair<
     Inspection,
 >;
 
-/// The report by the lockset rule of a replay by several workers, over this table.
+/// The report by the lockset rule of a replay by several workers, over this table. Half of them answer while the others read.
 pub(crate) fn report_by_crew<R: Threads + Wait + Sync, D: Read, V: Watch>(
     rt: &R,
     alloc: Global,
@@ -48,13 +48,15 @@ pub(crate) fn report_by_crew<R: Threads + Wait + Sync, D: Read, V: Watch>(
     ensures replay { IsReplayOf (D.remaining (inner_of reader.old)) options.now (targets_of suppressions.now) Lockset (taken_of reader.old) (taken_of reader.new) (has_failed reader.new) result }
     ensures whole { IfOk result (λ found. IfSome found.reports.lockset (λ report. report.stop ≡ None)) }
 {
-    let crew = CrewAnalyst::new(rt, alloc, table, suppressions, options)?;
+    let answering = (options.workers / 2).max(1);
+    let readers = options.workers.div_ceil(2);
+    let crew = CrewAnalyst::new(rt, alloc, table, suppressions, options, answering)?;
     let inspection = Inspection::new(alloc, options.strict);
     let analysts = Pair {
         first: crew,
         second: inspection,
     };
-    match analyse(rt, alloc, reader, options, analysts, watcher) {
+    match analyse(rt, alloc, reader, options, readers, analysts, watcher) {
         Ok(found) => end_crew(found),
         Err(why) => Err(RunFault::Read(why)),
     }
@@ -116,7 +118,8 @@ pub(crate) fn reports_by_one<R: Threads + Wait + Sync, D: Read, V: Watch>(
     ensures alone { asks_order analysis ≡ false → IfErr result IsOfReading }
 {
     let analysts = analysts_of(alloc, table, suppressions, options, analysis)?;
-    match analyse(rt, alloc, reader, options, analysts, watcher) {
+    let readers = options.workers;
+    match analyse(rt, alloc, reader, options, readers, analysts, watcher) {
         Ok(found) => end(found),
         Err(why) => Err(RunFault::Read(why)),
     }

@@ -1,4 +1,6 @@
 //! `Seat`, one thread's handle.
+#![tactic(auto, unfolding(crate::specs::Seats::with_call))]
+
 ghost use Rattle.std.specs.Prelude.{◌≡◌, ◌≤◌, ◌<◌, ◌+◌, ◌↔◌, ◌⊎◌, [], ℕ, Bool, cond, length, IsTrue, IsFalse, IsOk, IfOk, IsOkUnless, IsErrAnd, IsErrOf, OnOk, OnErr, None, Some, slice_get, is_some, not};
 ghost use Rattle.er_held.specs.Held.{nothing_held};
 ghost use Rattle.er_journal.specs.Entries.{Call as Calls};
@@ -11,13 +13,12 @@ ghost use Rattle.er_shard.specs.Journaled.{entry_of, with_entry};
 ghost use Rattle.er_settle.specs.Seats.{AreTicketed};
 ghost use Rattle.er_seat.specs.Seats.{holdings_of, access_stamp, with_call, done, ignored, ticketed, calls_to_unwind};
 
-use crate::recent::RecentLocks;
 use er_event::{
     Event, Kind, Level, LockId, Lockset, Mode, NoRoom, PageRange, Refusal, Reply, Site, ThreadId,
     Word,
 };
 use er_held::Held;
-use er_journal::{BriefReply, Call, Stamp, What};
+use er_journal::{BriefReply, Call, HeldLocks, Stamp, What};
 use er_shard::{Shard, in_brief};
 use std::alloc::{AllocError, Global};
 use std::marker::Model;
@@ -67,10 +68,8 @@ impl VacantSeat {
     }
 }
 
-/// What one thread holds, and the calls that it made. Contracts see its detector's name, its thread and the calls.
-///
-/// The list always has room for the calls that give back what is held: a thread can let go of its locks and close its brackets
-/// if no memory is left.
+/// What one thread holds, and the calls that it made. Contracts see its detector's name, its thread and the calls. The list always has room for the
+/// calls that give back what is held: a thread can let go of its locks and close its brackets if no memory is left.
 #[derive(Drop)]
 pub struct Seat {
     name: u64,
@@ -107,28 +106,28 @@ impl Seat {
         self.thread
     }
 
-    /// The locks that the thread holds in any mode, which protect a read (section 2 of the 1997 paper).
+    /// The locks that the thread holds in any mode, which protect a read.
     pub fn held(&self) -> &Lockset
         ensures { result.now ≡ (holdings_of self.now).held }
     {
         self.held.held()
     }
 
-    /// The locks that it holds in write mode, which protect a write (section 2 of the 1997 paper).
+    /// The locks that it holds in write mode, which protect a write.
     pub fn write_held(&self) -> &Lockset
         ensures { result.now ≡ (holdings_of self.now).write_held }
     {
         self.held.write_held()
     }
 
-    /// Its interrupt level (section 3.4 of the 1997 paper).
+    /// Its interrupt level.
     pub fn level(&self) -> Level
         ensures { result ≡ (holdings_of self.now).level }
     {
         self.held.level()
     }
 
-    /// Whether it is inside an ignore bracket (section 3 of the 1997 paper).
+    /// Whether it is inside an ignore bracket.
     pub fn ignoring(&self) -> bool
         ensures { IsTrue result ↔ (0 < (holdings_of self.now).depth) }
     {
@@ -149,9 +148,8 @@ impl Seat {
         self.calls.as_slice()
     }
 
-    /// Takes a lock that is held in neither mode (section 2 of the 1997 paper). Refused if it is a level's lock (`LevelLock`), if it is
-    /// held (`AlreadyHeld`), if 64 locks were acquired (`HeldFull`), and if there is no memory (`OutOfMemory`).
-    #[tactic(auto, unfolding(crate::specs::Seats::with_call))]
+    /// Takes a lock that is held in neither mode. Refused if it is a level's lock (`LevelLock`), if it is held (`AlreadyHeld`), if 64 locks were
+    /// acquired (`HeldFull`), and if there is no memory (`OutOfMemory`).
     pub fn acquire(&mut self, lock: LockId, mode: Mode) -> Result<(), Refusal>
         ensures refused { (why : Refusal) → refused_by (holdings_of self.old) (Event.Acquire lock mode) ≡ Some why → result ≡ Err why }
         ensures accepted { OnOk result (refused_by (holdings_of self.old) (Event.Acquire lock mode) ≡ None) }
@@ -169,9 +167,8 @@ impl Seat {
         Ok(())
     }
 
-    /// Gives up a lock that is held in this mode (section 2 of the 1997 paper). It takes no memory. Refused if it is a level's lock
-    /// (`LevelLock`), if it isn't held (`NotHeld`), and if it is held in the other mode (`WrongMode`).
-    #[tactic(auto, unfolding(crate::specs::Seats::with_call))]
+    /// Gives up a lock that is held in this mode. It takes no memory. Refused if it is a level's lock (`LevelLock`), if it isn't held (`NotHeld`),
+    /// and if it is held in the other mode (`WrongMode`).
     pub fn release(&mut self, lock: LockId, mode: Mode) -> Result<(), Refusal>
         ensures refused { (why : Refusal) → refused_by (holdings_of self.old) (Event.Release lock mode) ≡ Some why → result ≡ Err why }
         ensures accepted { OnOk result (refused_by (holdings_of self.old) (Event.Release lock mode) ≡ None) }
@@ -184,9 +181,7 @@ impl Seat {
         Ok(())
     }
 
-    /// Opens an ignore bracket (section 3 of the 1997 paper). Refused if 255 are open (`IgnoreTooDeep`), and if there is no memory
-    /// (`OutOfMemory`).
-    #[tactic(auto, unfolding(crate::specs::Seats::with_call))]
+    /// Opens an ignore bracket. Refused if 255 are open (`IgnoreTooDeep`), and if there is no memory (`OutOfMemory`).
     pub fn ignore_on(&mut self) -> Result<(), Refusal>
         ensures refused { (why : Refusal) → refused_by (holdings_of self.old) Event.IgnoreOn ≡ Some why → result ≡ Err why }
         ensures accepted { OnOk result (refused_by (holdings_of self.old) Event.IgnoreOn ≡ None) }
@@ -204,8 +199,7 @@ impl Seat {
         Ok(())
     }
 
-    /// Closes the innermost ignore bracket (section 3 of the 1997 paper). It takes no memory. Refused if none is open (`IgnoreNotOn`).
-    #[tactic(auto, unfolding(crate::specs::Seats::with_call))]
+    /// Closes the innermost ignore bracket. It takes no memory. Refused if none is open (`IgnoreNotOn`).
     pub fn ignore_off(&mut self) -> Result<(), Refusal>
         ensures refused { (why : Refusal) → refused_by (holdings_of self.old) Event.IgnoreOff ≡ Some why → result ≡ Err why }
         ensures accepted { OnOk result (refused_by (holdings_of self.old) Event.IgnoreOff ≡ None) }
@@ -218,9 +212,8 @@ impl Seat {
         Ok(())
     }
 
-    /// Goes to an interrupt level (section 3.4 of the 1997 paper), which may be the present one. Refused if there is no memory
-    /// (`OutOfMemory`): the call's own entry may take some, even if the level doesn't rise.
-    #[tactic(auto, unfolding(crate::specs::Seats::with_call))]
+    /// Goes to an interrupt level, which may be the present one. Refused if there is no memory (`OutOfMemory`): the call's own entry may take some,
+    /// even if the level doesn't rise.
     pub fn set_level(&mut self, level: Level) -> Result<(), Refusal>
         ensures ok { OnOk result (self.new ≡ with_call self.old (done (Event.Level level))) }
         ensures err { OnErr result (self.new ≡ self.old) }
@@ -232,9 +225,7 @@ impl Seat {
         Ok(())
     }
 
-    /// Lists an access inside an ignore bracket, which doesn't count: its reply is `Ignored` (section 3 of the 1997 paper). The only
-    /// error is that there is no memory.
-    #[tactic(auto, unfolding(crate::specs::Seats::with_call))]
+    /// Lists an access inside an ignore bracket, which doesn't count: its reply is `Ignored`. The only error is that there is no memory.
     pub fn record_ignored(&mut self, word: Word, kind: Kind, site: Site) -> Result<(), AllocError>
         requires { 0 < (holdings_of self.old).depth }
         ensures ok { OnOk result (self.new ≡ with_call self.old (ignored (Event.Access kind word site))) }
@@ -247,8 +238,8 @@ impl Seat {
         Ok(())
     }
 
-    /// Makes an access outside any bracket in a shard, under a ticket, and lists it (section 2 of the 1997 paper). Refused if there is
-    /// no memory for the list and the stamp (`OutOfMemory`), and then if the shard refuses it.
+    /// Makes an access outside any bracket in a shard, under a ticket, and lists it. Refused if there is no memory for the list and the stamp
+    /// (`OutOfMemory`), and then if the shard refuses it.
     #[tactic(auto, unfolding(crate::specs::Seats::with_call, crate::specs::Seats::access_stamp))]
     pub fn record_access<R: Wait>(
         &mut self,
@@ -281,9 +272,8 @@ impl Seat {
         Ok(reply)
     }
 
-    /// Makes one page part of a reuse in a shard, under a ticket, and lists it (section 3.3 of the 1997 paper). Refused if there is no
-    /// memory for the list (`OutOfMemory`), and then if the shard refuses it.
-    #[tactic(auto, unfolding(crate::specs::Seats::with_call))]
+    /// Makes one page part of a reuse in a shard, under a ticket, and lists it. Refused if there is no memory for the list (`OutOfMemory`), and then
+    /// if the shard refuses it.
     pub fn reuse(&mut self, shard: &mut Shard, ticket: u64, range: PageRange) -> Result<(), NoRoom>
         ensures call { OnOk result (self.new ≡ with_call self.old (ticketed (Event.Reuse range) ticket Reply.Done)) }
         ensures entry { OnOk result (shard.new ≡ with_entry shard.old (entry_of ticket self.old.thread (What.Reset range) Reply.Done)) }
@@ -316,7 +306,6 @@ fn calls_to_unwind(held: &Held) -> usize
     held.acquired() + usize::from(held.depth())
 }
 
-// Releases a lock that was just acquired.
 fn give_back(held: &mut Held, lock: LockId, mode: Mode)
     requires { refused_by held.old (Event.Release lock mode) ≡ None }
     ensures { held.new ≡ changed_by held.old (Event.Release lock mode) }
@@ -325,11 +314,45 @@ fn give_back(held: &mut Held, lock: LockId, mode: Mode)
     released.unwrap();
 }
 
-// Closes a bracket that was just opened.
 fn close_bracket(held: &mut Held)
     requires { refused_by held.old Event.IgnoreOff ≡ None }
     ensures { held.new ≡ changed_by held.old Event.IgnoreOff }
 {
     let closed: Result<(), Refusal> = held.ignore_off();
     closed.unwrap();
+}
+
+/// The locks that the last stamp had. Most accesses are made under the same locks as the one before.
+#[derive(Drop)]
+pub(crate) struct RecentLocks {
+    last: Option<HeldLocks>,
+    alloc: Global,
+}
+
+impl RecentLocks {
+    /// None yet.
+    pub(crate) fn new(alloc: Global) -> RecentLocks {
+        RecentLocks { last: None, alloc }
+    }
+
+    /// The locks that are held, which are copied only if the last stamp had others. The only error is that there is no memory.
+    #[inline]
+    pub(crate) fn locks(&mut self, held: &Held) -> Result<HeldLocks, AllocError>
+        ensures { IfOk result (λ locks. locks ≡ record { held = held.now.held; write_held = held.now.write_held }) }
+    {
+        match &self.last {
+            Some(last) if last.are(held.held(), held.write_held()) => last.share(),
+            _ => self.copied(held),
+        }
+    }
+
+    // Copies of the locks that are held, from now on the last.
+    fn copied(&mut self, held: &Held) -> Result<HeldLocks, AllocError>
+        ensures { IfOk result (λ locks. locks ≡ record { held = held.now.held; write_held = held.now.write_held }) }
+    {
+        let locks = HeldLocks::new(self.alloc, held.held(), held.write_held())?;
+        let shared = locks.share()?;
+        self.last = Some(locks);
+        Ok(shared)
+    }
 }

@@ -1,21 +1,132 @@
 //! All calls in one order: those with tickets by rising ticket, each without one directly before its seat's next call with one, and
 //! the rest at the end, by seat number.
-ghost use Rattle.std.specs.Prelude.{◌≡◌, ◌≤◌, ◌+◌, ◌++◌, ℕ, length, drop, IfOk, OnOk};
+ghost use Rattle.std.specs.Prelude.{◌≡◌, ◌≤◌, ◌+◌, ◌++◌, ℕ, length, drop, IfOk, OnOk, ◌<◌, IfErr, IfSome, IfNone, slice_index};
 ghost use Rattle.er_settle.specs.Seats.{calls_by};
-ghost use Rattle.er_settle.specs.Faults.{AreDistinct};
-ghost use Rattle.er_settle.specs.Inner.SeatChecks.{IsIndex};
-ghost use Rattle.er_settle.specs.Inner.JournalOrder.{OrderRises};
+ghost use Rattle.er_settle.specs.Faults.{AreDistinct, JournalsRise, Not};
+ghost use Rattle.er_settle.specs.Inner.SeatChecks.{IsIndex, AreLegalJournals};
+ghost use Rattle.er_settle.specs.Inner.JournalOrder.{OrderRises, IsOrder, IsLeast, IsSoonest, IsNext, IsDisorder, sooner_of};
 ghost use Rattle.er_settle.specs.Inner.EntryMatches.{AllGiven, AllAgree};
 ghost use Rattle.er_settle.specs.Inner.CallOrder.{turns_by, next_turn, ticketed_turns, entry_turns, AreTaken, AreByNumber};
 ghost use Rattle.er_settle.specs.Runs.{calls_of, IsInOrder};
+ghost use Rattle.er_journal.specs.declared.entries.Entry.{Entry as EntryShown};
 
-use crate::SeatView;
-use crate::journal_order::{PlacedEntry, zeros};
+use crate::seat_checks::{Index, is_above};
+use crate::{JournalView, Made, SeatView, Unsettled};
 use er_event::ThreadId;
-use er_journal::Call;
-use std::alloc::{AllocError, Global};
-use std::collections::BTreeMap;
+use er_journal::{Call, Entry};
+use std::alloc::Global;
 use std::marker::Model;
+
+/// An entry with its journal's place.
+#[derive(Drop)]
+pub(crate) struct PlacedEntry<'a> {
+    place: usize,
+    entry: &'a Entry,
+}
+
+impl<'a> Model for PlacedEntry<'a> {
+    ghost use Rattle.er_settle.specs.Inner.SeatChecks.{AreLegalJournals};
+    ghost use Rattle.er_settle.specs.Inner.JournalOrder.{EntryAt, entry_at};
+
+    ghost Value = { EntryAt };
+
+    ghost view = { λ d. entry_at d.place d.entry.now };
+}
+
+impl<'a> PlacedEntry<'a> {
+    pub(crate) fn place(&self) -> usize
+        ensures { result ≡ self.now.place }
+    {
+        self.place
+    }
+
+    /// The same entry again.
+    pub(crate) fn copy(&self) -> PlacedEntry<'a>
+        ensures { result ≡ self.now }
+    {
+        PlacedEntry {
+            place: self.place,
+            entry: self.entry,
+        }
+    }
+
+    pub(crate) fn entry(&self) -> &'a Entry
+        ensures { result.now ≡ self.now.entry }
+    {
+        self.entry
+    }
+}
+
+/// The entries of all journals, by rising ticket, taken by least next ticket.
+pub(crate) fn merge_journals<'a>(
+    alloc: Global,
+    journals: &[JournalView<'a>],
+) -> Result<Vec<PlacedEntry<'a>>, Unsettled>
+    ensures order { IfOk result (λ order. IsOrder journals.now order.items) }
+    ensures rise { IfOk result (λ order. JournalsRise journals.now) }
+    ensures legal { IfOk result (λ order. AreLegalJournals journals.now) }
+    ensures fault { IfErr result (IsDisorder journals.now) }
+{
+    let mut read = zeros(alloc, journals.len())?;
+    let mut order = Vec::new(alloc);
+    let mut last = None;
+    while let Some(place) = next_journal(journals, read.as_slice()) {
+        let at = read[place];
+        let journal = journals[place].entries();
+        let count = journal.len();
+        prove!(at < count);
+        let entry = &journal[at];
+        if !is_above(last, entry.ticket) {
+            return Err(Unsettled::Order);
+        }
+        let Ok(()) = order.push(PlacedEntry { place, entry }) else {
+            return Err(Unsettled::Memory);
+        };
+        read[place] = at + 1;
+        last = Some(entry.ticket);
+    }
+    Ok(order)
+}
+
+fn next_journal(journals: &[JournalView], read: &[usize]) -> Option<usize>
+    requires { length journals.now ≡ length read.now }
+    ensures some { IfSome result (IsLeast journals.now read.now) }
+    ensures none { IfNone result ((p : ℕ) (e : EntryShown) → Not (IsNext journals.now read.now p e)) }
+    ensures legal { AreLegalJournals journals.now }
+{
+    let mut least = None;
+    for (place, journal) in journals.iter().enumerate() {
+        let journal = journal.entries();
+        let at = read[place];
+        if at >= journal.len() {
+            continue;
+        }
+        let entry = &journal[at];
+        least = sooner(least, entry.ticket, place);
+    }
+    match least {
+        Some((_, place)) => Some(place),
+        None => None,
+    }
+}
+
+// The smaller of two tickets, with its place. The first one may be missing.
+fn sooner(least: Option<(u64, usize)>, ticket: u64, place: usize) -> Option<(u64, usize)>
+    ensures { result ≡ sooner_of least ticket place }
+{
+    match least {
+        Some((first, at)) if first <= ticket => Some((first, at)),
+        _ => Some((ticket, place)),
+    }
+}
+
+/// `count` zeros.
+pub(crate) fn zeros(alloc: Global, count: usize) -> Made<Vec<usize>>
+    ensures count { IfOk result (λ read. length read.items ≡ count) }
+    ensures zeros { IfOk result (λ read. (k : ℕ) → slice_index read.items k ≡ 0) }
+{
+    vec![in alloc; 0; count]
+}
 
 /// One call of one thread, in its turn.
 #[derive(Drop)]
@@ -33,14 +144,12 @@ impl<'a> Model for Turn<'a> {
 }
 
 impl<'a> Turn<'a> {
-    /// The thread that makes it.
     pub(crate) fn thread(&self) -> ThreadId
         ensures { result ≡ self.now.thread }
     {
         self.thread
     }
 
-    /// What it is.
     pub(crate) fn call(&self) -> &'a Call
         ensures { result.now ≡ self.now.call }
     {
@@ -58,10 +167,10 @@ pub(crate) struct Taken<'a> {
 /// All calls of all seats, in order.
 pub(crate) fn merge_calls<'a>(
     alloc: Global,
-    index: &BTreeMap<u32, usize>,
+    index: &Index,
     seats: &[SeatView<'a>],
-    order: &[PlacedEntry<'_>],
-) -> Result<Vec<Turn<'a>>, AllocError>
+    order: &[PlacedEntry],
+) -> Made<Vec<Turn<'a>>>
     requires index { IsIndex seats.now index.now }
     requires once { AreDistinct seats.now }
     requires rise { OrderRises order.now }
@@ -79,10 +188,10 @@ pub(crate) fn merge_calls<'a>(
 // Takes each seat's calls up to its last one with a ticket.
 fn take_ticketed<'a>(
     alloc: Global,
-    index: &BTreeMap<u32, usize>,
+    index: &Index,
     seats: &[SeatView<'a>],
-    order: &[PlacedEntry<'_>],
-) -> Result<Taken<'a>, AllocError>
+    order: &[PlacedEntry],
+) -> Made<Taken<'a>>
     requires index { IsIndex seats.now index.now }
     requires once { AreDistinct seats.now }
     requires given { AllGiven seats.now order.now }
@@ -103,14 +212,13 @@ fn take_ticketed<'a>(
     Ok(Taken { next, turns })
 }
 
-// Takes what is left, seat by seat.
 fn take_rest<'a>(
     seats: &[SeatView<'a>],
-    order: &[PlacedEntry<'_>],
+    order: &[PlacedEntry],
     places: &[usize],
     next: &[usize],
     mut turns: Vec<Turn<'a>>,
-) -> Result<Vec<Turn<'a>>, AllocError>
+) -> Made<Vec<Turn<'a>>>
     requires once { AreDistinct seats.now }
     requires rise { OrderRises order.now }
     requires agree { AllAgree seats.now order.now }
@@ -129,11 +237,7 @@ fn take_rest<'a>(
 }
 
 // Takes a seat's calls from a place on, up to the next one that has a ticket, and that one. Returns the place behind it.
-fn take_turn<'a>(
-    turns: &mut Vec<Turn<'a>>,
-    seat: &SeatView<'a>,
-    from: usize,
-) -> Result<usize, AllocError>
+fn take_turn<'a>(turns: &mut Vec<Turn<'a>>, seat: &SeatView<'a>, from: usize) -> Made<usize>
     requires { from ≤ length seat.now.calls }
     ensures next { IfOk result (λ next. next ≡ from + length (next_turn (drop from seat.now.calls))) }
     ensures turns { OnOk result (turns.new.items ≡ turns.old.items ++ turns_by seat.now.thread (next_turn (drop from seat.now.calls))) }
@@ -150,12 +254,7 @@ fn take_turn<'a>(
     Ok(calls.len())
 }
 
-// The places of all seats, by rising number.
-fn places_by_thread(
-    alloc: Global,
-    index: &BTreeMap<u32, usize>,
-    seats: &[SeatView<'_>],
-) -> Result<Vec<usize>, AllocError>
+fn places_by_thread(alloc: Global, index: &Index, seats: &[SeatView]) -> Made<Vec<usize>>
     requires index { IsIndex seats.now index.now }
     requires once { AreDistinct seats.now }
     ensures { IfOk result (λ places. AreByNumber seats.now places.items) }

@@ -1,16 +1,97 @@
 //! Whether each call with a ticket has its entry, and each entry its call.
-ghost use Rattle.std.specs.Prelude.{◌≡◌, ◌<◌, ◌↔◌, List, IsTrue, length};
-ghost use Rattle.er_settle.specs.Faults.{ArePaired, AreDistinct, ListsRise, event_of, place_of};
+ghost use Rattle.std.specs.Prelude.{◌≡◌, ◌<◌, ◌↔◌, List, IsTrue, length, ◌++◌, [], ◌∷◌, ℕ, slice_get, Some, IfOk, IfErr, OnOk, OnErr};
+ghost use Rattle.er_settle.specs.Faults.{ArePaired, AreDistinct, ListsRise, event_of, place_of, IsAlike};
 ghost use Rattle.er_settle.specs.Inner.JournalOrder.{IsOrder, EntryAt};
-ghost use Rattle.er_settle.specs.Inner.EntryMatches.{AreInTurn, AreGrouped, AllAgree, AllInPlace, ticketed_calls, ticketed_entries};
+ghost use Rattle.er_settle.specs.Inner.EntryMatches.{AreInTurn, AreGrouped, AllAgree, AllInPlace, ticketed_calls, ticketed_entries, AllGiven, IsUngiven};
 ghost use Rattle.er_journal.specs.declared.entries.Entry.{Entry};
 ghost use Rattle.er_settle.specs.Seats.{SeatList};
+ghost use Rattle.er_settle.specs.Inner.SeatChecks.{IsIndex};
+ghost use Rattle.er_held.specs.Held.{nothing_held};
+ghost use Rattle.er_journal.specs.Merges.{stamp_by, stamps_in};
+ghost use Rattle.er_settle.specs.Inner.ReplyMatches.{AreAlike, AllAlike};
 
-use crate::SeatView;
-use crate::entry_groups::EntryGroup;
-use crate::journal_order::PlacedEntry;
-use er_event::Event;
-use er_journal::{Call, What};
+use crate::call_order::PlacedEntry;
+use crate::seat_checks::Index;
+use crate::{Made, SeatView, Unsettled};
+use er_event::{Event, ThreadId};
+use er_held::Held;
+use er_journal::{Call, Entry, What};
+use std::alloc::Global;
+use std::marker::Model;
+
+/// Entries of one thread, by rising ticket. It stands for a `Vec`, so that contracts see a list of lists.
+#[derive(Drop)]
+pub(crate) struct EntryGroup<'a> {
+    entries: Vec<PlacedEntry<'a>>,
+}
+
+impl<'a> Model for EntryGroup<'a> {
+    ghost use Rattle.std.specs.Prelude.{List};
+    ghost use Rattle.er_settle.specs.Inner.JournalOrder.{EntryAt};
+
+    ghost Value = { List EntryAt };
+
+    ghost view = { λ h. h.entries.items };
+}
+
+impl<'a> EntryGroup<'a> {
+    /// No entries.
+    pub(crate) fn new(alloc: Global) -> EntryGroup<'a>
+        ensures { result ≡ [] }
+    {
+        EntryGroup {
+            entries: Vec::new(alloc),
+        }
+    }
+
+    pub(crate) fn as_slice(&self) -> &[PlacedEntry<'a>]
+        ensures { result.now ≡ self.now }
+    {
+        self.entries.as_slice()
+    }
+
+    pub(crate) fn add(&mut self, placed: PlacedEntry<'a>) -> Made<()>
+        ensures ok { OnOk result (self.new ≡ self.old ++ placed.entry ∷ []) }
+        ensures err { OnErr result (self.new ≡ self.old) }
+    {
+        self.entries.push(placed)?;
+        Ok(())
+    }
+}
+
+/// The entries of each seat's thread, in order. The fault is an entry whose thread has no seat.
+pub(crate) fn group_by_thread<'a>(
+    alloc: Global,
+    index: &Index,
+    seats: &[SeatView],
+    order: &[PlacedEntry<'a>],
+) -> Result<Vec<EntryGroup<'a>>, Unsettled>
+    requires index { IsIndex seats.now index.now }
+    requires once { AreDistinct seats.now }
+    ensures given { IfOk result (λ groups. AllGiven seats.now order.now) }
+    ensures groups { IfOk result (λ groups. AreGrouped seats.now order.now groups.items) }
+    ensures fault { IfErr result (IsUngiven seats.now order.now) }
+{
+    let mut groups = empty_groups(alloc, seats)?;
+    for placed in order {
+        let thread = placed.entry().thread.number();
+        let Some(at) = index.get(&thread).copied() else {
+            return Err(Unsettled::Entries);
+        };
+        groups[at].add(placed.copy())?;
+    }
+    Ok(groups)
+}
+
+fn empty_groups<'a>(alloc: Global, seats: &[SeatView]) -> Made<Vec<EntryGroup<'a>>>
+    ensures { IfOk result (λ groups. AreGrouped seats.now [] groups.items) }
+{
+    let mut groups = Vec::with_capacity(alloc, seats.len())?;
+    for _seat in seats {
+        groups.push(EntryGroup::new(alloc))?;
+    }
+    Ok(groups)
+}
 
 // Whether the calls with tickets and the entries of their thread agree, one after the other.
 fn is_matched<'a>(calls: &[Call], group: &[PlacedEntry<'a>]) -> bool
@@ -32,15 +113,13 @@ fn is_matched<'a>(calls: &[Call], group: &[PlacedEntry<'a>]) -> bool
     at == group.len()
 }
 
-// Whether the entry has this ticket and records this event.
-fn is_asked(ticket: u64, event: Event, placed: &PlacedEntry<'_>) -> bool
+fn is_asked(ticket: u64, event: Event, placed: &PlacedEntry) -> bool
     ensures { IsTrue result ↔ ((ticket ≡ placed.now.entry.ticket) × (event ≡ event_of placed.now.entry.what)) }
 {
     let entry = placed.entry();
     ticket == entry.ticket && is_event_of(event, &entry.what)
 }
 
-// Whether this is the event that the entry records.
 fn is_event_of(event: Event, what: &What) -> bool
     ensures { IsTrue result ↔ (event ≡ event_of what.now) }
 {
@@ -60,7 +139,7 @@ fn is_event_of(event: Event, what: &What) -> bool
 
 /// Whether each seat's calls with tickets and the entries of its thread agree, one after the other.
 pub(crate) fn all_matched<'a>(
-    seats: &[SeatView<'_>],
+    seats: &[SeatView],
     groups: &[EntryGroup<'a>],
     order: &[PlacedEntry<'a>],
 ) -> bool
@@ -75,15 +154,13 @@ pub(crate) fn all_matched<'a>(
     true
 }
 
-/// Whether each entry stands in the journal of the shard that has its words.
-pub(crate) fn all_in_place(shards: usize, order: &[PlacedEntry<'_>]) -> bool
+pub(crate) fn all_in_place(shards: usize, order: &[PlacedEntry]) -> bool
     requires { 0 < shards }
     ensures { IsTrue result ↔ AllInPlace shards order.now }
 {
     order.iter().all(|placed| place_of(shards, &placed.entry().what) == placed.place())
 }
 
-// The place of the shard that has the entry's words.
 fn place_of(shards: usize, what: &What) -> usize
     requires { 0 < shards }
     ensures { result ≡ place_of shards what.now }
@@ -93,4 +170,66 @@ fn place_of(shards: usize, what: &What) -> usize
         What::Reset(range) => range.lo,
     };
     word.page() as usize % shards
+}
+
+/// Whether each seat's calls have the replies and the locks of their entries.
+pub(crate) fn all_answered(
+    alloc: Global,
+    seats: &[SeatView],
+    groups: &[EntryGroup],
+    order: &[PlacedEntry],
+) -> Made<bool>
+    requires dealt { AreGrouped seats.now order.now groups.now }
+    requires agree { AllAgree seats.now order.now }
+    ensures { IfOk result (λ alike. IsTrue alike ↔ AllAlike seats.now order.now) }
+{
+    for (at, seat) in seats.iter().enumerate() {
+        if !is_answered(&mut Held::new(alloc), seat, groups[at].as_slice())? {
+            return Ok(false);
+        }
+    }
+    Ok(true)
+}
+
+// Whether the seat's calls with tickets have the replies and the locks of these entries, by what the seat holds at each call.
+fn is_answered(held: &mut Held, seat: &SeatView, group: &[PlacedEntry]) -> Made<bool>
+    requires nothing { held.old ≡ nothing_held }
+    requires calls { ticketed_calls seat.now.calls ≡ ticketed_entries group.now }
+    ensures { IfOk result (λ alike. IsTrue alike ↔ AreAlike seat.now group.now) }
+{
+    let thread = seat.thread();
+    let mut at = 0;
+    for call in seat.calls() {
+        if call.ticket().is_some() {
+            let count = group.len();
+            prove!(at < count);
+            if !is_alike(held, thread, call, group[at].entry()) {
+                return Ok(false);
+            }
+            at += 1;
+        }
+        held.follow(call.event())?;
+    }
+    Ok(true)
+}
+
+fn is_alike(held: &Held, thread: ThreadId, call: &Call, entry: &Entry) -> bool
+    requires { call.now.event ≡ event_of entry.now.what }
+    ensures { IsTrue result ↔ IsAlike held.now thread call.now entry.now }
+{
+    entry.reply.is_same(&call.reply()) && is_stamped(held, thread, entry)
+}
+
+fn is_stamped(held: &Held, thread: ThreadId, entry: &Entry) -> bool
+    ensures { IsTrue result ↔ (stamp_by held.now thread (event_of entry.now.what) ≡ stamps_in (entry.now ∷ [])) }
+{
+    match &entry.what {
+        What::Access(stamp) => {
+            !held.ignoring()
+                && stamp.thread() == thread
+                && *stamp.held() == *held.held()
+                && *stamp.write_held() == *held.write_held()
+        }
+        What::Reset(_) => true,
+    }
 }

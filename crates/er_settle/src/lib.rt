@@ -21,17 +21,16 @@
 #![tactic(auto)]
 
 pub use settling::{Run, settle_lists};
+use std::alloc::AllocError;
 pub use unsettled::Unsettled;
 pub use views::{JournalView, SeatView};
 
+// What a call returns that memory may be refused.
+type Made<T> = Result<T, AllocError>;
+
 mod call_order;
-mod checks;
-mod entry_groups;
 mod entry_matches;
-mod journal_order;
-mod reply_matches;
 mod seat_checks;
 mod settling;
-mod ticket_order;
 mod unsettled;
 mod views;

@@ -3,25 +3,25 @@ ghost use Rattle.std.specs.Prelude.{◌≡◌, ◌<◌, ◌↔◌, ℕ, length, 
 ghost use Rattle.std.specs.Ordering.{nat_cmp};
 ghost use Rattle.std.specs.BTreeMap.{get};
 ghost use Rattle.er_settle.specs.Seats.{SeatList};
-ghost use Rattle.er_settle.specs.Faults.{AreOfDetector, AreDistinct, AreComplete, Not};
-ghost use Rattle.er_settle.specs.Inner.SeatChecks.{IsIndex, IsTwice};
+ghost use Rattle.er_settle.specs.Faults.{AreOfDetector, AreDistinct, AreComplete, Not, CallsRise, ListsRise};
+ghost use Rattle.er_settle.specs.Inner.SeatChecks.{IsIndex, IsTwice, IsAbove, AreSeatLists};
 
 use crate::{SeatView, Unsettled};
+use er_journal::Call;
 use std::alloc::Global;
 use std::collections::BTreeMap;
 
-/// Whether each seat has the detector's name.
-pub(crate) fn are_of_detector(name: u64, seats: &[SeatView<'_>]) -> bool
+/// Where the seat of each thread stands.
+pub(crate) type Index = BTreeMap<u32, usize>;
+
+pub(crate) fn are_of_detector(name: u64, seats: &[SeatView]) -> bool
     ensures { IsTrue result ↔ AreOfDetector name seats.now }
 {
     seats.iter().all(|seat| seat.name() == name)
 }
 
 /// Where the seat of each thread stands. The fault is `SeatTwice`, if two seats have one thread.
-pub(crate) fn index_by_thread(
-    alloc: Global,
-    seats: &[SeatView<'_>],
-) -> Result<BTreeMap<u32, usize>, Unsettled>
+pub(crate) fn index_by_thread(alloc: Global, seats: &[SeatView]) -> Result<Index, Unsettled>
     ensures once { IfOk result (λ index. AreDistinct seats.now) }
     ensures index { IfOk result (λ index. IsIndex seats.now index) }
     ensures twice { IfErr result (IsTwice seats.now) }
@@ -39,12 +39,7 @@ pub(crate) fn index_by_thread(
     Ok(index)
 }
 
-/// Whether each number below `opened` is in the index.
-pub(crate) fn are_complete(
-    opened: u32,
-    seats: &[SeatView<'_>],
-    index: &BTreeMap<u32, usize>,
-) -> bool
+pub(crate) fn are_complete(opened: u32, seats: &[SeatView], index: &Index) -> bool
     requires index { IsIndex seats.now index.now }
     ensures { IsTrue result ↔ AreComplete opened seats.now }
 {
@@ -54,4 +49,37 @@ pub(crate) fn are_complete(
         }
     }
     true
+}
+
+/// Whether the tickets of each list rise.
+pub(crate) fn lists_rise(seats: &[SeatView]) -> bool
+    ensures rise { IsTrue result ↔ ListsRise seats.now }
+    ensures legal { IsTrue result → AreSeatLists seats.now }
+{
+    seats.iter().all(|seat| calls_rise(seat.calls()))
+}
+
+fn calls_rise(calls: &[Call]) -> bool
+    ensures { IsTrue result ↔ CallsRise calls.now }
+{
+    let mut last = None;
+    for call in calls {
+        let Some(ticket) = call.ticket() else {
+            continue;
+        };
+        if !is_above(last, ticket) {
+            return false;
+        }
+        last = Some(ticket);
+    }
+    true
+}
+
+pub(crate) fn is_above(last: Option<u64>, ticket: u64) -> bool
+    ensures { IsTrue result ↔ IsAbove last ticket }
+{
+    match last {
+        None => true,
+        Some(last) => last < ticket,
+    }
 }

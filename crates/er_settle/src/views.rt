@@ -46,7 +46,6 @@ impl<'a> SeatView<'a> {
         self.name
     }
 
-    /// The seat's thread.
     pub fn thread(&self) -> ThreadId
         ensures { result ≡ self.now.thread }
     {

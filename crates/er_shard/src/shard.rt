@@ -14,8 +14,8 @@ use std::alloc::{AllocError, Global};
 use std::marker::Model;
 use std::sync::Wait;
 
-/// Some of memory's words, and the journal of what was done to them. Contracts see the journal, with the shard's name, number and
-/// limit: the words' states are those that the journal gives.
+/// Some of memory's words, and the journal of what was done to them. Contracts see the journal, with the shard's name, number and limit: the words'
+/// states are those that the journal gives.
 #[derive(Drop)]
 pub struct Shard<'t> {
     words: ShadowMap<'t>,
@@ -38,8 +38,8 @@ impl<'t> Model for Shard<'t> {
 impl<'t> Shard<'t> {
     ghost use Rattle.er_shard.specs.Journaled.{AreStamped, with_entry};
 
-    /// A shard with an empty journal that takes `limit` entries. `name` is its detector's, and `number` its place there. The sets of
-    /// locks that its words need go into the table. The only error is that there is no memory.
+    /// A shard with an empty journal that takes `limit` entries. `name` is its detector's, and `number` its place there. The sets of locks that its
+    /// words need go into the table. The only error is that there is no memory.
     pub fn new(
         alloc: Global,
         table: &'t LocksetTable,
@@ -82,15 +82,15 @@ impl<'t> Shard<'t> {
         self.journal.as_slice()
     }
 
-    /// What is known of a word (section 3 of the 1997 paper). The only error is that there is no memory for its candidate set.
+    /// What is known of a word. The only error is that there is no memory for its candidate set.
     pub fn state_of(&self, word: Word) -> Result<WordState, AllocError>
         ensures { IfOk result (λ state. state ≡ journal_state self.now.journal word) }
     {
         self.words.state_of(word)
     }
 
-    /// Takes a counted access, and returns `Race` if it is reported, else `Quiet` (section 2 of the 1997 paper). Refused if the journal
-    /// is full (`JournalFull`), if a set of locks finds no place in the table (`TableFull`), and if there is no memory (`OutOfMemory`).
+    /// Takes a counted access, and returns `Race` if it is reported, else `Quiet`. Refused if the journal is full (`JournalFull`), if a set of locks
+    /// finds no place in the table (`TableFull`), and if there is no memory (`OutOfMemory`).
     pub fn apply<R: Wait>(&mut self, rt: &R, ticket: u64, stamp: Stamp) -> Result<Reply, NoRoom>
         ensures entry { IfOk result (λ reply. self.new ≡ with_entry self.old (entry_of ticket stamp.thread (What.Access stamp) reply)) }
         ensures reply { IfOk result (λ reply. FitsEnd (notes_of self.old.journal) (mark_of_what (What.Access stamp)) reply) }
@@ -115,8 +115,7 @@ impl<'t> Shard<'t> {
         Ok(reply)
     }
 
-    /// Makes the words of a range virgin (section 3.3 of the 1997 paper). Refused if the journal is full (`JournalFull`), and if there
-    /// is no memory (`OutOfMemory`).
+    /// Makes the words of a range virgin. Refused if the journal is full (`JournalFull`), and if there is no memory (`OutOfMemory`).
     pub fn reset(&mut self, ticket: u64, thread: ThreadId, range: PageRange) -> Result<(), NoRoom>
         ensures entry { OnOk result (self.new ≡ with_entry self.old (entry_of ticket thread (What.Reset range) Reply.Done)) }
         ensures err { OnErr result (self.new ≡ self.old) }

@@ -8,6 +8,7 @@ use Rattle.er_print.specs.declared.lines.ReportKind.{ReportKind}
 use Rattle.er_print.specs.declared.lines.ReportKind.TheVariants.{Lockset, Unordered}
 use Rattle.er_report.specs.Lines.{line_view, race_of}
 use Rattle.er_report.specs.Report.{told}
+pub use Rattle.er_report.specs.Reports.{HaveNames}
 use Rattle.er_report.specs.declared.report.Line.{Line}
 use Rattle.er_report.specs.declared.report.Report.{Report}
 use Rattle.er_report.specs.declared.reports.Reports.{Reports}

@@ -8,12 +8,16 @@ use Rattle.er_event.specs.declared.steps.Kind.{Kind}
 use Rattle.er_event.specs.declared.steps.Kind.TheVariants as kind
 use Rattle.er_trace.specs.Names.{NameTable}
 use Rattle.er_places.specs.Places.{PlaceTable}
-use Rattle.er_places.specs.Reasons.{access_place, reason_place}
-use Rattle.er_places.specs.declared.place.Place.{Place}
+use Rattle.er_places.specs.Reasons.{access_place}
+pub use Rattle.er_places.specs.Places.{HasPlaceNames}
+pub use Rattle.er_places.specs.Reasons.{reason_place}
+use Rattle.er_places.specs.declared.places.Place.{Place}
 use Rattle.er_print.specs.Printed.{name_at, address_text, bytes_between}
 use Rattle.er_print.specs.Styles.{lock_in, short, site_in, thread_in}
 use Rattle.er_print.specs.declared.styles.Style.TheVariants as style
-use Rattle.er_report.specs.Lines.{LineView, RaceView, RacedView, RefusedView, ShownView, line_view, race_of}
+use Rattle.er_report.specs.Lines.{LineView, RaceView, RacedView, RefusedView, ShownView}
+pub use Rattle.er_report.specs.Lines.{line_view, race_of}
+pub use Rattle.er_report.specs.Names.{HasLockName, HasLockNames, HasNames, HasRaceNames, HasReasonNames}
 use Rattle.er_report.specs.declared.report.Because.{Because}
 use Rattle.er_report.specs.declared.report.Deed.{Deed}
 use Rattle.er_report.specs.declared.report.Deed.TheVariants as deed

@@ -1,12 +1,10 @@
-//! How many races there are at each site.
+//! How many races there are at each site, and how many different threads and locks.
 ghost use Rattle.std.specs.Prelude.{◌≡◌, ◌+◌, ◌^◌, ◌<◌, ◌≤◌, ◌==◌, ◌&&◌, ℕ, List, [], cond, count_by, length, slice_index, OnOk, IfOk};
-ghost use Rattle.er_report.specs.declared.report.Line.{Line as LineOf};
-ghost use Rattle.er_sites.specs.Inner.Counted.{AreCounts, HasRoom, count_like};
-ghost use Rattle.er_sites.specs.Table.{reads_at, reuses_at, writes_at};
+ghost use Rattle.er_sites.specs.Inner.Counted.{AreCounts, HasRoom, LineOf, count_like, reads_at, reuses_at, writes_at};
 
 use er_event::{Kind, Site};
 use er_print::Put;
-use er_report::Line;
+use er_report::{Deed, Line};
 use std::alloc::{AllocError, Global};
 
 /// The races at each site, by the number of the site.
@@ -106,6 +104,33 @@ pub fn count_races(alloc: Global, lines: &[Line]) -> Result<Counts, AllocError>
     Ok(counts)
 }
 
+/// How many threads have races at each site, and how many locks were held at these, by the number of the site.
+pub(crate) fn count_distinct(
+    alloc: Global,
+    lines: &[Line],
+) -> Result<(Vec<u64>, Vec<u64>), AllocError> {
+    let mut threads = Vec::new(alloc);
+    let mut locks = Vec::new(alloc);
+    for line in lines {
+        let Some(race) = line.race() else {
+            continue;
+        };
+        let site = race.site.number();
+        // A reuse without a site counts at none.
+        if site == 0 && matches!(race.deed, Deed::Reuse(_)) {
+            continue;
+        }
+        threads.push((site, race.thread.number()))?;
+        for lock in race.held {
+            locks.push((site, lock.number()))?;
+        }
+    }
+    Ok((
+        count_different(alloc, threads)?,
+        count_different(alloc, locks)?,
+    ))
+}
+
 // Adds one to the count of a site, which is 0 past the end of the list.
 fn add_one(counts: &mut Vec<u64>, site: Site) -> Put
     requires { slice_index counts.old.items site + 1 < 2 ^ 64 }
@@ -116,6 +141,19 @@ fn add_one(counts: &mut Vec<u64>, site: Site) -> Put
     grow(counts, place + 1)?;
     counts[place] += 1;
     Ok(())
+}
+
+// How many different pairs there are of each site, of which each begins with its site.
+fn count_different(alloc: Global, mut pairs: Vec<(u32, u32)>) -> Result<Vec<u64>, AllocError> {
+    pairs.sort_unstable();
+    pairs.dedup();
+    let mut counts = Vec::new(alloc);
+    for (site, _) in &pairs {
+        let place = *site as usize;
+        grow(&mut counts, place + 1)?;
+        counts[place] = u64::saturating_add(counts[place], 1);
+    }
+    Ok(counts)
 }
 
 // Adds zeros until the list has as many counts.

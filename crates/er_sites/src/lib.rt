@@ -10,17 +10,14 @@
 #![tactic(auto)]
 
 pub use counts::{Counts, count_races};
-pub use names::is_system_name;
+pub use names::{access_text, is_system_name};
 pub use row::SiteRow;
 pub use table::site_rows;
 pub use text::sites_text;
 
 mod counts;
-mod distinct;
 mod names;
 mod row;
-mod rows;
-mod sites;
 mod standing;
 mod stories;
 mod table;

@@ -79,7 +79,7 @@ pub(crate) fn did_text(kind: Kind) -> &'static [u8]
 }
 
 /// What the access of a race did to the word.
-pub(crate) fn access_text(kind: Kind) -> &'static [u8]
+pub fn access_text(kind: Kind) -> &'static [u8]
     ensures { result.now ≡ access_text kind }
 {
     match kind {

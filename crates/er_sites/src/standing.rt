@@ -1,13 +1,11 @@
 //! Where the access of a reason stood, and what its thread held.
 ghost use Rattle.std.specs.Prelude.{◌≡◌, ◌++◌, ◌≤◌, flat_map, length, OnOk};
-ghost use Rattle.er_places.specs.Places.{HasPlaceNames};
-ghost use Rattle.er_report.specs.Names.{HasLockName, HasLockNames};
-ghost use Rattle.er_sites.specs.Text.{at_text, bare_text, kept_text, read_text, stood_text, where_text};
+ghost use Rattle.er_sites.specs.Text.{HasLockName, HasLockNames, HasPlaceNames, at_text, bare_text, kept_text, read_text, stood_text, where_text};
 
 use er_event::{LockId, Lockset, Site};
 use er_places::{Place, Places};
 use er_print::Piece::{Lock, Site as At, Text};
-use er_print::{Put, Style, put_all};
+use er_print::{Put, Style, put};
 use er_report::Because;
 use er_trace::Names;
 
@@ -45,8 +43,7 @@ fn put_bare(out: &mut Vec<u8>, names: &Names, site: Site) -> Put
     if site.number() == 0 {
         return out.extend_from_slice(b"    holding no lock\n");
     }
-    let pieces = [At(b"    at ", site), Text(b", holding no lock\n")];
-    put_all(out, Style::Short, names, &pieces)
+    put!(out, Style::Short, names; At(b"    at ", site), Text(b", holding no lock\n"))
 }
 
 // Puts the site of an access with locks.
@@ -57,11 +54,9 @@ fn put_at(out: &mut Vec<u8>, names: &Names, site: Site) -> Put
     if site.number() == 0 {
         return Ok(());
     }
-    let pieces = [At(b"    at ", site), Text(b"\n")];
-    put_all(out, Style::Short, names, &pieces)
+    put!(out, Style::Short, names; At(b"    at ", site), Text(b"\n"))
 }
 
-// Puts the locks, each on a line of its own.
 fn put_kept_locks(out: &mut Vec<u8>, names: &Names, write_held: &Lockset, locks: &[LockId]) -> Put
     requires { HasLockNames names.now locks.now }
     ensures { OnOk result (out.new.items ≡ out.old.items ++ flat_map (kept_text names.now write_held.now) locks.now) }
@@ -78,11 +73,9 @@ fn put_kept(out: &mut Vec<u8>, names: &Names, write_held: &Lockset, lock: LockId
     ensures { OnOk result (out.new.items ≡ out.old.items ++ kept_text names.now write_held.now lock) }
 {
     let mode = read_text(write_held, lock);
-    let pieces = [Lock(b"    holding ", lock), Text(mode), Text(b"\n")];
-    put_all(out, Style::Short, names, &pieces)
+    put!(out, Style::Short, names; Lock(b"    holding ", lock), Text(mode), Text(b"\n"))
 }
 
-// That a lock was held only to read, if it was.
 fn read_text(write_held: &Lockset, lock: LockId) -> &'static [u8]
     ensures { result.now ≡ read_text write_held.now lock }
 {

@@ -1,51 +1,46 @@
 //! One race in sentences.
 ghost use Rattle.std.specs.Prelude.{◌≡◌, ◌++◌, ◌≤◌, flat_map, length, option_and_then, option_copied, OnOk, Some};
 ghost use Rattle.std.specs.List.{list_any};
-ghost use Rattle.er_places.specs.Places.{HasPlaceNames};
-ghost use Rattle.er_places.specs.Reasons.{reason_place};
-ghost use Rattle.er_report.specs.Lines.{line_view, race_of};
-ghost use Rattle.er_report.specs.Names.{HasLockName, HasNames, HasRaceNames, HasReasonNames};
-ghost use Rattle.er_sites.specs.Text.{access_story, deed_text, example_text, given_back_text, head_text, held_text, holds_text, is_weak_at, lacks_lock, line_text, lone_text, may_meet, met, met_text, mode_text, title_text, reason_text, reuse_story, reuse_text, so_text, story_text, is_without};
+ghost use Rattle.er_sites.specs.Text.{HasLockName, HasNames, HasPlaceNames, HasRaceNames, HasReasonNames, line_view, race_of, reason_place, access_story, deed_text, example_text, given_back_text, head_text, held_text, holds_text, is_weak_at, lacks_lock, line_text, lone_text, may_meet, met, met_text, mode_text, title_text, reason_text, reuse_story, reuse_text, so_text, story_text, is_without};
 
 use crate::names::{access_text, did_text, put_pair};
 use crate::standing::put_where;
 use er_event::{Kind, LockId, PageRange, Site, Word};
-use er_places::{Place, Places};
+use er_places::{Legend, Place};
 use er_print::Piece::{Address, Lock, Number, Site as At, Text, Thread};
-use er_print::{Put, Style, bytes_of, put_all};
+use er_print::{Put, Style, bytes_of, put, put_all};
 use er_report::{Because, Deed, Label, Line, Race};
 use er_trace::Names;
 
 /// Puts a race in sentences, under its site. Other lines have no story.
-pub(crate) fn put_example(out: &mut Vec<u8>, names: &Names, places: &Places, line: &Line) -> Put
-    requires { HasNames names.now line.now }
-    ensures { OnOk result (out.new.items ≡ out.old.items ++ example_text names.now places.now (race_of (line_view line.now))) }
+pub(crate) fn put_example(out: &mut Vec<u8>, legend: &Legend, line: &Line) -> Put
+    requires { HasNames legend.now.names.now line.now }
+    ensures { OnOk result (out.new.items ≡ out.old.items ++ example_text legend.now.names.now legend.now.places.now (race_of (line_view line.now))) }
 {
     let Some(race) = line.race() else {
         return Ok(());
     };
-    put_title(out, names, places, &race)?;
-    put_deed(out, names, places, &race)
+    put_title(out, legend, &race)?;
+    put_deed(out, legend, &race)
 }
 
-// Puts what the thread of a race did.
-fn put_deed(out: &mut Vec<u8>, names: &Names, places: &Places, race: &Race<'_>) -> Put
-    requires { HasRaceNames names.now race.now }
-    ensures { OnOk result (out.new.items ≡ out.old.items ++ deed_text names.now places.now race.now race.now.deed) }
+fn put_deed(out: &mut Vec<u8>, legend: &Legend, race: &Race<'_>) -> Put
+    requires { HasRaceNames legend.now.names.now race.now }
+    ensures { OnOk result (out.new.items ≡ out.old.items ++ deed_text legend.now.names.now legend.now.places.now race.now race.now.deed) }
 {
     match race.deed {
-        Deed::Access(kind, word) => put_access(out, names, places, race, kind, word),
-        Deed::Reuse(range) => put_reuse(out, names, places, race, &range),
+        Deed::Access(kind, word) => put_access(out, legend, race, kind, word),
+        Deed::Reuse(range) => put_reuse(out, legend, race, &range),
     }
 }
 
 // Puts the site of a race behind an empty line, and that of the access which it is with, if that is another one.
-fn put_title(out: &mut Vec<u8>, names: &Names, places: &Places, race: &Race<'_>) -> Put
-    requires { HasRaceNames names.now race.now }
-    ensures { OnOk result (out.new.items ≡ out.old.items ++ title_text names.now places.now race.now) }
+fn put_title(out: &mut Vec<u8>, legend: &Legend, race: &Race<'_>) -> Put
+    requires { HasRaceNames legend.now.names.now race.now }
+    ensures { OnOk result (out.new.items ≡ out.old.items ++ title_text legend.now.names.now legend.now.places.now race.now) }
 {
     out.extend_from_slice(b"\n")?;
-    put_met(out, names, places, race.site, met(race))?;
+    put_met(out, legend, race.site, met(race))?;
     out.extend_from_slice(b":\n")
 }
 
@@ -87,35 +82,23 @@ fn may_meet(lacks: bool, race: &Race<'_>, because: &Because) -> bool
     }
 }
 
-fn put_met(
-    out: &mut Vec<u8>,
-    names: &Names,
-    places: &Places,
-    site: Site,
-    met: Option<Because>,
-) -> Put
-    requires { site ≤ length names.now.sites }
-    ensures { OnOk result (out.new.items ≡ out.old.items ++ met_text names.now places.now.names site (option_and_then (reason_place places.now) met)) }
+fn put_met(out: &mut Vec<u8>, legend: &Legend, site: Site, met: Option<Because>) -> Put
+    requires { site ≤ length legend.now.names.now.sites }
+    ensures { OnOk result (out.new.items ≡ out.old.items ++ met_text legend.now.names.now legend.now.places.now.names site (option_and_then (reason_place legend.now.places.now) met)) }
 {
     match met {
-        Some(because) => put_beside(out, names, places, site, &because),
-        None => put_all(out, Style::Short, names, &[At(b"", site)]),
+        Some(because) => put_beside(out, legend, site, &because),
+        None => put_all(out, Style::Short, legend.names, &[At(b"", site)]),
     }
 }
 
-fn put_beside(
-    out: &mut Vec<u8>,
-    names: &Names,
-    places: &Places,
-    site: Site,
-    because: &Because,
-) -> Put
-    requires { site ≤ length names.now.sites }
-    ensures { OnOk result (out.new.items ≡ out.old.items ++ met_text names.now places.now.names site (reason_place places.now because.now)) }
+fn put_beside(out: &mut Vec<u8>, legend: &Legend, site: Site, because: &Because) -> Put
+    requires { site ≤ length legend.now.names.now.sites }
+    ensures { OnOk result (out.new.items ≡ out.old.items ++ met_text legend.now.names.now legend.now.places.now.names site (reason_place legend.now.places.now because.now)) }
 {
-    match places.of_reason(because) {
-        Some(place) => put_sites(out, names, places.names(), site, place),
-        None => put_all(out, Style::Short, names, &[At(b"", site)]),
+    match legend.places.of_reason(because) {
+        Some(place) => put_sites(out, legend.names, legend.places.names(), site, place),
+        None => put_all(out, Style::Short, legend.names, &[At(b"", site)]),
     }
 }
 
@@ -131,26 +114,14 @@ fn put_sites(out: &mut Vec<u8>, names: &Names, others: &Names, site: Site, place
     put_pair(out, names, others, site, place.site)
 }
 
-// Puts the access of a race, its locks and its reasons.
-fn put_access(
-    out: &mut Vec<u8>,
-    names: &Names,
-    places: &Places,
-    race: &Race<'_>,
-    kind: Kind,
-    word: Word,
-) -> Put
-    requires { HasRaceNames names.now race.now }
-    ensures { OnOk result (out.new.items ≡ out.old.items ++ access_story names.now places.now race.now kind word) }
+fn put_access(out: &mut Vec<u8>, legend: &Legend, race: &Race<'_>, kind: Kind, word: Word) -> Put
+    requires { HasRaceNames legend.now.names.now race.now }
+    ensures { OnOk result (out.new.items ≡ out.old.items ++ access_story legend.now.names.now legend.now.places.now race.now kind word) }
 {
-    put_head(out, names, race, kind, word)?;
-    put_locks(
-        out,
-        names,
-        race,
-        places.of_access(race.line, race.thread, kind),
-    )?;
-    put_reasons(out, names, places, race)?;
+    put_head(out, legend.names, race, kind, word)?;
+    let own = legend.places.of_access(race.line, race.thread, kind);
+    put_locks(out, legend.names, race, own)?;
+    put_reasons(out, legend, race)?;
     put_so(out, race)
 }
 
@@ -158,14 +129,10 @@ fn put_head(out: &mut Vec<u8>, names: &Names, race: &Race<'_>, kind: Kind, word:
     requires { HasRaceNames names.now race.now }
     ensures { OnOk result (out.new.items ≡ out.old.items ++ head_text names.now race.now kind word) }
 {
-    let pieces = [
-        Thread(b"  ", race.thread),
-        Text(access_text(kind)),
-        Address(b"", word),
-        Number(b" (line ", race.line),
-        Text(b")\n"),
-    ];
-    put_all(out, Style::Short, names, &pieces)
+    put!(out, Style::Short, names;
+        Thread(b"  ", race.thread), Text(access_text(kind)), Address(b"", word),
+        Number(b" (line ", race.line), Text(b")\n")
+    )
 }
 
 // Puts the locks that the thread of a race held, and which of them only to read as far as its place is known.
@@ -174,8 +141,7 @@ fn put_locks(out: &mut Vec<u8>, names: &Names, race: &Race<'_>, own: Option<&Pla
     ensures { OnOk result (out.new.items ≡ out.old.items ++ holds_text names.now race.now (option_copied own.entry) race.now.held) }
 {
     if race.held.is_empty() {
-        let pieces = [Thread(b"  ", race.thread), Text(b" held no lock\n")];
-        return put_all(out, Style::Short, names, &pieces);
+        return put!(out, Style::Short, names; Thread(b"  ", race.thread), Text(b" held no lock\n"));
     }
     for lock in race.held {
         put_held(out, names, race, own, *lock)?;
@@ -183,7 +149,6 @@ fn put_locks(out: &mut Vec<u8>, names: &Names, race: &Race<'_>, own: Option<&Pla
     Ok(())
 }
 
-// Puts one lock that the thread of a race held.
 fn put_held(
     out: &mut Vec<u8>,
     names: &Names,
@@ -195,13 +160,10 @@ fn put_held(
     requires lock { HasLockName names.now lock }
     ensures { OnOk result (out.new.items ≡ out.old.items ++ held_text names.now race.now (option_copied own.entry) lock) }
 {
-    let pieces = [
-        Thread(b"  ", race.thread),
-        Lock(b" held ", lock),
-        Text(mode_text(race, own, lock)),
-        Text(b"\n"),
-    ];
-    put_all(out, Style::Short, names, &pieces)
+    put!(out, Style::Short, names;
+        Thread(b"  ", race.thread), Lock(b" held ", lock), Text(mode_text(race, own, lock)),
+        Text(b"\n")
+    )
 }
 
 // That a lock was held only to read, if it didn't protect the access on the line or wasn't held to write at its place.
@@ -244,86 +206,67 @@ fn is_without(line: u64, lock: LockId, because: &Because) -> bool
 }
 
 /// Puts a reuse that races at no site in sentences, under the address of its first byte. Of another line it puts nothing.
-pub(crate) fn put_reuse_story(out: &mut Vec<u8>, names: &Names, places: &Places, line: &Line) -> Put
-    requires { HasNames names.now line.now }
-    ensures { OnOk result (out.new.items ≡ out.old.items ++ reuse_story names.now places.now (race_of (line_view line.now))) }
+pub(crate) fn put_reuse_story(out: &mut Vec<u8>, legend: &Legend, line: &Line) -> Put
+    requires { HasNames legend.now.names.now line.now }
+    ensures { OnOk result (out.new.items ≡ out.old.items ++ reuse_story legend.now.names.now legend.now.places.now (race_of (line_view line.now))) }
 {
     match line.race() {
-        Some(race) => put_lone(out, names, places, &race),
+        Some(race) => put_lone(out, legend, &race),
         None => Ok(()),
     }
 }
 
-fn put_lone(out: &mut Vec<u8>, names: &Names, places: &Places, race: &Race<'_>) -> Put
-    requires { HasRaceNames names.now race.now }
-    ensures { OnOk result (out.new.items ≡ out.old.items ++ lone_text names.now places.now race.now race.now.site race.now.deed) }
+fn put_lone(out: &mut Vec<u8>, legend: &Legend, race: &Race<'_>) -> Put
+    requires { HasRaceNames legend.now.names.now race.now }
+    ensures { OnOk result (out.new.items ≡ out.old.items ++ lone_text legend.now.names.now legend.now.places.now race.now race.now.site race.now.deed) }
 {
     match race.deed {
         Deed::Reuse(range) if race.site.number() == 0 => {
-            let pieces = [Address(b"", range.lo), Text(b":\n")];
-            put_all(out, Style::Short, names, &pieces)?;
-            put_reuse(out, names, places, race, &range)?;
+            put!(out, Style::Short, legend.names; Address(b"", range.lo), Text(b":\n"))?;
+            put_reuse(out, legend, race, &range)?;
             out.extend_from_slice(b"\n")
         }
         _ => Ok(()),
     }
 }
 
-// Puts who gave back how much memory, and why that is a race.
 #[tactic(auto, unfolding(crate::specs::Text::reuse_text))]
-fn put_reuse(
-    out: &mut Vec<u8>,
-    names: &Names,
-    places: &Places,
-    race: &Race<'_>,
-    range: &PageRange,
-) -> Put
-    requires { HasRaceNames names.now race.now }
-    ensures { OnOk result (out.new.items ≡ out.old.items ++ reuse_text names.now places.now race.now range.now) }
+fn put_reuse(out: &mut Vec<u8>, legend: &Legend, race: &Race<'_>, range: &PageRange) -> Put
+    requires { HasRaceNames legend.now.names.now race.now }
+    ensures { OnOk result (out.new.items ≡ out.old.items ++ reuse_text legend.now.names.now legend.now.places.now race.now range.now) }
 {
-    put_given_back(out, names, race, range)?;
-    put_reasons(out, names, places, race)
+    put_given_back(out, legend.names, race, range)?;
+    put_reasons(out, legend, race)
 }
 
 fn put_given_back(out: &mut Vec<u8>, names: &Names, race: &Race<'_>, range: &PageRange) -> Put
     requires { HasRaceNames names.now race.now }
     ensures { OnOk result (out.new.items ≡ out.old.items ++ given_back_text names.now race.now range.now) }
 {
-    let pieces = [
-        Thread(b"  ", race.thread),
-        Number(b" gave back ", bytes_of(range)),
-        Number(b" bytes (line ", race.line),
-        Text(b")\n"),
-    ];
-    put_all(out, Style::Short, names, &pieces)
+    put!(out, Style::Short, names;
+        Thread(b"  ", race.thread), Number(b" gave back ", bytes_of(range)),
+        Number(b" bytes (line ", race.line), Text(b")\n")
+    )
 }
 
-// Puts the reasons of a race.
-fn put_reasons(out: &mut Vec<u8>, names: &Names, places: &Places, race: &Race<'_>) -> Put
-    requires { HasRaceNames names.now race.now }
-    ensures { OnOk result (out.new.items ≡ out.old.items ++ flat_map (reason_text names.now places.now race.now.line) race.now.explained) }
+fn put_reasons(out: &mut Vec<u8>, legend: &Legend, race: &Race<'_>) -> Put
+    requires { HasRaceNames legend.now.names.now race.now }
+    ensures { OnOk result (out.new.items ≡ out.old.items ++ flat_map (reason_text legend.now.names.now legend.now.places.now race.now.line) race.now.explained) }
 {
     for because in race.explained {
-        put_reason(out, names, places, race.line, because)?;
+        put_reason(out, legend, race.line, because)?;
     }
     Ok(())
 }
 
-// Puts the sentence of one reason, and where its access stood.
-fn put_reason(
-    out: &mut Vec<u8>,
-    names: &Names,
-    places: &Places,
-    line: u64,
-    because: &Because,
-) -> Put
-    requires { HasReasonNames names.now because.now }
-    ensures { OnOk result (out.new.items ≡ out.old.items ++ reason_text names.now places.now line because.now) }
+fn put_reason(out: &mut Vec<u8>, legend: &Legend, line: u64, because: &Because) -> Put
+    requires { HasReasonNames legend.now.names.now because.now }
+    ensures { OnOk result (out.new.items ≡ out.old.items ++ reason_text legend.now.names.now legend.now.places.now line because.now) }
 {
     out.extend_from_slice(b"  ")?;
-    put_story(out, names, because)?;
-    put_line(out, names, because.line)?;
-    put_where(out, places, line, because)
+    put_story(out, legend.names, because)?;
+    put_line(out, legend.names, because.line)?;
+    put_where(out, legend.places, line, because)
 }
 
 fn put_story(out: &mut Vec<u8>, names: &Names, because: &Because) -> Put
@@ -332,42 +275,28 @@ fn put_story(out: &mut Vec<u8>, names: &Names, because: &Because) -> Put
 {
     let (thread, did) = (because.thread, did_text(because.kind));
     match because.label {
-        Label::First => {
-            let pieces = [Thread(b"", thread), Text(b" used it first: it"), Text(did)];
-            put_all(out, Style::Short, names, &pieces)
-        }
-        Label::Joined => {
-            let pieces = [Thread(b"", thread), Text(b" was the second: it"), Text(did)];
-            put_all(out, Style::Short, names, &pieces)
-        }
+        Label::First => put!(out, Style::Short, names;
+            Thread(b"", thread), Text(b" used it first: it"), Text(did)
+        ),
+        Label::Joined => put!(out, Style::Short, names;
+            Thread(b"", thread), Text(b" was the second: it"), Text(did)
+        ),
         Label::Write => {
-            let pieces = [Thread(b"", thread), Text(b" has written it since then")];
-            put_all(out, Style::Short, names, &pieces)
+            put!(out, Style::Short, names; Thread(b"", thread), Text(b" has written it since then"))
         }
-        Label::Uncovered(lock) => {
-            let pieces = [
-                Lock(b"", lock),
-                Thread(b" did not protect it when ", thread),
-                Text(did),
-            ];
-            put_all(out, Style::Short, names, &pieces)
-        }
-        Label::Unordered => {
-            let pieces = [
-                Thread(b"nothing orders this before it: ", thread),
-                Text(did),
-            ];
-            put_all(out, Style::Short, names, &pieces)
-        }
+        Label::Uncovered(lock) => put!(out, Style::Short, names;
+            Lock(b"", lock), Thread(b" did not protect it when ", thread), Text(did)
+        ),
+        Label::Unordered => put!(out, Style::Short, names;
+            Thread(b"nothing orders this before it: ", thread), Text(did)
+        ),
     }
 }
 
-// Puts the number of a line of the trace.
 fn put_line(out: &mut Vec<u8>, names: &Names, line: u64) -> Put
     ensures { OnOk result (out.new.items ≡ out.old.items ++ line_text line) }
 {
-    let pieces = [Number(b" (line ", line), Text(b")\n")];
-    put_all(out, Style::Short, names, &pieces)
+    put!(out, Style::Short, names; Number(b" (line ", line), Text(b")\n"))
 }
 
 // Puts what follows from the reasons, if they are known.

@@ -1,18 +1,17 @@
 //! The whole text.
-ghost use Rattle.std.specs.Prelude.{◌≡◌, ◌++◌, ◌≤◌, ◌==◌, ◌&&◌, All, count_by, flat_map, is_some, length, IfOk, IfSome, OnOk};
+ghost use Rattle.std.specs.Prelude.{◌≡◌, ◌++◌, ◌≤◌, ◌==◌, ◌&&◌, All, count_by, find, flat_map, is_some, length, option_copied, slice_get, IfOk, IfSome, OnOk};
 ghost use Rattle.std.specs.List.{list_any};
-ghost use Rattle.er_report.specs.Names.{HasNames};
-ghost use Rattle.er_report.specs.Reports.{HaveNames};
-ghost use Rattle.er_sites.specs.Sites.{AreSitesOf, end_if, lines_or, nothing_in, other_rows, others_text, others_title, reuses_text, run_text, sites_text, title_of};
-ghost use Rattle.er_sites.specs.Text.{is_reused};
+ghost use Rattle.er_sites.specs.Sites.{AreSitesOf, HaveNames, end_if, lines_or, nothing_in, other_rows, others_text, others_title, reuses_text, run_text, sites_text, title_of};
+ghost use Rattle.er_sites.specs.Text.{HasNames, example_of, if_some, is_refused, is_reused, kinds_text, refused_text, row_text, rows_text};
 
 use crate::counts::count_races;
+use crate::names::put_column;
 use crate::row::SiteRow;
-use crate::sites::{first_refused, put_refused, put_rows};
-use crate::stories::put_reuse_story;
+use crate::stories::{put_example, put_reuse_story};
 use crate::table::site_rows;
-use er_places::Places;
-use er_print::{Put, ReportKind, put_end};
+use er_places::Legend;
+use er_print::Piece::{Site as At, Text};
+use er_print::{Built, Put, ReportKind, Style, put, put_end, put_number};
 use er_report::{Line, Report, Reports};
 use er_trace::Names;
 use std::alloc::{AllocError, Global};
@@ -21,20 +20,15 @@ use std::alloc::{AllocError, Global};
 /// this very run, and the unordered reuses, and then the other sites of the races by the lockset rule, at which no lock is held in common. The
 /// line of the first refused step follows, and what each report ends with. If both reports are there, each part has a heading, and that of the
 /// run always has one. Behind each reason stands where its access was, as far as the places are known.
-pub fn sites_text(
-    alloc: Global,
-    reports: &Reports,
-    names: &Names,
-    places: &Places,
-) -> Result<Vec<u8>, AllocError>
-    requires { HaveNames names.now reports.now }
-    ensures { IfOk result (λ text. AreSitesOf names.now places.now reports.now text.items) }
+pub fn sites_text(alloc: Global, reports: &Reports, legend: &Legend) -> Built
+    requires { HaveNames legend.now.names.now reports.now }
+    ensures { IfOk result (λ text. AreSitesOf legend.now.names.now legend.now.places.now reports.now text.items) }
 {
     let unordered = lines_or(&reports.unordered, &[]);
-    let first = site_rows(alloc, unordered, names)?;
-    let all = site_rows(alloc, lines_or(&reports.lockset, &[]), names)?;
+    let first = site_rows(alloc, unordered, legend.names)?;
+    let all = site_rows(alloc, lines_or(&reports.lockset, &[]), legend.names)?;
     let others = other_rows(alloc, unordered, &all)?;
-    text_of_rows(alloc, reports, names, places, &first, &others)
+    text_of_rows(alloc, reports, legend, &first, &others)
 }
 
 // The lines of a report, or these if it isn't there.
@@ -47,33 +41,30 @@ fn lines_or<'a>(report: &'a Option<Report>, others: &'a [Line]) -> &'a [Line]
     }
 }
 
-// The text of these rows of both reports.
 #[tactic(auto, unfolding(crate::specs::Sites::sites_text))]
 fn text_of_rows(
     alloc: Global,
     reports: &Reports,
-    names: &Names,
-    places: &Places,
+    legend: &Legend,
     first: &[SiteRow],
     others: &[SiteRow],
-) -> Result<Vec<u8>, AllocError>
-    requires names { HaveNames names.now reports.now }
-    requires first { All (λ row. row.site ≤ length names.now.sites) first.now }
-    requires others { All (λ row. row.site ≤ length names.now.sites) others.now }
-    ensures { IfOk result (λ text. text.items ≡ sites_text names.now places.now reports.now first.now others.now) }
+) -> Built
+    requires names { HaveNames legend.now.names.now reports.now }
+    requires first { All (λ row. row.site ≤ length legend.now.names.now.sites) first.now }
+    requires others { All (λ row. row.site ≤ length legend.now.names.now.sites) others.now }
+    ensures { IfOk result (λ text. text.items ≡ sites_text legend.now.names.now legend.now.places.now reports.now first.now others.now) }
 {
     let refusing = lines_or(&reports.lockset, lines_or(&reports.unordered, &[]));
     let both = reports.unordered.is_some();
     let mut text = Vec::new(alloc);
-    put_run(&mut text, names, places, &reports.unordered, first)?;
-    put_others(&mut text, names, places, &reports.lockset, both, others)?;
+    put_run(&mut text, legend, &reports.unordered, first)?;
+    put_others(&mut text, legend, &reports.lockset, both, others)?;
     put_refused(&mut text, first_refused(refusing))?;
     put_end_if(&mut text, ReportKind::Lockset, &reports.lockset)?;
     put_end_if(&mut text, ReportKind::Unordered, &reports.unordered)?;
     Ok(text)
 }
 
-// Puts what a report ends with, if it is there.
 fn put_end_if(out: &mut Vec<u8>, of: ReportKind, report: &Option<Report>) -> Put
     ensures { OnOk result (out.new.items ≡ out.old.items ++ end_if of report.now) }
 {
@@ -84,44 +75,37 @@ fn put_end_if(out: &mut Vec<u8>, of: ReportKind, report: &Option<Report>) -> Put
 }
 
 // Puts what is unordered in this run: the sites of accesses, and then the reuses.
-fn put_run(
-    out: &mut Vec<u8>,
-    names: &Names,
-    places: &Places,
-    report: &Option<Report>,
-    rows: &[SiteRow],
-) -> Put
-    requires names { IfSome report.now (λ report. All (HasNames names.now) report.lines.items) }
-    requires rows { All (λ row. row.site ≤ length names.now.sites) rows.now }
-    ensures { OnOk result (out.new.items ≡ out.old.items ++ run_text names.now places.now report.now rows.now) }
+fn put_run(out: &mut Vec<u8>, legend: &Legend, report: &Option<Report>, rows: &[SiteRow]) -> Put
+    requires names { IfSome report.now (λ report. All (HasNames legend.now.names.now) report.lines.items) }
+    requires rows { All (λ row. row.site ≤ length legend.now.names.now.sites) rows.now }
+    ensures { OnOk result (out.new.items ≡ out.old.items ++ run_text legend.now.names.now legend.now.places.now report.now rows.now) }
 {
     let Some(report) = report else {
         return Ok(());
     };
     let nothing = nothing_in(&report.lines);
     put_title(out, b"races in this run", nothing, rows.is_empty())?;
-    put_rows(out, names, places, &report.lines, rows)?;
-    put_reuses(out, names, places, &report.lines)
+    put_rows(out, legend, &report.lines, rows)?;
+    put_reuses(out, legend, &report.lines)
 }
 
 // Puts the other sites, below a heading if those of the run stand above them.
 fn put_others(
     out: &mut Vec<u8>,
-    names: &Names,
-    places: &Places,
+    legend: &Legend,
     report: &Option<Report>,
     below: bool,
     rows: &[SiteRow],
 ) -> Put
-    requires names { IfSome report.now (λ report. All (HasNames names.now) report.lines.items) }
-    requires rows { All (λ row. row.site ≤ length names.now.sites) rows.now }
-    ensures { OnOk result (out.new.items ≡ out.old.items ++ others_text names.now places.now report.now below rows.now) }
+    requires names { IfSome report.now (λ report. All (HasNames legend.now.names.now) report.lines.items) }
+    requires rows { All (λ row. row.site ≤ length legend.now.names.now.sites) rows.now }
+    ensures { OnOk result (out.new.items ≡ out.old.items ++ others_text legend.now.names.now legend.now.places.now report.now below rows.now) }
 {
     let Some(report) = report else {
         return Ok(());
     };
     put_others_title(out, below, rows.is_empty())?;
-    put_rows(out, names, places, &report.lines, rows)
+    put_rows(out, legend, &report.lines, rows)
 }
 
 fn put_others_title(out: &mut Vec<u8>, below: bool, none: bool) -> Put
@@ -144,20 +128,18 @@ fn nothing_in(lines: &[Line]) -> &'static [u8]
     }
 }
 
-// Whether one of the lines is a reuse.
 fn has_reuse(lines: &[Line]) -> bool
     ensures { result ≡ list_any is_reused lines.now }
 {
     lines.iter().any(|line| matches!(line, Line::Reused { .. }))
 }
 
-// Puts the reuses in sentences.
-fn put_reuses(out: &mut Vec<u8>, names: &Names, places: &Places, lines: &[Line]) -> Put
-    requires { All (HasNames names.now) lines.now }
-    ensures { OnOk result (out.new.items ≡ out.old.items ++ reuses_text names.now places.now lines.now) }
+fn put_reuses(out: &mut Vec<u8>, legend: &Legend, lines: &[Line]) -> Put
+    requires { All (HasNames legend.now.names.now) lines.now }
+    ensures { OnOk result (out.new.items ≡ out.old.items ++ reuses_text legend.now.names.now legend.now.places.now lines.now) }
 {
     for line in lines {
-        put_reuse_story(out, names, places, line)?;
+        put_reuse_story(out, legend, line)?;
     }
     Ok(())
 }
@@ -183,4 +165,103 @@ fn other_rows(alloc: Global, lines: &[Line], rows: &[SiteRow]) -> Result<Vec<Sit
         }
     }
     Ok(others)
+}
+
+fn put_rows(out: &mut Vec<u8>, legend: &Legend, lines: &[Line], rows: &[SiteRow]) -> Put
+    requires names { All (HasNames legend.now.names.now) lines.now }
+    requires rows { All (λ row. row.site ≤ length legend.now.names.now.sites) rows.now }
+    ensures { OnOk result (out.new.items ≡ out.old.items ++ rows_text legend.now.names.now legend.now.places.now lines.now rows.now) }
+{
+    let heading = b"words     kinds       threads   locks     site\n";
+    put_if_some(out, rows, heading)?;
+    put_table(out, legend.names, rows)?;
+    put_examples(out, legend, lines, rows)?;
+    put_if_some(out, rows, b"\n")
+}
+
+fn put_if_some(out: &mut Vec<u8>, rows: &[SiteRow], text: &[u8]) -> Put
+    ensures { OnOk result (out.new.items ≡ out.old.items ++ if_some rows.now text.now) }
+{
+    if rows.is_empty() {
+        return Ok(());
+    }
+    out.extend_from_slice(text)
+}
+
+fn put_table(out: &mut Vec<u8>, names: &Names, rows: &[SiteRow]) -> Put
+    requires { All (λ row. row.site ≤ length names.now.sites) rows.now }
+    ensures { OnOk result (out.new.items ≡ out.old.items ++ flat_map (row_text names.now) rows.now) }
+{
+    for row in rows {
+        put_row(out, names, row)?;
+    }
+    Ok(())
+}
+
+fn put_row(out: &mut Vec<u8>, names: &Names, row: &SiteRow) -> Put
+    requires { row.now.site ≤ length names.now.sites }
+    ensures { OnOk result (out.new.items ≡ out.old.items ++ row_text names.now row.now) }
+{
+    put_column(out, row.races())?;
+    put_kinds(out, row.reads, row.writes, row.reuses)?;
+    put_column(out, row.threads)?;
+    put_column(out, row.locks)?;
+    put!(out, Style::Short, names; At(b"", row.site), Text(b"\n"))
+}
+
+// Puts what the races of a row do, and spaces up to the next column.
+fn put_kinds(out: &mut Vec<u8>, reads: u64, writes: u64, reuses: u64) -> Put
+    ensures { OnOk result (out.new.items ≡ out.old.items ++ kinds_text reads writes reuses) }
+{
+    out.extend_from_slice(match (reads, writes, reuses) {
+        (0, 0, _) => b"reuse       ".as_slice(),
+        (0, _, 0) => b"write       ".as_slice(),
+        (0, _, _) => b"write reuse ".as_slice(),
+        (_, 0, 0) => b"read        ".as_slice(),
+        (_, 0, _) => b"read reuse  ".as_slice(),
+        (_, _, 0) => b"read write  ".as_slice(),
+        _ => b"all three   ".as_slice(),
+    })
+}
+
+fn put_examples(out: &mut Vec<u8>, legend: &Legend, lines: &[Line], rows: &[SiteRow]) -> Put
+    requires { All (HasNames legend.now.names.now) lines.now }
+    ensures { OnOk result (out.new.items ≡ out.old.items ++ flat_map (λ row. example_of legend.now.names.now legend.now.places.now (slice_get lines.now row.example)) rows.now) }
+{
+    for row in rows {
+        put_example_at(out, legend, lines, row.example)?;
+    }
+    Ok(())
+}
+
+fn put_example_at(out: &mut Vec<u8>, legend: &Legend, lines: &[Line], place: usize) -> Put
+    requires { All (HasNames legend.now.names.now) lines.now }
+    ensures { OnOk result (out.new.items ≡ out.old.items ++ example_of legend.now.names.now legend.now.places.now (slice_get lines.now place)) }
+{
+    match lines.get(place) {
+        Some(line) => put_example(out, legend, line),
+        None => Ok(()),
+    }
+}
+
+fn first_refused(lines: &[Line]) -> Option<&Line>
+    ensures { option_copied result ≡ find is_refused lines.now }
+{
+    lines
+        .iter()
+        .find(|line| matches!(line, Line::Refused { .. }))
+}
+
+// Puts the line of the first refused step, if there is one, and why it was refused.
+fn put_refused(out: &mut Vec<u8>, found: Option<&Line>) -> Put
+    ensures { OnOk result (out.new.items ≡ out.old.items ++ refused_text (option_copied found.entry)) }
+{
+    let Some(Line::Refused { line, refusal, .. }) = found else {
+        return Ok(());
+    };
+    out.extend_from_slice(b"first refused: line ")?;
+    put_number(out, *line)?;
+    out.extend_from_slice(b": ")?;
+    out.extend_from_slice(refusal.text().as_bytes())?;
+    out.extend_from_slice(b"\n")
 }

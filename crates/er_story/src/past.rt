@@ -2,17 +2,95 @@
 ghost use Rattle.std.specs.Prelude.{◌≡◌, ◌+◌, ◌<◌, ◌≤◌, ◌^◌, ◌++◌, ◌∷◌, [], cond, not, length, IfOk, OnOk};
 ghost use Rattle.er_held.specs.ThreadLocks.{held_by};
 ghost use Rattle.er_story.specs.Inner.Past.{fresh, accessed, past_after, past_at};
-ghost use Rattle.er_story.specs.Story.{empties, same_state};
+ghost use Rattle.er_story.specs.Story.{empties, same_state, has_none_left};
+ghost use Rattle.er_model.specs.Table.{advanced, is_racy, reports, shared_by};
 
 use crate::Made;
-use crate::states::{advance, empties, same_state};
-use crate::story::Turn;
-use crate::word_story::WordStory;
-use er_event::{Event, Kind, Site, Step, ThreadId, Word, WordState};
+use crate::story::{Turn, WordStory};
+use er_event::{Event, Kind, Lockset, Site, Step, ThreadId, Word, WordState};
 use er_held::ThreadLocks;
 use er_trace::Trace;
 use std::alloc::Global;
 use std::marker::Model;
+
+/// The state after an access by a thread that holds these locks for it.
+pub(crate) fn advance(
+    before: &WordState,
+    thread: ThreadId,
+    kind: Kind,
+    locks: &Lockset,
+) -> Made<WordState>
+    ensures { IfOk result (λ after. after ≡ advanced before.now thread kind locks.now) }
+{
+    match before {
+        WordState::Virgin => Ok(WordState::Exclusive(thread)),
+        WordState::Exclusive(owner) => {
+            if *owner == thread {
+                return Ok(WordState::Exclusive(*owner));
+            }
+            Ok(shared_by(kind, locks.copy()?))
+        }
+        WordState::Shared(candidates) => Ok(shared_by(kind, candidates.intersect(locks)?)),
+        WordState::SharedModified(candidates) => {
+            Ok(WordState::SharedModified(candidates.intersect(locks)?))
+        }
+    }
+}
+
+fn shared_by(kind: Kind, candidates: Lockset) -> WordState
+    ensures { result ≡ shared_by kind candidates }
+{
+    match kind {
+        Kind::Read => WordState::Shared(candidates),
+        Kind::Write => WordState::SharedModified(candidates),
+    }
+}
+
+fn same_state(one: &WordState, other: &WordState) -> bool
+    ensures { result ≡ same_state one.now other.now }
+{
+    match (one, other) {
+        (WordState::Virgin, WordState::Virgin) => true,
+        (WordState::Exclusive(owner), WordState::Exclusive(thread)) => owner == thread,
+        (WordState::Shared(left), WordState::Shared(right)) => left == right,
+        (WordState::SharedModified(left), WordState::SharedModified(right)) => left == right,
+        _ => false,
+    }
+}
+
+pub(crate) fn reports(before: &WordState, after: &WordState) -> bool
+    ensures { result ≡ reports before.now after.now }
+{
+    is_racy(after) && !is_racy(before)
+}
+
+fn is_racy(state: &WordState) -> bool
+    ensures { result ≡ is_racy state.now }
+{
+    match state {
+        WordState::SharedModified(candidates) => candidates.is_empty(),
+        _ => false,
+    }
+}
+
+/// Whether the access between these states emptied the candidate set, or a second thread came by it without a lock.
+pub(crate) fn empties(before: &WordState, after: &WordState) -> bool
+    ensures { result ≡ empties before.now after.now }
+{
+    has_none_left(after) && !has_none_left(before)
+}
+
+// Whether several threads have used the word, and no lock is left.
+fn has_none_left(state: &WordState) -> bool
+    ensures { result ≡ has_none_left state.now }
+{
+    match state {
+        WordState::Virgin | WordState::Exclusive(_) => false,
+        WordState::Shared(candidates) | WordState::SharedModified(candidates) => {
+            candidates.is_empty()
+        }
+    }
+}
 
 /// What is known of a word, and how it came to be so since the word's last reuse.
 #[derive(Drop)]
@@ -31,7 +109,6 @@ impl Model for Past {
 }
 
 impl Past {
-    // No access counts yet.
     fn new(alloc: Global) -> Past
         ensures { result ≡ fresh }
     {
@@ -109,17 +186,12 @@ impl Past {
     pub(crate) fn told(self, word: Word, after: WordState) -> WordStory
         ensures { result ≡ record { word = word; before = self.state; after = after; accesses = self.accesses; turns = self.turns } }
     {
-        let Past {
-            state: before,
-            accesses,
-            turns,
-        } = self;
         WordStory {
             word,
-            before,
+            before: self.state,
             after,
-            accesses,
-            turns,
+            accesses: self.accesses,
+            turns: self.turns,
         }
     }
 }

@@ -1,20 +1,17 @@
 //! The story of a step of a trace.
-ghost use Rattle.std.specs.Prelude.{◌≡◌, ◌<◌, ◌==◌, ℕ, nat_lt, cond, length, slice_get, slice_index, IfOk, IfSome, None, Some, Ok, false};
+ghost use Rattle.std.specs.Prelude.{◌≡◌, ◌<◌, ◌==◌, ℕ, nat_lt, cond, length, slice_get, slice_index, IfOk, IfSome, None, Some, Ok, false, ◌≤◌, OnOk};
 ghost use Rattle.std.specs.List.{position};
 ghost use Rattle.er_event.specs.declared.steps.Reply.TheVariants.{Done, Ignored, Quiet, Race};
 ghost use Rattle.er_model.specs.Answers.{answer, answer_unless};
 ghost use Rattle.er_model.specs.Following.{locks_for};
-ghost use Rattle.er_model.specs.Holdings.{holdings_at, refused_by};
+ghost use Rattle.er_model.specs.Holdings.{holdings_at, refused_by, after_step};
 ghost use Rattle.er_model.specs.Table.{advanced, reports};
 ghost use Rattle.er_story.specs.Names.{HasStoryNames};
 ghost use Rattle.er_story.specs.Story.{has_word, story_at, story_of, story_on, tale_in};
 
 use crate::Made;
-use crate::holding::held_before;
-use crate::past::past_of;
-use crate::states::{advance, reports};
-use crate::story::Story;
-use crate::word_story::WordStory;
+use crate::past::{advance, past_of, reports};
+use crate::story::{Story, WordStory};
 use er_event::{Event, Kind, Lockset, Refusal, Reply, Step, ThreadId, WordState};
 use er_held::Held;
 use er_trace::Trace;
@@ -133,7 +130,6 @@ fn tell_of(
     }
 }
 
-// The state after an access of a word in this state.
 fn state_after(before: &WordState, holding: &Held, thread: ThreadId, kind: Kind) -> Made<WordState>
     ensures { IfOk result (λ after. after ≡ cond (nat_lt 0 holding.now.depth) before.now (advanced before.now thread kind (locks_for holding.now kind))) }
 {
@@ -143,7 +139,6 @@ fn state_after(before: &WordState, holding: &Held, thread: ThreadId, kind: Kind)
     advance(before, thread, kind, cover(holding, kind))
 }
 
-// What an access between these states is answered.
 fn reply_between(holding: &Held, before: &WordState, after: &WordState) -> Reply
     ensures { result ≡ cond (nat_lt 0 holding.now.depth) Ignored (cond (reports before.now after.now) Race Quiet) }
 {
@@ -156,7 +151,6 @@ fn reply_between(holding: &Held, before: &WordState, after: &WordState) -> Reply
     }
 }
 
-// The locks for an access of this kind.
 fn cover(holding: &Held, kind: Kind) -> &Lockset
     ensures { result.now ≡ locks_for holding.now kind }
 {
@@ -173,11 +167,32 @@ fn tell_other(holding: &mut Held, event: Event) -> Made<Told>
     ensures answer { IfOk result (λ told. told.answer ≡ answer_unless (refused_by holding.old event) Done) }
     ensures word { IfOk result (λ told. told.word ≡ None) }
 {
-    Ok(Told {
-        answer: match holding.follow(event)? {
-            Some(why) => Err(why),
-            None => Ok(Reply::Done),
-        },
-        word: None,
-    })
+    let answer = match holding.follow(event)? {
+        Some(why) => Err(why),
+        None => Ok(Reply::Done),
+    };
+    Ok(Told { answer, word: None })
+}
+
+// What the thread holds after the first `end` steps.
+fn held_before(alloc: Global, steps: &[Step], thread: ThreadId, end: usize) -> Made<Held>
+    requires { end ≤ length steps.now }
+    ensures { IfOk result (λ held. held ≡ holdings_at steps.now thread end) }
+{
+    let mut held = Held::new(alloc);
+    for at in 0..end {
+        let step = steps[at];
+        follow(&mut held, thread, step)?;
+    }
+    Ok(held)
+}
+
+// What the thread holds goes on by a step, which may be another thread's.
+fn follow(held: &mut Held, thread: ThreadId, step: Step) -> Made<()>
+    ensures { OnOk result (held.new ≡ after_step held.old thread step) }
+{
+    if step.thread == thread {
+        held.follow(step.event)?;
+    }
+    Ok(())
 }

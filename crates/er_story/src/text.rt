@@ -4,15 +4,13 @@ ghost use Rattle.er_device.specs.Device.{inner_of, has_failed, taken_of};
 ghost use Rattle.er_print.specs.Written.{FailsWriting, WritesReport};
 ghost use Rattle.er_report.specs.Names.{HasEventNames, HasLockName, HasLockNames, HasSiteName};
 ghost use Rattle.er_story.specs.Names.{HasStoryNames, HasTaleNames, HasTurnNames, HasWordNames};
-ghost use Rattle.er_story.specs.Text.{change_text, deed_text, held_text, holding_text, mode_text, step_text, story_text, turn_text, word_text};
+ghost use Rattle.er_story.specs.Text.{change_text, deed_text, held_text, holding_text, mode_text, step_text, story_text, turn_text, word_text, answer_text, emptied_text, no_race_text, quiet_text};
 
 use crate::Made;
-use crate::sentences::{emptied_text, put_answer};
-use crate::states::empties;
-use crate::story::{Story, Turn};
-use crate::word_story::WordStory;
+use crate::past::empties;
+use crate::story::{Story, Turn, WordStory};
 use er_device::Device;
-use er_event::{Event, LockId, Lockset};
+use er_event::{Event, LockId, Lockset, Refusal, Reply, WordState};
 use er_print::Piece::{Address, Event as Asked, Lock, Number, Site, State, Text, Thread, Verb};
 use er_print::{Put, Style, WriteFault, put_all, write_text};
 use er_trace::Names;
@@ -49,7 +47,6 @@ fn story_text(alloc: Global, names: &Names, story: &Story) -> Made<Vec<u8>>
     Ok(text)
 }
 
-// Puts the step, with the locks of its thread.
 fn put_step(out: &mut Vec<u8>, names: &Names, story: &Story) -> Put
     requires { HasStoryNames names.now story.now }
     ensures { OnOk result (out.new.items ≡ out.old.items ++ step_text names.now story.now) }
@@ -87,7 +84,6 @@ fn put_deed(out: &mut Vec<u8>, names: &Names, event: Event) -> Put
     }
 }
 
-// Puts the locks that a thread held.
 fn put_holding(out: &mut Vec<u8>, names: &Names, write_held: &Lockset, held: &[LockId]) -> Put
     requires { HasLockNames names.now held.now }
     ensures { OnOk result (out.new.items ≡ out.old.items ++ holding_text names.now write_held.now held.now) }
@@ -102,7 +98,6 @@ fn put_holding(out: &mut Vec<u8>, names: &Names, write_held: &Lockset, held: &[L
     Ok(())
 }
 
-// Puts a lock, and that it was held only to read if it was.
 fn put_held(out: &mut Vec<u8>, names: &Names, write_held: &Lockset, lock: LockId) -> Put
     requires { HasLockName names.now lock }
     ensures { OnOk result (out.new.items ≡ out.old.items ++ held_text names.now write_held.now lock) }
@@ -112,7 +107,6 @@ fn put_held(out: &mut Vec<u8>, names: &Names, write_held: &Lockset, lock: LockId
     put_all(out, Style::Plain, names, &pieces)
 }
 
-// That a lock was held only to read, if it was.
 fn mode_text(writes: bool) -> &'static [u8]
     ensures { result.now ≡ mode_text writes }
 {
@@ -123,7 +117,6 @@ fn mode_text(writes: bool) -> &'static [u8]
     }
 }
 
-// Puts what happened to the word of a step, if it has one.
 fn put_word(out: &mut Vec<u8>, names: &Names, word: &Option<WordStory>) -> Put
     requires { HasWordNames names.now word.now }
     ensures { OnOk result (out.new.items ≡ out.old.items ++ word_text names.now word.now) }
@@ -161,7 +154,6 @@ fn put_turns(out: &mut Vec<u8>, names: &Names, turns: &[Turn]) -> Put
     Ok(())
 }
 
-// Puts an access that changed the word's state.
 fn put_turn(out: &mut Vec<u8>, names: &Names, turn: &Turn) -> Put
     requires { HasTurnNames names.now turn.now }
     ensures { OnOk result (out.new.items ≡ out.old.items ++ turn_text names.now turn.now) }
@@ -181,4 +173,65 @@ fn put_turn(out: &mut Vec<u8>, names: &Names, turn: &Turn) -> Put
         Text(b"\n"),
     ];
     put_all(out, Style::Plain, names, &outcome)
+}
+
+// Puts what a step is answered, and why.
+fn put_answer(out: &mut Vec<u8>, word: &Option<WordStory>, answer: &Result<Reply, Refusal>) -> Put
+    ensures { OnOk result (out.new.items ≡ out.old.items ++ answer_text word.now answer.now) }
+{
+    match answer {
+        Ok(Reply::Done) => out.extend_from_slice(b"done"),
+        Ok(Reply::Quiet) => out.extend_from_slice(no_race_text(word)),
+        Ok(Reply::Race) => out.extend_from_slice(
+            b"race: the word was written, and no lock was held at each access since a second thread came",
+        ),
+        Ok(Reply::Ignored) => out.extend_from_slice(
+            b"not counted: the thread ignores its accesses",
+        ),
+        Ok(Reply::State(_)) => out.extend_from_slice(b"shown"),
+        Err(why) => {
+            out.extend_from_slice(b"refused: ")?;
+            out.extend_from_slice(why.text().as_bytes())
+        }
+    }
+}
+
+fn no_race_text(word: &Option<WordStory>) -> &'static [u8]
+    ensures { result.now ≡ no_race_text word.now }
+{
+    match word {
+        Some(word) => quiet_text(&word.after),
+        None => b"no race".as_slice(),
+    }
+}
+
+// Why an access that leaves its word in this state is no race.
+fn quiet_text(state: &WordState) -> &'static [u8]
+    ensures { result.now ≡ quiet_text state.now }
+{
+    match state {
+        WordState::Virgin => b"no race".as_slice(),
+        WordState::Exclusive(_) => b"no race: no second thread has used the word".as_slice(),
+        WordState::Shared(_) => {
+            b"no race: the word has not been written since a second thread came".as_slice()
+        }
+        WordState::SharedModified(candidates) => {
+            if candidates.is_empty() {
+                b"no race: the word was reported by an earlier access".as_slice()
+            } else {
+                b"no race: a candidate was held at each access since a second thread came".as_slice()
+            }
+        }
+    }
+}
+
+// That an access left no candidate, if it did.
+fn emptied_text(emptied: bool) -> &'static [u8]
+    ensures { result.now ≡ emptied_text emptied }
+{
+    if emptied {
+        b": this access left no candidate".as_slice()
+    } else {
+        b"".as_slice()
+    }
 }

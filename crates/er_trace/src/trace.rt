@@ -149,9 +149,13 @@ impl Trace {
         Ok(())
     }
 
-    /// Takes out the steps with their lines and sites, and puts these three lists in their place, whose room it keeps. The names stay.
-    pub fn take_steps(&mut self, steps: &mut Vec<Step>, lines: &mut Vec<u64>, sites: &mut Vec<Site>)
-        ensures trace { self.new ≡ without_steps self.old }
+    /// Takes out the steps with their lines and sites, and puts these three lists in their place. All their numbers have names already.
+    pub fn swap_steps(&mut self, steps: &mut Vec<Step>, lines: &mut Vec<u64>, sites: &mut Vec<Site>)
+        requires level { length lines.old.items ≡ length steps.old.items }
+        requires level_sites { length sites.old.items ≡ length steps.old.items }
+        requires named { All (IsNamed self.old.names) steps.old.items }
+        requires named_sites { All (HasSiteName self.old.names) sites.old.items }
+        ensures trace { self.new ≡ with_steps (without_steps self.old) steps.old.items lines.old.items sites.old.items }
         ensures steps { steps.new.items ≡ self.old.steps }
         ensures lines { lines.new.items ≡ self.old.lines }
         ensures sites { sites.new.items ≡ self.old.sites }
@@ -160,16 +164,13 @@ impl Trace {
         ensures level { length self.old.lines ≡ length self.old.steps }
         ensures level_sites { length self.old.sites ≡ length self.old.steps }
     {
-        steps.clear();
-        lines.clear();
-        sites.clear();
         mem::swap(&mut self.steps, steps);
         mem::swap(&mut self.lines, lines);
         mem::swap(&mut self.sites, sites);
     }
 
-    /// The same, and gives the steps and sites the numbers that their names have in another trace, and counts the lines from behind so many
-    /// lines.
+    /// Takes out the steps with their lines and sites, and keeps the room of these three lists. The steps and sites get the numbers that their
+    /// names have in another trace, and the lines are counted from behind so many lines.
     pub fn take_numbered(
         &mut self,
         numbers: &NewTable,
@@ -189,7 +190,10 @@ impl Trace {
         ensures level { length self.old.lines ≡ length self.old.steps }
         ensures level_sites { length self.old.sites ≡ length self.old.steps }
     {
-        self.take_steps(steps, lines, sites);
+        steps.clear();
+        lines.clear();
+        sites.clear();
+        self.swap_steps(steps, lines, sites);
         numbers.number_steps(steps.as_mut_slice());
         numbers.number_sites(sites.as_mut_slice());
         count_behind(before, lines.as_mut_slice());

@@ -9,7 +9,9 @@ use Rattle.er_report.specs.declared.report.Line.{Line}
 use Rattle.er_report.specs.declared.report.Report.{Report}
 use Rattle.er_report.specs.declared.reports.Reports.{Reports}
 use Rattle.er_rules.specs.Rules.{Target, AtSite, AtWords, takes, takes_reuse}
-use Rattle.er_trace.specs.Names.{NameTable}
+pub use Rattle.er_report.specs.Names.{HasNames}
+pub use Rattle.er_report.specs.Reports.{HaveNames}
+pub use Rattle.er_trace.specs.Names.{NameTable}
 use Rattle.er_triage.specs.declared.known.KnownRace.{KnownRace}
 use Rattle.er_triage.specs.declared.known.Raced.{Raced}
 use Rattle.er_triage.specs.declared.known.Raced.TheVariants.{Access, Reuse}

@@ -5,6 +5,7 @@ use Rattle.er_lines.specs.Naming.{is_name, is_site_name}
 use Rattle.er_trace.specs.Names.{NameTable}
 use Rattle.er_triage.specs.Known.{IsNamed}
 use Rattle.er_triage.specs.declared.known.KnownRace.{KnownRace}
+pub use Rattle.er_triage.specs.declared.known.KnownRace.{KnownRace as KnownRaceOf}
 use Rattle.er_triage.specs.declared.known.Raced.{Raced}
 use Rattle.er_triage.specs.declared.known.Raced.TheVariants.{Access, Reuse}
 

@@ -1,10 +1,7 @@
-//! A rule for each race that no rule before it takes.
-ghost use Rattle.std.specs.Prelude.{◌≡◌, ◌<◌, ◌^◌, All, length, map, slice_get, Some, IfOk, IfSome, OnOk};
-ghost use Rattle.er_report.specs.Names.{HasNames};
-ghost use Rattle.er_report.specs.Reports.{HaveNames};
+//! A rule for each race that no rule before it takes, and the rules of several files, one behind another.
+ghost use Rattle.std.specs.Prelude.{◌≡◌, ◌++◌, ◌<◌, ◌^◌, All, length, map, slice_get, Some, IfOk, IfSome, OnOk};
 ghost use Rattle.er_rules.specs.Rules.{target_of, targets_of};
-ghost use Rattle.er_trace.specs.Names.{NameTable};
-ghost use Rattle.er_triage.specs.Known.{known_target, lines_in, lines_of, race_of, race_target, raced_of, rule_of, rules_of, AreCounts, HasRacedName, IsTaken};
+ghost use Rattle.er_triage.specs.Known.{HasNames, HaveNames, NameTable, known_target, lines_in, lines_of, race_of, race_target, raced_of, rule_of, rules_of, AreCounts, HasRacedName, IsTaken};
 ghost use Rattle.er_triage.specs.Inner.Counting.{with_one_more, with_race, with_races};
 ghost use Rattle.er_triage.specs.Sound.{IsSound};
 
@@ -56,7 +53,16 @@ pub fn known_races(
     Ok(known)
 }
 
-// The lines of a report, if there is one.
+/// Adds copies of the other rules behind these. `AllocError`: memory was refused, and some of them may have been added.
+pub fn append_rules(rules: &mut Suppressions, others: &Suppressions) -> Put
+    ensures { OnOk result (targets_of rules.new ≡ targets_of rules.old ++ targets_of others.now) }
+{
+    for rule in &others.rules {
+        rules.push(copy_of(rule)?)?;
+    }
+    Ok(())
+}
+
 pub(crate) fn lines_in(report: &Option<Report>) -> &[Line]
     ensures lines { result.now ≡ lines_in report.now }
     ensures few { length (lines_in report.now) < 2 ^ 63 }
@@ -67,7 +73,6 @@ pub(crate) fn lines_in(report: &Option<Report>) -> &[Line]
     }
 }
 
-// Adds the races of these lines.
 fn add_lines(
     rules: &mut Suppressions,
     known: &mut Vec<KnownRace>,
@@ -89,7 +94,6 @@ fn add_lines(
     Ok(())
 }
 
-// The race of a line, if it is one.
 fn race_of(names: &Names, line: &Line) -> Option<KnownRace>
     requires { HasNames names.now line.now }
     ensures race { result ≡ race_of line.now }
@@ -140,7 +144,6 @@ fn add_race(
     }
 }
 
-// The place of the first rule that takes a race.
 fn rule_of(rules: &Suppressions, names: &Names, raced: Raced) -> Option<usize>
     requires { HasRacedName names.now raced }
     ensures rule { result ≡ rule_of names.now (targets_of rules.now) raced }
@@ -152,7 +155,6 @@ fn rule_of(rules: &Suppressions, names: &Names, raced: Raced) -> Option<usize>
     }
 }
 
-// One race more in this place.
 fn count_race(known: &mut Vec<KnownRace>, place: usize)
     requires { place < length known.old.items }
     ensures counted { known.new.items ≡ with_one_more known.old.items place (slice_get known.old.items place) }
@@ -164,7 +166,6 @@ fn count_race(known: &mut Vec<KnownRace>, place: usize)
     known[place] = race;
 }
 
-// The rule for a race.
 pub(crate) fn rule_for(alloc: Global, names: &Names, raced: Raced) -> Result<Rule, AllocError>
     requires { HasRacedName names.now raced }
     ensures { IfOk result (λ rule. target_of rule ≡ race_target names.now raced) }
@@ -176,5 +177,15 @@ pub(crate) fn rule_for(alloc: Global, names: &Names, raced: Raced) -> Result<Rul
     match name_of(names, site) {
         Some(name) => Ok(Rule::Site(Some(String::from_str(alloc, name)?))),
         None => Ok(Rule::Words(Some(WordSpan { first, last }))),
+    }
+}
+
+fn copy_of(rule: &Rule) -> Result<Rule, AllocError>
+    ensures { IfOk result (λ copy. target_of copy ≡ target_of rule.now) }
+{
+    match rule {
+        Rule::Site(Some(name)) => Ok(Rule::Site(Some(name.clone()?))),
+        Rule::Site(None) => Ok(Rule::Site(None)),
+        Rule::Words(words) => Ok(Rule::Words(*words)),
     }
 }

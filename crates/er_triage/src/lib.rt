@@ -18,16 +18,13 @@
 //! ```
 #![tactic(auto)]
 
-pub use first::keep_first_races;
-pub use joined::append_rules;
-pub use known::{KnownRace, Raced, known_races};
-pub use laws::{names_of_a_trace_are_sound, written_rules_are_read_back};
-pub use texts::{known_races_text, left_out_text, put_rule, unused_rules_text};
-pub use wishes::{Triaged, Wishes, triage};
+pub use known::{KnownRace, Raced, append_rules, known_races};
+pub use texts::{
+    known_races_text, left_out_text, names_of_a_trace_are_sound, put_rule, unused_rules_text,
+    written_rules_are_read_back,
+};
+pub use wishes::{Triaged, Wishes, keep_first_races, triage};
 
-mod first;
-mod joined;
 mod known;
-mod laws;
 mod texts;
 mod wishes;

@@ -1,25 +1,25 @@
-//! The texts of rules, each built whole in memory.
-ghost use Rattle.std.specs.Prelude.{◌≡◌, ◌++◌, All, cond, [], Some, IfOk, OnOk};
+//! The texts of rules, each built whole in memory, and what holds of them.
+ghost use Rattle.std.specs.Prelude.{ℕ, ◌≡◌, ◌≤◌, ◌++◌, All, cond, [], length, List, map, Some, IfOk, OnOk};
 ghost use Rattle.er_rules.specs.Rules.{AtWords, target_of, targets_of};
-ghost use Rattle.er_triage.specs.Known.{IsNamed};
+ghost use Rattle.er_rules.specs.Texts.{IsRules};
+ghost use Rattle.er_text.specs.Trace.{IsTrace};
+ghost use Rattle.er_trace.specs.Trace.{Recording};
+ghost use Rattle.er_triage.specs.Known.{known_target, IsNamed, NameTable};
+ghost use Rattle.er_triage.specs.Sound.{AreSound, IsSound, KnownRaceOf};
 ghost use Rattle.er_triage.specs.Texts.{comment_text, hidden_text, is_unused, known_text, known_races_text, left_out_text, taken_text, target_text, took_none, unused_from, unused_text};
 
 use crate::known::{KnownRace, Raced, rule_for};
 use er_event::Word;
 use er_print::Piece::{Address, Number, Text, Thread, Verb};
-use er_print::{Put, Style, bytes_of, put_address, put_all, put_number};
+use er_print::{Built, Put, Style, bytes_of, put, put_address, put_number};
 use er_report::{Report, Reports};
 use er_rules::{Rule, Suppressions, WordSpan};
 use er_sites::is_system_name;
 use er_trace::Names;
-use std::alloc::{AllocError, Global};
+use std::alloc::Global;
 
 /// A suppression text with the rules of these races. Above each rule is a comment that says what it takes.
-pub fn known_races_text(
-    alloc: Global,
-    known: &[KnownRace],
-    names: &Names,
-) -> Result<Vec<u8>, AllocError>
+pub fn known_races_text(alloc: Global, known: &[KnownRace], names: &Names) -> Built
     requires { All (IsNamed names.now) known.now }
     ensures { IfOk result (λ text. text.items ≡ known_races_text names.now known.now) }
 {
@@ -32,11 +32,7 @@ pub fn known_races_text(
 }
 
 /// A line for each rule that took no race of any of these reports.
-pub fn unused_rules_text(
-    alloc: Global,
-    suppressions: &Suppressions,
-    reports: &Reports,
-) -> Result<Vec<u8>, AllocError>
+pub fn unused_rules_text(alloc: Global, suppressions: &Suppressions, reports: &Reports) -> Built
     ensures { IfOk result (λ text. text.items ≡ unused_from 0 reports.now (targets_of suppressions.now)) }
 {
     let mut text = Vec::new(alloc);
@@ -47,7 +43,7 @@ pub fn unused_rules_text(
 }
 
 /// How many races were left out, or nothing if none was.
-pub fn left_out_text(alloc: Global, races: u64) -> Result<Vec<u8>, AllocError>
+pub fn left_out_text(alloc: Global, races: u64) -> Built
     ensures { IfOk result (λ text. text.items ≡ left_out_text races) }
 {
     let mut text = Vec::new(alloc);
@@ -58,6 +54,18 @@ pub fn left_out_text(alloc: Global, races: u64) -> Result<Vec<u8>, AllocError>
     }
     Ok(text)
 }
+
+/// The names of a trace are sound.
+pub fn names_of_a_trace_are_sound()
+    ensures { (text : List ℕ) (limit : ℕ) (t : Recording) → IsTrace text limit t → AreSound t.names }
+{}
+
+/// A text of the rules of known races has these rules and no fault, if it is within the limit and the names and races are sound, as those of
+/// a trace are.
+pub fn written_rules_are_read_back()
+    ensures { (names : NameTable) (known : List KnownRaceOf) (limit : ℕ) → AreSound names → All (IsSound names) known → length (known_races_text names known) ≤ limit
+        → IsRules (known_races_text names known) limit (map (known_target names) known) }
+{}
 
 fn put_known(out: &mut Vec<u8>, names: &Names, race: &KnownRace) -> Put
     requires { IsNamed names.now race.now }
@@ -97,32 +105,18 @@ fn put_taken(out: &mut Vec<u8>, names: &Names, race: &KnownRace) -> Put
     ensures { OnOk result (out.new.items ≡ out.old.items ++ taken_text names.now race.now) }
 {
     match race.raced {
-        Raced::Access(kind, word, _) => {
-            let pieces = [
-                Number(b"# races ", race.races),
-                Number(b", first: line ", race.line),
-                Thread(b", ", race.thread),
-                Verb(b" ", kind),
-                Address(b" ", word),
-                Text(b"\n"),
-            ];
-            put_all(out, Style::Plain, names, &pieces)
-        }
-        Raced::Reuse(range, _) => {
-            let pieces = [
-                Number(b"# races ", race.races),
-                Number(b", first: line ", race.line),
-                Thread(b", ", race.thread),
-                Address(b" reuse ", range.lo),
-                Number(b" ", bytes_of(&range)),
-                Text(b"\n"),
-            ];
-            put_all(out, Style::Plain, names, &pieces)
-        }
+        Raced::Access(kind, word, _) => put!(out, Style::Plain, names;
+            Number(b"# races ", race.races), Number(b", first: line ", race.line),
+            Thread(b", ", race.thread), Verb(b" ", kind), Address(b" ", word), Text(b"\n")
+        ),
+        Raced::Reuse(range, _) => put!(out, Style::Plain, names;
+            Number(b"# races ", race.races), Number(b", first: line ", race.line),
+            Thread(b", ", race.thread), Address(b" reuse ", range.lo),
+            Number(b" ", bytes_of(&range)), Text(b"\n")
+        ),
     }
 }
 
-// Puts the rule of the words from the first to the last.
 fn put_run(out: &mut Vec<u8>, first: Word, last: Word) -> Put
     ensures { OnOk result (out.new.items ≡ out.old.items ++ target_text (AtWords (Some (record { first = first; last = last })))) }
 {
@@ -149,7 +143,6 @@ fn is_unused(reports: &Reports, place: usize) -> bool
     took_none(&reports.lockset, place) && took_none(&reports.unordered, place)
 }
 
-// Puts the line of the rule of this number, if it took no race.
 fn put_if_unused(out: &mut Vec<u8>, unused: bool, number: u64, rule: &Rule) -> Put
     ensures { OnOk result (out.new.items ≡ out.old.items ++ cond unused (unused_text number (target_of rule.now)) []) }
 {

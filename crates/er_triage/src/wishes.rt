@@ -1,16 +1,15 @@
-//! All of it at once, as a command line asks for it.
-ghost use Rattle.std.specs.Prelude.{◌≡◌, ◌-◌, [], None, cond, false, true, length, IfOk, IsSomeAnd};
-ghost use Rattle.er_report.specs.Reports.{HaveNames};
+//! All of it at once, as a command line asks for it: reports with the lines of their first races alone, rules and notes.
+ghost use Rattle.std.specs.Prelude.{◌≡◌, ◌-◌, ◌||◌, [], None, cond, false, is_some, length, nat_lt, not, true, All, IfOk, IfSome, IsSomeAnd};
 ghost use Rattle.er_rules.specs.Rules.{targets_of};
-ghost use Rattle.er_triage.specs.First.{KeepFirst};
-ghost use Rattle.er_triage.specs.Known.{lines_of};
+ghost use Rattle.er_triage.specs.First.{first_races, KeepFirst, IsOfFirst, KeepsFirst};
+ghost use Rattle.er_triage.specs.Known.{lines_of, race_of, HasNames, HaveNames, NameTable};
 ghost use Rattle.er_triage.specs.Notes.{AreNotes, notes_text};
 ghost use Rattle.er_triage.specs.Texts.{unused_from, IsKnownText};
 
-use crate::first::keep_first_races;
 use crate::known::{known_races, lines_in};
 use crate::texts::{known_races_text, left_out_text, unused_rules_text};
-use er_report::Reports;
+use er_print::Built;
+use er_report::{Line, Report, Reports};
 use er_rules::Suppressions;
 use er_trace::Names;
 use std::alloc::{AllocError, Global};
@@ -71,6 +70,23 @@ pub fn triage(
     })
 }
 
+/// The report, if there is one, with the lines of its first races, at most this many if that is limited. All other lines and all counts are
+/// as they were.
+pub fn keep_first_races(
+    alloc: Global,
+    report: Option<Report>,
+    most: Option<u64>,
+) -> Result<Option<Report>, AllocError>
+    ensures report { IfOk result (KeepsFirst most report) }
+    ensures named { (names : NameTable) → IfSome report (λ report. All (HasNames names) report.lines.items)
+        → IfOk result (λ kept. IfSome kept (λ kept. All (HasNames names) kept.lines.items)) }
+{
+    match (report, most) {
+        (Some(report), Some(most)) => Ok(Some(keep_first(alloc, report, most)?)),
+        (report, _) => Ok(report),
+    }
+}
+
 fn known_if(
     alloc: Global,
     reports: &Reports,
@@ -88,12 +104,7 @@ fn known_if(
     Ok(Some(known_races_text(alloc, &known, names)?))
 }
 
-fn unused_if(
-    alloc: Global,
-    suppressions: &Suppressions,
-    reports: &Reports,
-    wanted: bool,
-) -> Result<Vec<u8>, AllocError>
+fn unused_if(alloc: Global, suppressions: &Suppressions, reports: &Reports, wanted: bool) -> Built
     ensures { IfOk result (λ text. text.items ≡ cond wanted (unused_from 0 reports.now (targets_of suppressions.now)) []) }
 {
     if !wanted {
@@ -102,9 +113,45 @@ fn unused_if(
     unused_rules_text(alloc, suppressions, reports)
 }
 
-// How many lines the reports have.
 fn count_lines(reports: &Reports) -> u64
     ensures { result ≡ length (lines_of reports.now) }
 {
     lines_in(&reports.lockset).len() as u64 + lines_in(&reports.unordered).len() as u64
+}
+
+fn keep_first(alloc: Global, mut report: Report, most: u64) -> Result<Report, AllocError>
+    ensures { IfOk result (IsOfFirst most report) }
+{
+    report.lines = first_lines(alloc, report.lines, most)?;
+    Ok(report)
+}
+
+fn first_lines(alloc: Global, lines: Vec<Line>, most: u64) -> Result<Vec<Line>, AllocError>
+    ensures { IfOk result (λ kept. kept.items ≡ first_races most lines.items) }
+{
+    let mut kept = Vec::new(alloc);
+    let mut left = most;
+    for line in lines {
+        if is_kept(&line, &mut left) {
+            kept.push(line)?;
+        } else {
+            drop(line);
+        }
+    }
+    Ok(kept)
+}
+
+// Whether a line is kept. A race is only if some are left, and then one less is.
+fn is_kept(line: &Line, left: &mut u64) -> bool
+    ensures kept { result ≡ (not (is_some (race_of line.now)) || nat_lt 0 left.old) }
+    ensures left { left.new ≡ cond (is_some (race_of line.now)) (left.old - 1) left.old }
+{
+    if line.race().is_none() {
+        return true;
+    }
+    if *left == 0 {
+        return false;
+    }
+    *left -= 1;
+    true
 }

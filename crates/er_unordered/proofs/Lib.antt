@@ -4,3 +4,4 @@ pub mod PassLemmas
 pub mod ReasonLemmas
 pub mod StandingLemmas
 pub mod StoppingLemmas
+pub mod Later

@@ -11,6 +11,7 @@ use Rattle.er_clock.specs.declared.clock.NoTick.TheVariants.{Beyond, OutOfMemory
 use Rattle.er_clock.specs.declared.clock.Limit.{Limit}
 use Rattle.er_event.specs.declared.steps.Step.{Step}
 use Rattle.er_clock.specs.Crowding.{BeyondIn, IsBeyond}
+use Rattle.er_unordered.proofs.Later.{beyond_at}
 use Rattle.er_order.proofs.StepLemmas.{acts-front, clocks-front}
 use Rattle.er_order.specs.Clocks.{Clocks, clocks_at}
 use Rattle.er_order.specs.Order.{Act, acts_of}
@@ -32,12 +33,9 @@ use Rattle.er_unordered.specs.Stops.{IsStopIn}
 pub beyond-on : (limit : Limit) (steps more : List Step) → BeyondIn limit steps → BeyondIn limit (steps ++ more)
 beyond-on limit steps more is =
     let low : is.at < length steps = is.within in
-    record {
-      at = is.at;
-      within = omega (arith, low, length-append steps more);
-      beyond = subst (λ (o : Option Act). IsBeyond limit (clocks_at (acts_of (steps ++ more)) is.at) o) (sym (acts-front steps more is.at low))
-          (subst (λ (clocks : Clocks). IsBeyond limit clocks (acts_of steps is.at)) (sym (clocks-front steps more is.at (omega (arith, low)))) is.beyond);
-    }
+    beyond_at limit (steps ++ more) is.at (omega (arith, low, length-append steps more))
+    (subst (λ (o : Option Act). IsBeyond limit (clocks_at (acts_of (steps ++ more)) is.at) o) (sym (acts-front steps more is.at low))
+    (subst (λ (clocks : Clocks). IsBeyond limit clocks (acts_of steps is.at)) (sym (clocks-front steps more is.at (omega (arith, low)))) is.beyond))
 
 -- a step that may be beyond a limit behind the first n steps
 pub beyond-here : (limit : Limit) (steps : List Step) (n : ℕ) (step : Step) → slice_get steps n ≡ Some step → IsBeyondAfter (take n steps) step limit → BeyondIn limit steps
@@ -46,11 +44,9 @@ beyond-here limit steps n step here is =
     (beyond-on limit (take (n + 1) steps) (drop (n + 1) steps) (subst (λ (s : List Step). BeyondIn limit s) (past-next steps n step here) (next (take n steps) is)))
   where
     next : (past : List Step) → IsBeyondAfter past step limit → BeyondIn limit (past ++ step ∷ [])
-    next past is = record {
-      at = length past;
-      within = omega (arith, length-append past (step ∷ []));
-      beyond = subst (λ (clocks : Clocks). IsBeyond limit clocks (acts_of (past ++ step ∷ []) (length past))) (sym (clocks-front past (step ∷ []) (length past) (omega arith))) is;
-    }
+    next past is =
+        beyond_at limit (past ++ step ∷ []) (length past) (omega (arith, length-append past (step ∷ [])))
+        (subst (λ (clocks : Clocks). IsBeyond limit clocks (acts_of (past ++ step ∷ []) (length past))) (sym (clocks-front past (step ∷ []) (length past) (omega arith))) is)
 
 -- why a step isn't answered
 pub stop-by : (steps : List Step) (why : NoTick) → ((limit : Limit) → why ≡ Beyond limit → BeyondIn limit steps) → IsStopIn steps why

@@ -5,10 +5,9 @@ ghost use Rattle.er_model.specs.Holdings.{refused_by, changed_by};
 ghost use Rattle.er_held.specs.Held.{nothing_held};
 ghost use Rattle.er_held.specs.ThreadLocks.{holding_among};
 
-use er_clock::Hints;
 use er_event::{Event, LockId, Mode, Refusal, ThreadId};
 use er_held::Held;
-use er_keys::{HashKeys, NumberHasher, index_of};
+use er_keys::{HashKeys, Hints, NumberHasher, index_of};
 use indexmap::IndexMap;
 use std::alloc::{AllocError, Global};
 use std::marker::Model;
@@ -54,7 +53,7 @@ impl Holders {
         ensures { result.now ≡ holding_among self.now thread }
     {
         let key = key_of(thread);
-        match index_of(&self.held, self.places.hint(thread.number()), key) {
+        match index_of(&self.held, self.places.hint(key), key) {
             Some(index) => &self.held[index],
             None => &self.nothing,
         }
@@ -76,17 +75,16 @@ impl Holders {
         ensures within { (l : ℕ) → IsTrue (has (holding_among self.old thread).write_held l) → IsTrue (has (holding_among self.old thread).held l) }
     {
         let key = key_of(thread);
-        match index_of(&self.held, self.places.hint(thread.number()), key) {
+        match index_of(&self.held, self.places.hint(key), key) {
             Some(index) => {
-                self.places.note(thread.number(), index);
+                self.places.note(key, index);
                 let held = &mut self.held[index];
                 change(held, event)
             }
             None => {
                 let mut held = Held::new(self.alloc);
                 change(&mut held, event)?;
-                self.places.make_room()?;
-                self.places.note(thread.number(), self.held.len());
+                self.places.note(key, self.held.len());
                 self.held.insert(key, held)?;
                 Ok(())
             }
@@ -99,7 +97,7 @@ impl Holders {
         ensures { (t : ℕ) → holding_among self.new t ≡ cond (nat_eq thread t) (changed_by (holding_among self.old thread) (Event.Release lock mode)) (holding_among self.old t) }
     {
         let key = key_of(thread);
-        match index_of(&self.held, self.places.hint(thread.number()), key) {
+        match index_of(&self.held, self.places.hint(key), key) {
             Some(index) => {
                 let held = &mut self.held[index];
                 give_up(held, lock, mode);

@@ -106,11 +106,22 @@ impl<'r> Analyst for OrderAnalyst<'r> {
 
     ghost stands = { λ ran asked r. HasOrdered ran asked r };
 
+    ghost ready = { λ ran asked r _. HasOrdered ran asked r };
+
     ghost wanted = { λ asked. asks_order asked.analysis };
 
     ghost answered = { λ ran. ran.built.report.steps };
 
     ghost found = { λ ran. ran.built.report.races };
+
+    fn prepare<R: Threads + Wait + Sync, B, F: FnMut() -> B>(
+        &mut self,
+        _rt: &R,
+        _steps: &[Step],
+        beside: &mut F,
+    ) -> B {
+        beside()
+    }
 
     fn answer<R: Threads + Wait + Sync>(
         &mut self,

@@ -5,11 +5,11 @@ use Rattle.er_exit.specs.declared.faults.Fault.{Fault}
 use Rattle.er_exit.specs.declared.faults.Fault.TheVariants as fault
 use Rattle.er_forms.specs.Forms.{IsForm}
 use Rattle.er_forms.specs.declared.excerpts.Excerpt.{Excerpt}
-use Rattle.er_parallel.specs.declared.faults.ReplayFault.TheVariants as replaying
+use Rattle.er_parallel.specs.declared.config.ReplayFault.TheVariants as replaying
 use Rattle.er_places.specs.Places.{PlaceTable}
 use Rattle.er_print.specs.Written.{WritesReport}
-use Rattle.er_print.specs.declared.fault.WriteFault.{WriteFault}
-use Rattle.er_print.specs.declared.fault.WriteFault.TheVariants as writing
+use Rattle.er_print.specs.declared.report.WriteFault.{WriteFault}
+use Rattle.er_print.specs.declared.report.WriteFault.TheVariants as writing
 use Rattle.er_report.specs.Reports.{asks_locks, asks_order}
 use Rattle.er_report.specs.declared.report.Report.{Report}
 use Rattle.er_report.specs.declared.reports.Reports.{Reports}

@@ -1,3 +1,5 @@
 mod NoteLemmas
 mod EndLemmas
 mod DeliverLemmas
+mod PrintLemmas
+mod TextLemmas

@@ -2,8 +2,8 @@
 use Rattle.er_exit.specs.Faults.{trace_fault}
 use Rattle.er_exit.specs.declared.faults.Fault.{Fault}
 use Rattle.er_exit.specs.declared.faults.Fault.TheVariants.{Damaged, Memory, TableFull, Beyond, Write, WorkerNotStarted, WorkerLost}
-use Rattle.er_parallel.specs.declared.faults.ReplayFault.TheVariants as replaying
-use Rattle.er_print.specs.declared.fault.WriteFault.TheVariants as writing
+use Rattle.er_parallel.specs.declared.config.ReplayFault.TheVariants as replaying
+use Rattle.er_print.specs.declared.report.WriteFault.TheVariants as writing
 use Rattle.er_run.specs.declared.fault.RunFault.{RunFault}
 use Rattle.er_run.specs.declared.fault.RunFault.TheVariants as running
 

@@ -1,5 +1,6 @@
 pub mod Faults
 pub mod Inner
 pub mod Notes
+pub mod Printing
 pub mod Replays
 pub mod Stories

@@ -2,7 +2,7 @@
 use Rattle.std.specs.Prelude.{◌⊎◌, ◌++◌, ◌&&◌, ◌||◌, ℕ, Bool, cond, List, [], Option}
 use Rattle.er_exit.specs.Notes.{notes_text}
 use Rattle.er_exit.specs.Writes.{WritesBytes}
-use Rattle.er_exit.specs.declared.notes.TextNotes.{TextNotes}
+use Rattle.er_exit.specs.declared.faults.TextNotes.{TextNotes}
 use Rattle.er_text.specs.declared.endings.Ending.{Ending}
 use Rattle.er_triage.specs.Notes.{AreNotes}
 

@@ -5,6 +5,7 @@ use Rattle.std.specs.Str.{bytes_eq}
 use Rattle.er_batch.specs.declared.options.Options.{Options}
 use Rattle.er_batch.specs.declared.verdict.Verdict.{Verdict}
 use Rattle.er_batch.specs.declared.verdict.Verdict.TheVariants.{Clean, Races, Stopped}
+use Rattle.er_binary.specs.Meaning.{meant}
 use Rattle.er_exit.specs.Lines.{fault_line}
 use Rattle.er_exit.specs.Statuses.{fault_status}
 use Rattle.er_exit.specs.Writes.{GetsLine}
@@ -61,12 +62,12 @@ shows_places replay = replay.explain && tells_places replay.form && not replay.u
 abbrev pub HasNoPlace : PlaceTable → Type 0
 HasNoPlace table = (line : ℕ) → place_at table line ≡ None
 
--- they are those of the accesses that the reports' reasons name, as the definitions give them of what a file has
+-- they are those of the accesses that the reports' reasons name, as the definitions give them of the text that a file means
 abbrev pub ArePlacesIn : {F : Type 0} → (F → Option (List ℕ)) → ℕ → Reports → PlaceTable → Type 0
-ArePlacesIn {F = F} remaining limit reports table = (file : F) × IfSome (remaining file) (λ text. ArePlaces (are_asked reports) text limit table)
+ArePlacesIn {F = F} remaining limit reports table = (file : F) × IfSome (remaining file) (λ bytes. ArePlaces (are_asked reports) (meant bytes) limit table)
 
 -- so it is, if places are shown; or none is known. Of the standard input none is. Of a real file this shows nothing but that the places, if there are some,
--- are those of what some file has: not that the trace was read again, nor that it was this file
+-- are those of what some file means: not that the trace was read again, nor that it was this file
 abbrev pub MayHavePlaces : {F : Type 0} → (F → Option (List ℕ)) → Replay → Reports → PlaceTable → Type 0
 MayHavePlaces remaining replay reports table = HasNoPlace table ⊎ ((shows_places replay ≡ true) × ArePlacesIn remaining replay.byte_limit reports table)
 

@@ -1,13 +1,18 @@
 //! One command line, run over a reader and its writers.
 ghost use Rattle.std.specs.Prelude.{◌≡◌, ◌≢◌, ◌≤◌, ◌||◌, ℕ, Bool, List, Option, [], false, true, None, codes, IfOk, IfErr, IfSome};
 ghost use Rattle.std.specs.Io.KnownBytes.{Keeps};
+ghost use Rattle.er_binary.specs.Decoded.{IsFresh, source_of};
+ghost use Rattle.er_binary.specs.Meaning.{meant};
 ghost use Rattle.er_device.specs.Device.{inner_of, has_failed};
-ghost use Rattle.er_exit.specs.Writes.{LeavesOutput};
-ghost use Rattle.er_request.specs.Words.{IsUsual, names_hints, names_progress, names_until_fault, replays_input};
+ghost use Rattle.er_exit.specs.Lines.{fault_line};
+ghost use Rattle.er_exit.specs.Statuses.{fault_status};
+ghost use Rattle.er_exit.specs.Writes.{GetsLine, LeavesOutput};
+ghost use Rattle.er_request.specs.Words.{IsUsual, names_hints, names_progress, names_until_fault, prints_input, replays_input};
 ghost use Rattle.er_report.specs.Reports.{asks_order};
 ghost use Rattle.er_text.specs.Ending.{IsEndingOf};
 ghost use Rattle.er_triage.specs.Notes.{AreNotes};
 ghost use Rattle.eraser.specs.Notes.{AddsNotesOn, GetsNotes, GetsTextNotes};
+ghost use Rattle.eraser.specs.Printing.{PrintsTo};
 ghost use Rattle.eraser.specs.Replays.{AreOptionsOf, ComesTo, EndsAs, EndsUsually, FailsAs};
 
 use crate::advice::trace_path;
@@ -16,10 +21,12 @@ use crate::notes::notes_of;
 use crate::replaying::{Ended, Job};
 use crate::rules::rules_of;
 use crate::stories::explain_step;
+use crate::traces::{print_trace, text_size};
 use crate::until::{Cut, cut_by, replay_trace, report_cut};
 use clap::error::ErrorKind;
+use er_binary::Decoded;
 use er_device::Device;
-use er_exit::{Fault, put, report_fault, run_demo, size_of};
+use er_exit::{Fault, put, report_fault, run_demo};
 use er_load::Workload;
 use er_request::{Replay, Request, read_request};
 use er_run::Options;
@@ -38,7 +45,7 @@ use std::thread::Threads;
 pub fn command<R, I, O, E, P>(
     rt: &R,
     words: &[String],
-    input: &mut Device<I>,
+    input: &mut Device<Decoded<I>>,
     output: &mut Device<O>,
     errors: &mut Device<E>,
     progress: &mut Device<P>,
@@ -51,13 +58,17 @@ where
     E: Write,
     P: Write,
     requires input { has_failed input.old ≡ false }
+    requires fresh { IsFresh (inner_of input.old) }
     requires output { has_failed output.old ≡ false }
     ensures status { result ≤ 4 }
 
-    // `replay -` has written the report that the definitions give of the input's text, and its status says whether the report has a race or
+    // `replay -` has written the report that the definitions give of the text that the input means, and its status says whether the report has a race or
     // stops for want of room. Or there is a fault: 2 is the text's first one, 3 a want of memory, and 4 a failed read or write, which is told
     // exactly if the input or the output has failed. Then the output has nothing, or a beginning of the report if a write failed.
-    ensures usual { replays_input words.now ≡ true → IfSome (I.remaining (inner_of input.old)) (λ text. ComesTo on_terminal text (has_failed input.new) (has_failed output.new) (O.contents (inner_of output.old)) (O.contents (inner_of output.new)) (E.contents (inner_of errors.old)) (E.contents (inner_of errors.new)) (has_failed errors.new) result) }
+    ensures usual { replays_input words.now ≡ true → IfSome (I.remaining (source_of (inner_of input.old))) (λ bytes. ComesTo on_terminal (meant bytes) (has_failed input.new) (has_failed output.new) (O.contents (inner_of output.old)) (O.contents (inner_of output.new)) (E.contents (inner_of errors.old)) (E.contents (inner_of errors.new)) (has_failed errors.new) result) }
+
+    // `print -` has written that text, or a beginning of it if a read or a write failed.
+    ensures printed { prints_input words.now ≡ true → IfSome (I.remaining (source_of (inner_of input.old))) (λ bytes. PrintsTo (meant bytes) (has_failed output.new) (O.contents (inner_of output.old)) (O.contents (inner_of output.new)) (E.contents (inner_of errors.old)) (E.contents (inner_of errors.new)) (has_failed errors.new) result) }
 
     // With a result nothing goes to the errors but the notes that were asked for and those on the text, and with wrong arguments or a
     // faulty text nothing to the output, unless a word asks for the steps before the fault. `progress` is a device of its own: `quiet`
@@ -78,6 +89,9 @@ where
         }
         Ok(Request::Explain(asked)) => {
             end(rt.alloc(), explain_step(rt, &asked, input, output), errors)
+        }
+        Ok(Request::Print(trace)) => {
+            end(rt.alloc(), print_trace(rt, trace, input, output), errors)
         }
         Ok(Request::Demo(demo)) => {
             let workload = Workload::ALL[demo.place];
@@ -144,7 +158,7 @@ where
         options: &options,
     };
     if replay.progress {
-        let size = trace_path(replay).and_then(|path| size_of(rt, path));
+        let size = trace_path(replay).and_then(|path| text_size(rt, path));
         let mut meter = Meter::new(rt, Some(progress), on_terminal, size);
         return replay_trace(rt, job, input, output, &mut meter);
     }
@@ -176,9 +190,10 @@ fn end_replay<R: Files + AllocGlobal, E: Write>(
     }
 }
 
-// Ends a story or a demo: with its status, or with its fault.
+// Ends what is no replay: with its status, or with its fault.
 fn end<E: Write>(alloc: Global, ended: Result<u8, Fault>, errors: &mut Device<E>) -> u8
     ensures given { IfOk ended (λ status. result ≡ status) }
+    ensures fault { IfErr ended (λ why. (result ≡ fault_status why) × GetsLine (E.contents (inner_of errors.old)) (E.contents (inner_of errors.new)) (fault_line why) (has_failed errors.new)) }
     ensures status { IfOk ended (λ status. status ≤ 1) → result ≤ 4 }
     ensures quiet { result ≤ 1 → Keeps (E.contents (inner_of errors.old)) (E.contents (inner_of errors.new)) }
     ensures refused { (old new : Option (List ℕ)) → IfOk ended (λ status. status ≤ 1) → IfErr ended (LeavesOutput old new) → result ≡ 2 → Keeps old new }

@@ -14,9 +14,11 @@ mod replaying;
 mod rules;
 mod sources;
 mod stories;
+mod traces;
 mod until;
 
 pub use command::command;
+use er_binary::Decoded;
 use er_device::Device;
 use er_exit::{Fault, report_fault};
 use std::env;
@@ -39,7 +41,7 @@ fn main(rt: HostRuntime) -> ExitCode {
             let status = command(
                 &rt,
                 words.as_slice(),
-                &mut Device::new(rt.stdin()),
+                &mut Device::new(Decoded::new(rt.alloc(), rt.stdin())),
                 &mut Device::new(rt.stdout()),
                 &mut errors,
                 &mut Device::new(rt.stderr()),

@@ -1,9 +1,11 @@
 //! A second look at a trace, for the places of the accesses that reasons name.
 ghost use Rattle.std.specs.Prelude.{◌≡◌, false, true, IfSome};
-ghost use Rattle.er_device.specs.Device.{has_failed};
+ghost use Rattle.er_binary.specs.Decoded.{IsFresh};
+ghost use Rattle.er_device.specs.Device.{has_failed, inner_of};
 ghost use Rattle.eraser.specs.Replays.{AreOptionsOf, MayHavePlaces, shows_places, tells_places};
 
 use crate::replaying::Job;
+use er_binary::Decoded;
 use er_device::Device;
 use er_exit::open_ordinary;
 use er_places::{Places, places_of_reports};
@@ -29,15 +31,19 @@ pub(crate) fn places_of<R: Files + AllocGlobal>(rt: &R, job: Job<'_>, reports: &
 }
 
 // The trace once more, if its reports have reasons whose places are shown. What is no ordinary file can't be read twice.
-fn open_again<R: Files>(rt: &R, replay: &Replay<'_>) -> Option<Device<R::File>>
+fn open_again<R: Files + AllocGlobal>(
+    rt: &R,
+    replay: &Replay<'_>,
+) -> Option<Device<Decoded<R::File>>>
     ensures open { IfSome result (λ again. has_failed again ≡ false) }
+    ensures fresh { IfSome result (λ again. IsFresh (inner_of again)) }
     ensures shown { IfSome result (λ again. shows_places replay.now ≡ true) }
 {
     if !shows_places(replay) {
         return None;
     }
     let file = open_ordinary(rt, replay.trace)?;
-    Some(Device::new(file))
+    Some(Device::new(Decoded::new(rt.alloc(), file)))
 }
 
 // Whether places are shown, and the trace may be a file that is read whole.

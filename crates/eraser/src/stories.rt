@@ -5,6 +5,7 @@ ghost use Rattle.er_exit.specs.Writes.{LeavesOutput};
 ghost use Rattle.eraser.specs.Stories.{ExplainsTo, FailsOutput, IsExplainFault, IsStoryFault, WritesStory};
 
 use crate::command::keys_from;
+use crate::traces::open_trace;
 use er_device::Device;
 use er_exit::Fault;
 use er_print::WriteFault;
@@ -13,7 +14,6 @@ use er_story::{tell_line, write_story};
 use er_text::read_trace_keyed;
 use er_trace::{NameKeys, Trace};
 use std::alloc::Global;
-use std::fs::File;
 use std::io::{Read, Write};
 use std::random::RandomSource;
 use std::rt::Files;
@@ -39,10 +39,8 @@ pub(crate) fn explain_step<R: Files + RandomSource + AllocGlobal, I: Read, O: Wr
     if asked.trace == "-" {
         return explain_from(rt.alloc(), asked, keys, input, output);
     }
-    let Ok(file) = File::open(rt, asked.trace) else {
-        return Err(Fault::OpenTrace);
-    };
-    explain_from(rt.alloc(), asked, keys, &mut Device::new(file), output)
+    let mut source = Device::new(open_trace(rt, asked.trace)?);
+    explain_from(rt.alloc(), asked, keys, &mut source, output)
 }
 
 // Reads the trace that the reader gives, and writes the story of the step on a line.

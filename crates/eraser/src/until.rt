@@ -16,6 +16,7 @@ ghost use Rattle.eraser.specs.Replays.{AreOptionsOf, EndsAs, FailsAs, FailsFor};
 use crate::advice::report_replay_fault;
 use crate::notes::notes_of;
 use crate::replaying::{Ended, Job, replay_from};
+use crate::traces::open_trace;
 use er_damage::Damage;
 use er_device::{Device, Keeping, Prefix};
 use er_exit::{Fault, is_ordinary, put, report_fault};
@@ -23,7 +24,6 @@ use er_request::Replay;
 use er_run::Watch;
 use er_text::TextFault;
 use std::alloc::Global;
-use std::fs::File;
 use std::io::{Read, Write};
 use std::rt::Files;
 use std::sync::Wait;
@@ -118,10 +118,10 @@ where
             Err(fault) => Err(cut_by(rt.alloc(), fault)),
         };
     }
-    let Ok(file) = File::open(rt, replay.trace) else {
-        return Err(cut_by(rt.alloc(), Fault::OpenTrace));
+    let mut source = match open_trace(rt, replay.trace) {
+        Ok(trace) => Device::new(trace),
+        Err(fault) => return Err(cut_by(rt.alloc(), fault)),
     };
-    let mut source = Device::new(file);
     if replay.until_fault && !is_ordinary(rt, replay.trace) {
         return replay_keeping(rt, job, &mut source, output, watcher);
     }
@@ -215,10 +215,7 @@ fn replay_lines<R: Files + AllocGlobal + Threads + Wait + Sync, O: Write, V: Wat
     }
     match again {
         Again::File(path) => {
-            let Ok(file) = File::open(rt, path) else {
-                return Err(Fault::OpenTrace);
-            };
-            let mut source = Device::new(Prefix::new(file, lines));
+            let mut source = Device::new(Prefix::new(open_trace(rt, path)?, lines));
             replay_from(rt, job, &mut source, output, watcher)
         }
         Again::Kept(text) => {

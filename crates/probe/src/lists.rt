@@ -1,14 +1,15 @@
 //! Steps of a machine, and what a list of steps is answered by others and explained by.
+
 use crate::Host;
-use crate::fault::{Fault, Made};
-use crate::work::{Work, kind_of, lock_of, number_of};
-use crate::world::{World, table_of};
-use crate::writing::{put_answers, put_explanation, put_reply};
+use crate::work::{Fault, Found, Made, Work, World, kind_of, lock_of, number_of, table_of};
+use crate::writing::{put_answers, put_explanation, put_locks, put_reply, put_shadow};
 use er_check::check_explanation;
-use er_event::{Event, Level, Refusal, Step, Sync};
+use er_event::{Event, Level, Lockset, Refusal, Step, Sync};
 use er_explain::{Explanation, Uncovered, explain};
 use er_gate::OpenGate;
 use er_journal::Outcome;
+use er_load::{LoadFault, Workload, run_workload};
+use er_owner::{Shadow, advance};
 use er_parallel::{ReplayConfig, ReplayFault, replay_parallel};
 use er_replay::{Machine, run};
 use std::alloc::{AllocError, Global};
@@ -16,7 +17,7 @@ use std::fmt::Write;
 use std::sync::Wait;
 
 /// `thread M CALL`: one more step, which the machine answers. One that finds no memory isn't put into the list.
-pub(crate) fn step<R: Wait>(rt: &R, world: &mut World<'_>, work: &mut Work<'_>) -> Made {
+pub(crate) fn step<R: Wait>(rt: &R, world: &mut World, work: &mut Work) -> Made {
     let thread = work.thread()?;
     let event = event_of(work)?;
     world.steps.reserve(1)?;
@@ -28,7 +29,7 @@ pub(crate) fn step<R: Wait>(rt: &R, world: &mut World<'_>, work: &mut Work<'_>) 
 }
 
 // The step of a call. A reuse is that of its first page.
-fn event_of(work: &mut Work<'_>) -> Result<Event, Fault> {
+fn event_of(work: &mut Work) -> Found<Event> {
     Ok(match work.next()? {
         "acquire" => Event::Acquire(work.lock()?, work.mode()?),
         "release" => Event::Release(work.lock()?, work.mode()?),
@@ -46,7 +47,7 @@ fn event_of(work: &mut Work<'_>) -> Result<Event, Fault> {
 }
 
 /// `run SETS`: the answers of a new machine, over a table of so many sets, up to where it stops.
-pub(crate) fn replayed<R: Host>(rt: &R, steps: &[Step], work: &mut Work<'_>) -> Made {
+pub(crate) fn replayed<R: Host>(rt: &R, steps: &[Step], work: &mut Work) -> Made {
     let table = table_of(rt.alloc(), work.count()?)?;
     let mut machine = Machine::new(rt.alloc(), &table)?;
     let outcome = run(rt, rt.alloc(), &mut machine, steps);
@@ -62,7 +63,7 @@ fn put_outcome(out: &mut String, outcome: Outcome) -> Result<(), AllocError> {
 }
 
 /// `parallel SHARDS SETS WORKERS`: the same by several workers.
-pub(crate) fn replayed_in_parallel<R: Host>(rt: &R, steps: &[Step], work: &mut Work<'_>) -> Made {
+pub(crate) fn replayed_in_parallel<R: Host>(rt: &R, steps: &[Step], work: &mut Work) -> Made {
     let config = ReplayConfig::new(work.count()?, work.count()?).ok_or(Fault::BadRow)?;
     let workers = work.count()?;
     if workers < 1 || workers > 16 {
@@ -78,13 +79,13 @@ pub(crate) fn replayed_in_parallel<R: Host>(rt: &R, steps: &[Step], work: &mut W
 }
 
 /// `explain K`: why step K is a race.
-pub(crate) fn explained(alloc: Global, steps: &[Step], work: &mut Work<'_>) -> Made {
+pub(crate) fn explained(alloc: Global, steps: &[Step], work: &mut Work) -> Made {
     let found = explain(alloc, steps, work.number()?)?;
     Ok(put_explanation(&mut work.answer, found.as_ref())?)
 }
 
 /// `check K FIRST JOIN WRITE LOCK@PLACE ..`: whether this explains step K.
-pub(crate) fn check(alloc: Global, steps: &[Step], work: &mut Work<'_>) -> Made {
+pub(crate) fn check(alloc: Global, steps: &[Step], work: &mut Work) -> Made {
     let place = work.number()?;
     let explanation = Explanation {
         first: work.number()?,
@@ -96,7 +97,7 @@ pub(crate) fn check(alloc: Global, steps: &[Step], work: &mut Work<'_>) -> Made 
     work.say(if is_accepted { "yes" } else { "no" })
 }
 
-fn uncovered_of(alloc: Global, work: &mut Work<'_>) -> Result<Vec<Uncovered>, Fault> {
+fn uncovered_of(alloc: Global, work: &mut Work) -> Found<Vec<Uncovered>> {
     let mut uncovered = Vec::new(alloc);
     for _ in work.left {
         let (lock, at) = work.next()?.split_once('@').ok_or(Fault::BadRow)?;
@@ -104,4 +105,60 @@ fn uncovered_of(alloc: Global, work: &mut Work<'_>) -> Result<Vec<Uncovered>, Fa
         uncovered.push(Uncovered { lock, at })?;
     }
     Ok(uncovered)
+}
+
+/// `meet LOCK .. and LOCK ..`: what two sets have in common.
+pub(crate) fn meet(alloc: Global, work: &mut Work) -> Made {
+    let (mut locks, mut others) = (Lockset::new(alloc), Lockset::new(alloc));
+    let mut is_second = false;
+    for _ in work.left {
+        if work.take("and").is_ok() {
+            is_second = true;
+        } else if is_second {
+            others.insert(work.lock()?)?;
+        } else {
+            locks.insert(work.lock()?)?;
+        }
+    }
+    Ok(put_locks(&mut work.answer, &locks.intersect(&others)?)?)
+}
+
+/// `shadow STATE`: a packed word, or `shadow STATE by M KIND with N`: that word after an access of thread M that needs set N.
+pub(crate) fn shadow(work: &mut Work) -> Made {
+    // A set's number has 30 bits, as a thread's has.
+    let shadow = match work.next()? {
+        "virgin" => Shadow::virgin(),
+        "exclusive" => Shadow::exclusive(work.thread()?),
+        "shared" => Shadow::shared(work.thread()?.number()),
+        "shared-modified" => Shadow::shared_modified(work.thread()?.number()),
+        _ => return Err(Fault::BadRow),
+    };
+    if work.end().is_ok() {
+        return Ok(put_shadow(&mut work.answer, shadow)?);
+    }
+    work.take("by")?;
+    let (thread, kind) = (work.thread()?, kind_of(work.next()?)?);
+    work.take("with")?;
+    let (next, is_race) = advance(shadow, thread, kind, work.thread()?.number());
+    put_shadow(&mut work.answer, next)?;
+    work.say(if is_race { ", race" } else { "" })
+}
+
+/// `workload NAME`: how many steps a workload's run has, and how many races.
+pub(crate) fn workload<R: Host>(rt: &R, work: &mut Work) -> Made {
+    let name = work.next()?;
+    let workload = Workload::ALL
+        .into_iter()
+        .find(|workload| workload.name() == name);
+    match run_workload(rt, rt.alloc(), workload.ok_or(Fault::BadRow)?, &OpenGate) {
+        Ok(run) => Ok(write!(
+            work.answer,
+            "steps {}, races {}",
+            run.steps.len(),
+            run.races()
+        )?),
+        Err(LoadFault::Refused(why)) => Err(why.into()),
+        Err(LoadFault::Unsettled(why)) => work.say(why.text()),
+        Err(LoadFault::WorkerNotStarted | LoadFault::WorkerLost) => Err(Fault::System),
+    }
 }

@@ -5,29 +5,25 @@
 //! was, and is made once more. A row that asks for nothing is told with its line, and the status is 2.
 #![tactic(auto)]
 
-mod acts;
-mod fault;
 mod lists;
-mod measuring;
-mod rows;
 mod seats;
-mod values;
 mod work;
-mod world;
 mod writing;
 
-use acts::play_row;
+use er_event::{Refusal, WordState};
 use er_replay::Machine;
 use er_table::LocksetTable;
-use fault::{Fault, Made};
-use rows::{Row, rows_of};
+use lists::{check, explained, meet, replayed, replayed_in_parallel, shadow, step, workload};
+use seats::{call, detector, enter, open, rate, settled, swap_shards};
+use std::fmt::Write;
 use std::io;
+use std::mem::swap;
 use std::process::ExitCode;
 use std::rt::Runtime;
 use std::sync::Wait;
 use std::thread::Threads;
-use work::{Work, count_of};
-use world::{Detectors, World, table_of};
+use work::{Detectors, Fault, Made, Row, Work, World, count_of, kind_of, rows_of, table_of};
+use writing::{put_entries, put_known, put_seat};
 
 /// What rows are played on.
 pub(crate) trait Host: Runtime + AllocGlobal + Threads + Wait + Sync {}
@@ -53,13 +49,14 @@ fn main(rt: HostRuntime) -> ExitCode {
     }
 }
 
-// Goes over all rows. The line is that of the row at work. Of these functions each owns one thing.
+// Goes over all rows. The line is that of the row at work.
 fn probe<R: Host>(rt: &R, line: &mut usize) -> Made {
     let text = io::read_to_string(rt.alloc(), rt.reader())?;
     let rows = rows_of(rt.alloc(), text.as_str())?;
     play(rt, rows.as_slice(), line)
 }
 
+// Of these three functions each owns one thing.
 fn play<R: Host>(rt: &R, rows: &[Row<'_>], line: &mut usize) -> Made {
     let (head, rows) = rows.split_first().ok_or(Fault::BadRow)?;
     *line = head.line;
@@ -72,11 +69,10 @@ fn play<R: Host>(rt: &R, rows: &[Row<'_>], line: &mut usize) -> Made {
 
 fn play_over<R: Host>(rt: &R, table: &LocksetTable, rows: &[Row<'_>], line: &mut usize) -> Made {
     let alloc = rt.alloc();
+    let list = Vec::new(alloc);
     let mut world = World {
         table,
-        detectors: Detectors {
-            list: Vec::new(alloc),
-        },
+        detectors: Detectors { list },
         seats: Vec::new(alloc),
         machine: Machine::new(alloc, table)?,
         steps: Vec::new(alloc),
@@ -91,4 +87,123 @@ fn play_at<R: Host>(rt: &R, world: &mut World<'_>, rows: &[Row<'_>], line: &mut 
         play_row(rt, world, &mut work, row)?;
     }
     Ok(())
+}
+
+// Makes a row's calls, and prints their answers on one line.
+fn play_row<'r, R: Host>(rt: &R, world: &mut World, work: &mut Work<'r>, row: &'r Row<'r>) -> Made {
+    let (count, step) = work.begin(row.words.as_slice())?;
+    for nth in 0..count {
+        work.raise(nth, step)?;
+        answer(rt, world, work, row.line)?;
+        work.add_answer()?;
+    }
+    work.print_line(rt)
+}
+
+fn answer<R: Host>(rt: &R, world: &mut World, work: &mut Work, line: usize) -> Made {
+    // A note that finds no memory is one of a call that finds some.
+    let _ = note(rt, world, work);
+    swap(&mut work.answer, &mut work.note);
+    work.rewind();
+    let mut made = act(rt, world, work);
+    if let Err(
+        Fault::Refused(Refusal::OutOfMemory) | Fault::Stopped(_, Refusal::OutOfMemory),
+    ) = made
+    {
+        work.rewind();
+        let _ = note(rt, world, work);
+        let is_same = work.answer == work.note;
+        let left = if is_same { "unchanged" } else { "changed" };
+        if let Err(Fault::Stopped(at, _)) = made {
+            eprintln!(rt; "line {line}: stopped at {at:#x} for want of memory, {left}")?;
+            work.from = at;
+        } else {
+            eprintln!(rt; "line {line}: out of memory, {left}")?;
+        }
+        work.rewind();
+        made = act(rt, world, work);
+    }
+    // A refusal is an answer, too.
+    match made {
+        Err(Fault::Refused(why)) => work.say(why.text()),
+        Err(Fault::Stopped(at, why)) => Ok(write!(work.answer, "stopped at {at:#x}: {why}")?),
+        _ => made,
+    }
+}
+
+// Writes what a refused call must leave as it was: how many seats and entries there are, and the seat or the word of the row.
+fn note<R: Wait>(rt: &R, world: &World, work: &mut Work) -> Made {
+    write!(work.answer, "{}", world.seats.len())?;
+    for detector in world.detectors.list.iter().flatten() {
+        for number in 0..detector.config().shards {
+            let entries = detector.shard(rt, number).journal().len();
+            write!(work.answer, " {entries}")?;
+        }
+    }
+    match work.next()? {
+        "seat" => match world.seats.get(work.count()? as usize) {
+            Some(Some(seat)) => Ok(put_seat(&mut work.answer, seat)?),
+            _ => Ok(()),
+        },
+        "thread" => {
+            work.thread()?;
+            kind_of(work.next()?)?;
+            put_state(world.machine.state_of(work.word()?)?, work)
+        }
+        _ => Ok(()),
+    }
+}
+
+// Makes a call, and writes what it is answered.
+fn act<R: Host>(rt: &R, world: &mut World, work: &mut Work) -> Made {
+    let alloc = rt.alloc();
+    match work.next()? {
+        "detector" => detector(alloc, world, work)?,
+        "open" => open(world, work)?,
+        "seat" => call(rt, world, work)?,
+        "settle" => settled(alloc, world, work)?,
+        "thread" => step(rt, world, work)?,
+        "word" => put_state(world.machine.state_of(work.word()?)?, work)?,
+        "sets" => write!(work.answer, "{}", world.table.sets(rt))?,
+        "run" => replayed(rt, &world.steps, work)?,
+        "parallel" => replayed_in_parallel(rt, &world.steps, work)?,
+        "explain" => explained(alloc, &world.steps, work)?,
+        "check" => check(alloc, &world.steps, work)?,
+        "meet" => meet(alloc, work)?,
+        "shadow" => shadow(work)?,
+        "workload" => workload(rt, work)?,
+        verb => ask_detectors(rt, &world.detectors, verb, work)?,
+    }
+    work.end()
+}
+
+fn ask_detectors<R: Host>(rt: &R, detectors: &Detectors, verb: &str, work: &mut Work) -> Made {
+    match verb {
+        "enter" => enter(rt, detectors, work),
+        "swap" => swap_shards(rt, detectors, work),
+        "entries" => {
+            let shard = detectors.shard(rt, work.side()?, work.count()?)?;
+            Ok(write!(work.answer, "{}", shard.journal().len())?)
+        }
+        "journal" => {
+            let shard = detectors.shard(rt, work.side()?, work.count()?)?;
+            Ok(put_entries(&mut work.answer, shard.journal())?)
+        }
+        "races" => {
+            let races = detectors.at(work.side()?)?.races(rt)?;
+            Ok(put_entries(&mut work.answer, races.as_slice())?)
+        }
+        "state" => {
+            let detector = detectors.at(work.side()?)?;
+            let word = work.word()?;
+            let shard = detector.shard(rt, detector.shard_of(word));
+            put_state(shard.state_of(word)?, work)
+        }
+        "rate" => rate(rt, detectors.at(0)?, work),
+        _ => Err(Fault::BadRow),
+    }
+}
+
+fn put_state(state: WordState, work: &mut Work) -> Made {
+    Ok(put_known(&mut work.answer, &state)?)
 }

@@ -1,20 +1,23 @@
 //! Calls at detectors: of seats, at their shards, and of a detector and seats that are settled.
+ghost use Rattle.std.specs.Prelude.{◌<◌};
+
 use crate::Host;
-use crate::fault::{Fault, Made};
-use crate::work::{Work, count_of, kind_of};
-use crate::world::{Detectors, World};
+use crate::work::{Detectors, Fault, Found, Made, Work, World, count_of, kind_of};
 use crate::writing::{put_reply, put_run, put_seat};
 use er_detector::{Config, Detector, settle};
-use er_event::{Kind, Level, LockId, Lockset, NoRoom, Site};
+use er_event::{Kind, Level, LockId, Lockset, Mode, NoRoom, Refusal, Reply, Site, Word};
 use er_journal::{HeldLocks, Stamp};
 use er_seat::Seat;
 use er_shard::Shard;
 use std::alloc::Global;
+use std::fmt::Write;
 use std::mem::swap;
 use std::sync::Wait;
+use std::thread;
+use std::time::Instant;
 
 /// `detector NUMBER SHARDS JOURNAL SEATS`: one more detector, of which the first is `a` and the second `b`.
-pub(crate) fn detector(alloc: Global, world: &mut World<'_>, work: &mut Work<'_>) -> Made {
+pub(crate) fn detector(alloc: Global, world: &mut World, work: &mut Work) -> Made {
     let name = work.number()?;
     let config = Config::new(name, work.count()?, work.count()?, work.count()?);
     world.detectors.list.reserve(1)?;
@@ -24,7 +27,7 @@ pub(crate) fn detector(alloc: Global, world: &mut World<'_>, work: &mut Work<'_>
 }
 
 /// `open SIDE`: one more seat, which stands behind the others.
-pub(crate) fn open(world: &mut World<'_>, work: &mut Work<'_>) -> Made {
+pub(crate) fn open(world: &mut World, work: &mut Work) -> Made {
     world.seats.reserve(1)?;
     let seat = world.detectors.at(work.side()?)?.open_seat()?;
     world.seats.push_reserved(Some(seat));
@@ -32,19 +35,14 @@ pub(crate) fn open(world: &mut World<'_>, work: &mut Work<'_>) -> Made {
 }
 
 /// `seat K CALL`, or `seat K`, which asks what it holds.
-pub(crate) fn call<R: Wait>(rt: &R, world: &mut World<'_>, work: &mut Work<'_>) -> Made {
+pub(crate) fn call<R: Wait>(rt: &R, world: &mut World, work: &mut Work) -> Made {
     match world.seats.get_mut(work.count()? as usize) {
         Some(Some(seat)) => call_by(rt, &world.detectors, seat, work),
         _ => Err(Fault::BadRow),
     }
 }
 
-fn call_by<R: Wait>(
-    rt: &R,
-    detectors: &Detectors<'_>,
-    seat: &mut Seat,
-    work: &mut Work<'_>,
-) -> Made {
+fn call_by<R: Wait>(rt: &R, detectors: &Detectors, seat: &mut Seat, work: &mut Work) -> Made {
     if work.end().is_ok() {
         return Ok(put_seat(&mut work.answer, seat)?);
     }
@@ -62,44 +60,34 @@ fn call_by<R: Wait>(
                 return Err(Fault::Stopped(at, stopped.cause));
             }
         }
-        kind => return access(rt, detectors, seat, kind_of(kind)?, work),
+        // An access at a detector, or `in SIDE N` in a shard whose lock is taken here.
+        kind => {
+            let (kind, word, site) = (kind_of(kind)?, work.word()?, work.site());
+            let reply = if work.take("in").is_ok() {
+                let side = work.side()?;
+                let mut shard = detectors.shard(rt, side, work.count()?)?;
+                let detector = detectors.at(side)?;
+                detector.access_in(rt, &mut shard, seat, word, kind, site)?
+            } else {
+                let detector = detectors.at(side_of(work)?)?;
+                detector.access(rt, seat, word, kind, site)?
+            };
+            return Ok(put_reply(&mut work.answer, reply)?);
+        }
     }
     work.say("done")
 }
 
 // The place of the detector that a seat calls: `at SIDE`, or the first.
-fn side_of(work: &mut Work<'_>) -> Result<usize, Fault> {
+fn side_of(work: &mut Work) -> Found<usize> {
     match work.take("at") {
         Ok(()) => work.side(),
         Err(_) => Ok(0),
     }
 }
 
-// An access at a detector, or `in SIDE N` in a shard whose lock is taken here.
-fn access<R: Wait>(
-    rt: &R,
-    detectors: &Detectors<'_>,
-    seat: &mut Seat,
-    kind: Kind,
-    work: &mut Work<'_>,
-) -> Made {
-    let (word, site) = (work.word()?, work.site());
-    let reply = if work.take("in").is_ok() {
-        let side = work.side()?;
-        let mut shard = detectors.shard(rt, side, work.count()?)?;
-        detectors
-            .at(side)?
-            .access_in(rt, &mut shard, seat, word, kind, site)?
-    } else {
-        detectors
-            .at(side_of(work)?)?
-            .access(rt, seat, word, kind, site)?
-    };
-    Ok(put_reply(&mut work.answer, reply)?)
-}
-
 /// `enter SIDE N ticket T thread M ..`: an entry that no seat called for, an access or a reset.
-pub(crate) fn enter<R: Host>(rt: &R, detectors: &Detectors<'_>, work: &mut Work<'_>) -> Made {
+pub(crate) fn enter<R: Host>(rt: &R, detectors: &Detectors, work: &mut Work) -> Made {
     let (side, number) = (work.side()?, work.count()?);
     work.take("ticket")?;
     let ticket = work.ticket()?;
@@ -120,14 +108,8 @@ pub(crate) fn enter<R: Host>(rt: &R, detectors: &Detectors<'_>, work: &mut Work<
 }
 
 // `holding LOCK ..`: the locks that a thread holds, in which `LOCKr` is held in read mode alone.
-fn held_of(alloc: Global, work: &mut Work<'_>) -> Result<HeldLocks, Fault> {
-    let mut held = Lockset::new(alloc);
-    let mut write_held = Lockset::new(alloc);
-    add_locks(&mut held, &mut write_held, work)?;
-    Ok(HeldLocks::new(alloc, &held, &write_held)?)
-}
-
-fn add_locks(held: &mut Lockset, write_held: &mut Lockset, work: &mut Work<'_>) -> Made {
+fn held_of(alloc: Global, work: &mut Work) -> Found<HeldLocks> {
+    let (mut held, mut write_held) = (Lockset::new(alloc), Lockset::new(alloc));
     work.take("holding")?;
     for _ in work.left {
         let word = work.next()?;
@@ -137,11 +119,11 @@ fn add_locks(held: &mut Lockset, write_held: &mut Lockset, work: &mut Work<'_>) 
             write_held.insert(lock)?;
         }
     }
-    Ok(())
+    Ok(HeldLocks::new(alloc, &held, &write_held)?)
 }
 
 /// `swap SIDE N SIDE M`: two shards change places, each under its lock.
-pub(crate) fn swap_shards<R: Wait>(rt: &R, detectors: &Detectors<'_>, work: &mut Work<'_>) -> Made {
+pub(crate) fn swap_shards<R: Wait>(rt: &R, detectors: &Detectors, work: &mut Work) -> Made {
     let here = (work.side()?, work.count()?);
     let there = (work.side()?, work.count()?);
     if here == there {
@@ -154,40 +136,115 @@ pub(crate) fn swap_shards<R: Wait>(rt: &R, detectors: &Detectors<'_>, work: &mut
 }
 
 /// `settle SIDE K ..`: a detector and these seats, which are then no longer there. All are there if there is no memory for the seats.
-pub(crate) fn settled(alloc: Global, world: &mut World<'_>, work: &mut Work<'_>) -> Made {
+pub(crate) fn settled(alloc: Global, world: &mut World, work: &mut Work) -> Made {
     let side = work.side()?;
     let mut seats = Vec::with_capacity(alloc, work.left.len())?;
-    let detector = match take_all(world, side, &mut seats, work) {
-        Ok(detector) => detector,
-        Err(fault) => {
-            drop(seats);
-            return Err(fault);
-        }
-    };
+    for _ in work.left {
+        let seat = world.seats.get_mut(work.count()? as usize);
+        seats.push(seat.and_then(Option::take).ok_or(Fault::BadRow)?)?;
+    }
+    let detector = world.detectors.list.get_mut(side);
+    let detector = detector.and_then(Option::take).ok_or(Fault::BadRow)?;
     match settle(alloc, detector, seats) {
-        Ok(run) => {
-            let put = put_run(&mut work.answer, &run);
-            drop(run);
-            Ok(put?)
-        }
+        Ok(run) => Ok(put_run(&mut work.answer, &run)?),
         Err(fault) => work.say(fault.text()),
     }
 }
 
-fn take_all<'t>(
-    world: &mut World<'t>,
-    side: usize,
-    seats: &mut Vec<Seat>,
-    work: &mut Work<'_>,
-) -> Result<Detector<'t>, Fault> {
-    for _ in work.left {
-        match world.seats.get_mut(work.count()? as usize) {
-            Some(seat) => seats.push(seat.take().ok_or(Fault::BadRow)?)?,
-            None => return Err(Fault::BadRow),
+/// The pages that threads call.
+#[derive(Clone, Copy)]
+enum Shape {
+    /// Each thread keeps to a page of its own.
+    Own,
+    /// All threads go over 64 pages, sixteen calls at a page, and seldom meet at one.
+    Spread,
+    /// All threads call one page.
+    One,
+}
+
+impl Shape {
+    // The page of a thread's call.
+    fn page(self, thread: u64, call: u64) -> u64
+        ensures { result < 64 }
+    {
+        match self {
+            Shape::Own => thread % 4,
+            Shape::Spread => (call / 16 + thread % 4 * 16) % 64,
+            Shape::One => 0,
         }
     }
-    match world.detectors.list.get_mut(side) {
-        Some(detector) => detector.take().ok_or(Fault::BadRow),
-        None => Err(Fault::BadRow),
+
+    // The word of a thread's call: after as many calls as a page has words they come again.
+    fn word(self, thread: u64, call: u64) -> Word {
+        Word::new(self.page(thread, call) * Word::PER_PAGE + call % Word::PER_PAGE)
     }
+}
+
+/// `rate SHAPE THREADS CALLS`: makes all calls on their threads, and writes how many they are and how many races they report. Each thread holds
+/// one lock, under which all words were written before. The microseconds are those from before the first thread to after the last.
+pub(crate) fn rate<R: Host>(rt: &R, detector: &Detector, work: &mut Work) -> Made {
+    let shape = match work.next()? {
+        "own" => Shape::Own,
+        "spread" => Shape::Spread,
+        "one" => Shape::One,
+        _ => return Err(Fault::BadRow),
+    };
+    let (threads, calls) = (work.count()?, work.count()?);
+    if threads < 1 || threads > 16 || calls > 100_000_000 {
+        return Err(Fault::BadRow);
+    }
+    write_all(rt, detector, shape)?;
+    let seats = (0..threads)
+        .map(|_| open_with_lock(detector))
+        .try_collect(rt.alloc())?;
+    let start = Instant::now(rt)?;
+    let make = |seat| { make_all(rt, detector, shape, calls, seat) };
+    let counts = thread::map_vec(rt, seats, &make)?;
+    let micros = start.elapsed(rt)?.as_micros();
+    eprintln!(rt; "{micros} microseconds")?;
+    let mut races: u64 = 0;
+    for count in counts.as_slice() {
+        races = races.saturating_add(u64::from((*count)?));
+    }
+    let calls = u64::from(threads).saturating_mul(u64::from(calls));
+    Ok(write!(work.answer, "calls {calls}, races {races}")?)
+}
+
+fn open_with_lock(detector: &Detector) -> Result<Seat, Refusal> {
+    let mut seat = detector.open_seat()?;
+    seat.acquire(LockId::new(1), Mode::Write)?;
+    Ok(seat)
+}
+
+// Writes each word that a thread will call.
+fn write_all<R: Wait>(rt: &R, detector: &Detector, shape: Shape) -> Result<(), Refusal> {
+    let mut seat = open_with_lock(detector)?;
+    for thread in 0..4 {
+        for call in 0..Word::PER_PAGE {
+            let word = shape.word(thread, call);
+            detector.access(rt, &mut seat, word, Kind::Write, Site::MISSING)?;
+        }
+    }
+    Ok(())
+}
+
+// All calls of one thread, and how many races they reported.
+fn make_all<R: Wait>(
+    rt: &R,
+    detector: &Detector,
+    shape: Shape,
+    calls: u32,
+    mut seat: Seat,
+) -> Result<u32, Refusal> {
+    let thread = u64::from(seat.thread().number());
+    let mut races: u32 = 0;
+    for call in 0..u64::from(calls) {
+        let kind = [Kind::Read, Kind::Write][(call % 2) as usize];
+        let word = shape.word(thread, call);
+        let reply = detector.access(rt, &mut seat, word, kind, Site::MISSING)?;
+        if matches!(reply, Reply::Race) {
+            races = races.saturating_add(1);
+        }
+    }
+    Ok(races)
 }

@@ -1,9 +1,84 @@
 //! The row at work: its words, which are read from left to right so that each kind of value takes the next one, and what is written of it.
-use crate::fault::{Fault, Made};
-use er_event::{Kind, LockId, Mode, PageRange, Site, ThreadId, Word, WordRange};
-use std::alloc::{AllocError, Global};
+use er_detector::Detector;
+use er_event::{Kind, LockId, Mode, PageRange, Refusal, Site, Step, ThreadId, Word, WordRange};
+use er_replay::Machine;
+use er_seat::Seat;
+use er_shard::Shard;
+use er_table::LocksetTable;
+use std::alloc::{AllocError, AllocFailed, Global};
 use std::fmt::Write;
+use std::io;
+use std::io::ErrorKind;
 use std::rt::Runtime;
+use std::sync::{MutexGuard, Wait};
+
+/// Why a call isn't made, or the row that asks for it isn't one.
+#[derive(Clone, Copy, PartialEq, Eq)]
+pub(crate) enum Fault {
+    /// The row asks for nothing.
+    BadRow,
+    /// A call was refused, or there was no memory.
+    Refused(Refusal),
+    /// A reuse stopped before this address.
+    Stopped(u64, Refusal),
+    /// A thread, the input, the output or the clock failed.
+    System,
+}
+
+/// What is found of a row, or what a call comes to.
+pub(crate) type Found<T> = Result<T, Fault>;
+
+/// What a call comes to that answers nothing.
+pub(crate) type Made = Found<()>;
+
+impl From<Refusal> for Fault {
+    fn from(why: Refusal) -> Fault {
+        Fault::Refused(why)
+    }
+}
+
+impl From<AllocError> for Fault {
+    fn from(_refused: AllocError) -> Fault {
+        Fault::Refused(Refusal::OutOfMemory)
+    }
+}
+
+impl<T: Drop> From<AllocFailed<T>> for Fault {
+    fn from(_refused: AllocFailed<T>) -> Fault {
+        Fault::Refused(Refusal::OutOfMemory)
+    }
+}
+
+impl From<io::Error> for Fault {
+    fn from(error: io::Error) -> Fault {
+        match error.kind() {
+            ErrorKind::OutOfMemory => AllocError.into(),
+            _ => Fault::System,
+        }
+    }
+}
+
+/// A row: the number of its line, from 1, and its words.
+#[derive(Drop)]
+pub(crate) struct Row<'a> {
+    pub(crate) line: usize,
+    pub(crate) words: Vec<&'a str>,
+}
+
+/// The rows of a text. Empty lines and comments are none.
+pub(crate) fn rows_of(alloc: Global, text: &str) -> Result<Vec<Row<'_>>, AllocError> {
+    let mut rows = Vec::new(alloc);
+    let mut line: usize = 0;
+    for said in text.lines() {
+        line = line.saturating_add(1);
+        let words: Vec<&str> = said.split_whitespace().collect(alloc)?;
+        match words.as_slice() {
+            [] | ["#", ..] => drop(words),
+            _ => rows.push(Row { line, words })?,
+        }
+    }
+    Ok(rows)
+}
 
 // How many bytes each text has room for, so that none wants memory while calls are made.
 const ROOM: usize = 1 << 16;
@@ -32,7 +107,6 @@ pub(crate) struct Work<'r> {
 }
 
 impl<'r> Work<'r> {
-    /// No row.
     pub(crate) fn new(alloc: Global) -> Result<Work<'r>, AllocError> {
         Ok(Work {
             words: &[],
@@ -50,7 +124,7 @@ impl<'r> Work<'r> {
     }
 
     /// Begins with a row: how often it is made, and how much that raises it each time. `times COUNT STEP` says so before its other words.
-    pub(crate) fn begin(&mut self, words: &'r [&'r str]) -> Result<(u32, u64), Fault> {
+    pub(crate) fn begin(&mut self, words: &'r [&'r str]) -> Found<(u32, u64)> {
         self.left = words;
         let times = match self.take("times") {
             Ok(()) => (self.count()?, self.number()?),
@@ -79,7 +153,6 @@ impl<'r> Work<'r> {
         self.answer.clear();
     }
 
-    /// Writes this.
     pub(crate) fn say(&mut self, text: &str) -> Made {
         Ok(self.answer.push_str(text)?)
     }
@@ -115,7 +188,7 @@ impl<'r> Work<'r> {
         Ok(())
     }
 
-    pub(crate) fn next(&mut self) -> Result<&'r str, Fault> {
+    pub(crate) fn next(&mut self) -> Found<&'r str> {
         let [first, left @ ..] = self.left else {
             return Err(Fault::BadRow);
         };
@@ -123,12 +196,8 @@ impl<'r> Work<'r> {
         Ok(first)
     }
 
-    /// The end of the row.
     pub(crate) fn end(&self) -> Made {
-        match self.left {
-            [] => Ok(()),
-            _ => Err(Fault::BadRow),
-        }
+        self.left.is_empty().then_some(()).ok_or(Fault::BadRow)
     }
 
     /// This word. Nothing is read where it is another.
@@ -143,17 +212,17 @@ impl<'r> Work<'r> {
     }
 
     /// A number: decimal, or hexadecimal behind `0x`.
-    pub(crate) fn number(&mut self) -> Result<u64, Fault> {
+    pub(crate) fn number(&mut self) -> Found<u64> {
         number_of(self.next()?)
     }
 
     /// A decimal number of 32 bits.
-    pub(crate) fn count(&mut self) -> Result<u32, Fault> {
+    pub(crate) fn count(&mut self) -> Found<u32> {
         count_of(self.next()?)
     }
 
     /// The place of a detector, `a` or `b`.
-    pub(crate) fn side(&mut self) -> Result<usize, Fault> {
+    pub(crate) fn side(&mut self) -> Found<usize> {
         match self.next()? {
             "a" => Ok(0),
             "b" => Ok(1),
@@ -161,20 +230,20 @@ impl<'r> Work<'r> {
         }
     }
 
-    pub(crate) fn thread(&mut self) -> Result<ThreadId, Fault> {
+    pub(crate) fn thread(&mut self) -> Found<ThreadId> {
         match self.count()? {
             number if number < 1 << 30 => Ok(ThreadId::new(number)),
             _ => Err(Fault::BadRow),
         }
     }
 
-    pub(crate) fn lock(&mut self) -> Result<LockId, Fault> {
+    pub(crate) fn lock(&mut self) -> Found<LockId> {
         let by = u32::try_from(self.by).ok().ok_or(Fault::BadRow)?;
         let number = lock_of(self.next()?)?.number().checked_add(by);
         Ok(LockId::new(number.ok_or(Fault::BadRow)?))
     }
 
-    pub(crate) fn mode(&mut self) -> Result<Mode, Fault> {
+    pub(crate) fn mode(&mut self) -> Found<Mode> {
         match kind_of(self.next()?)? {
             Kind::Read => Ok(Mode::Read),
             Kind::Write => Ok(Mode::Write),
@@ -194,30 +263,30 @@ impl<'r> Work<'r> {
     }
 
     /// The ticket of an entry, one more each time.
-    pub(crate) fn ticket(&mut self) -> Result<u64, Fault> {
+    pub(crate) fn ticket(&mut self) -> Found<u64> {
         self.number()?.checked_add(self.nth).ok_or(Fault::BadRow)
     }
 
-    fn address(&mut self) -> Result<u64, Fault> {
+    fn address(&mut self) -> Found<u64> {
         let address = self.number()?.checked_add(self.by).ok_or(Fault::BadRow)?;
         self.done = self.from.saturating_sub(address);
         Ok(address.max(self.from))
     }
 
     /// The word of an address.
-    pub(crate) fn word(&mut self) -> Result<Word, Fault> {
+    pub(crate) fn word(&mut self) -> Found<Word> {
         Ok(Word::of_address(self.address()?)?)
     }
 
     /// The words of an address and a number of bytes, of which there must be some.
-    pub(crate) fn range(&mut self) -> Result<WordRange, Fault> {
+    pub(crate) fn range(&mut self) -> Found<WordRange> {
         let address = self.address()?;
         let size = self.number()?.saturating_sub(self.done);
         WordRange::of_bytes(address, size)?.ok_or(Fault::BadRow)
     }
 
     /// What such a range has of its first page.
-    pub(crate) fn part(&mut self) -> Result<PageRange, Fault> {
+    pub(crate) fn part(&mut self) -> Found<PageRange> {
         let range = self.range()?;
         match range.parts() {
             0 => Err(Fault::BadRow),
@@ -226,7 +295,7 @@ impl<'r> Work<'r> {
     }
 }
 
-pub(crate) fn number_of(word: &str) -> Result<u64, Fault> {
+pub(crate) fn number_of(word: &str) -> Found<u64> {
     let number = match word.strip_prefix("0x") {
         Some(digits) => u64::from_str_radix(digits, 16).ok(),
         None => word.parse::<u64>().ok(),
@@ -234,11 +303,11 @@ pub(crate) fn number_of(word: &str) -> Result<u64, Fault> {
     number.ok_or(Fault::BadRow)
 }
 
-pub(crate) fn count_of(word: &str) -> Result<u32, Fault> {
+pub(crate) fn count_of(word: &str) -> Found<u32> {
     word.parse::<u32>().ok().ok_or(Fault::BadRow)
 }
 
-pub(crate) fn kind_of(word: &str) -> Result<Kind, Fault> {
+pub(crate) fn kind_of(word: &str) -> Found<Kind> {
     match word {
         "read" => Ok(Kind::Read),
         "write" => Ok(Kind::Write),
@@ -247,10 +316,59 @@ pub(crate) fn kind_of(word: &str) -> Result<Kind, Fault> {
 }
 
 /// A lock by its number, or that of a level: `level-1` to `level-31`.
-pub(crate) fn lock_of(word: &str) -> Result<LockId, Fault> {
+pub(crate) fn lock_of(word: &str) -> Found<LockId> {
     let number = match word.strip_prefix("level-") {
         Some(level) => LockId::BELOW_LEVELS.checked_add(count_of(level)?),
         None => Some(count_of(word)?),
     };
     Ok(LockId::new(number.ok_or(Fault::BadRow)?))
+}
+
+/// Detectors, of which the first is `a`. Each is there until it is settled.
+#[derive(Drop)]
+pub(crate) struct Detectors<'t> {
+    pub(crate) list: Vec<Option<Detector<'t>>>,
+}
+
+impl<'t> Detectors<'t> {
+    /// The one at a place.
+    pub(crate) fn at(&self, side: usize) -> Found<&Detector<'t>> {
+        match self.list.get(side) {
+            Some(Some(detector)) => Ok(detector),
+            _ => Err(Fault::BadRow),
+        }
+    }
+
+    /// A shard of the one at a place, under its lock.
+    pub(crate) fn shard<R: Wait>(
+        &self,
+        rt: &R,
+        side: usize,
+        number: u32,
+    ) -> Found<MutexGuard<'_, Shard<'t>>> {
+        let detector = self.at(side)?;
+        if number < detector.config().shards {
+            Ok(detector.shard(rt, number))
+        } else {
+            Err(Fault::BadRow)
+        }
+    }
+}
+
+/// Detectors over one table and their seats, each of which is there until it is settled, and a machine with the list of its steps.
+#[derive(Drop)]
+pub(crate) struct World<'t> {
+    pub(crate) table: &'t LocksetTable,
+    pub(crate) detectors: Detectors<'t>,
+    pub(crate) seats: Vec<Option<Seat>>,
+    pub(crate) machine: Machine<'t>,
+    pub(crate) steps: Vec<Step>,
+}
+
+/// A table that takes so many sets.
+pub(crate) fn table_of(alloc: Global, sets: u32) -> Found<LocksetTable> {
+    match sets {
+        1..=1_048_576 => Ok(LocksetTable::new(alloc, sets)?),
+        _ => Err(Fault::BadRow),
+    }
 }

@@ -6,12 +6,20 @@
 #![tactic(auto)]
 
 #[cfg(test)]
-mod batch;
-#[cfg(test)]
-mod gates;
-#[cfg(test)]
 mod sets;
 #[cfg(test)]
 mod together;
+
 #[cfg(test)]
-mod workers;
+use std::process::Abort;
+#[cfg(test)]
+use std::sync::Wait;
+#[cfg(test)]
+use std::thread::Threads;
+
+/// What tests run on.
+#[cfg(test)]
+pub(crate) trait Host: Threads + Wait + Abort + AllocGlobal + Sync {}
+
+#[cfg(test)]
+impl<R: Threads + Wait + Abort + AllocGlobal + Sync> Host for R {}

@@ -1,23 +1,28 @@
 //! Sets of locks that are stored once: by two threads at once, which wait for each other first, and in a book that is asked with the vector of
-//! its sets and with another.
-use crate::gates::meeting_gate;
+//! its sets and with another. And reports of more steps than 32 bits number: a text of so many would be too long for a test.
+use crate::Host;
+use crate::together::meeting_gate;
 use boxcar::Vec;
+use er_batch::answer_batch;
+use er_device::Device;
 use er_event::{LockId, Lockset};
 use er_gate::{Gate, PairGate};
+use er_replay::Machine;
+use er_report::ReportBuilder;
+use er_rules::Suppressions;
 use er_table::{Book, LocksetTable, Sets};
-use std::process::Abort;
-use std::sync::Wait;
+use er_text::read_trace;
+use er_trace::Trace;
 use std::test::*;
 use std::thread;
-use std::thread::Threads;
 
 /// A table that takes a hundred sets.
-pub(crate) fn table_of_hundred<R: Abort + AllocGlobal>(rt: &R) -> LocksetTable {
+pub(crate) fn table_of_hundred<R: Host>(rt: &R) -> LocksetTable {
     LocksetTable::new(rt.alloc(), 100).expect(rt, "memory")
 }
 
 // The set of this lock alone.
-fn set_of<R: Abort + AllocGlobal>(rt: &R, lock: u32) -> Lockset {
+fn set_of<R: Host>(rt: &R, lock: u32) -> Lockset {
     let mut set = Lockset::new(rt.alloc());
     set.insert(LockId::new(lock)).expect(rt, "memory");
     set
@@ -27,7 +32,7 @@ fn set_of<R: Abort + AllocGlobal>(rt: &R, lock: u32) -> Lockset {
 const SETS: u32 = 100;
 
 // Whether the table gives the set of this lock alone back, stored or found.
-fn is_given_back<R: Wait + Abort + AllocGlobal>(rt: &R, table: &LocksetTable, lock: u32) -> bool {
+fn is_given_back<R: Host>(rt: &R, table: &LocksetTable, lock: u32) -> bool {
     let set = set_of(rt, lock);
     match table.intern(rt, &set) {
         Ok(set_ref) => table.get(&set_ref) == &set,
@@ -35,20 +40,12 @@ fn is_given_back<R: Wait + Abort + AllocGlobal>(rt: &R, table: &LocksetTable, lo
     }
 }
 
-fn store_all<R: Wait + Abort + AllocGlobal>(
-    rt: &R,
-    table: &LocksetTable,
-    gate: &PairGate,
-    piece: u32,
-) -> bool {
+fn store_all<R: Host>(rt: &R, table: &LocksetTable, gate: &PairGate, piece: u32) -> bool {
     gate.enter(piece);
     (0..SETS).all(|lock| is_given_back(rt, table, lock))
 }
 
-fn store_together<R: Threads + Wait + Abort + AllocGlobal + Sync>(
-    rt: &R,
-    table: &LocksetTable,
-) -> bool {
+fn store_together<R: Host>(rt: &R, table: &LocksetTable) -> bool {
     let gate = meeting_gate();
     let (one, two) = thread::join(
         rt,
@@ -68,7 +65,7 @@ fn two_threads_store_each_set_once(rt: HostRuntime) {
 }
 
 // How many sets two vectors have after a book was asked for these sets of one lock, each with the first vector or the second.
-fn stored<R: Wait + Abort + AllocGlobal>(rt: &R, questions: &[(bool, u32)]) -> (usize, usize) {
+fn stored<R: Host>(rt: &R, questions: &[(bool, u32)]) -> (usize, usize) {
     let first: Sets = Vec::new(rt.alloc()).expect(rt, "memory");
     let second: Sets = Vec::new(rt.alloc()).expect(rt, "memory");
     let mut book = Book::new(rt.alloc(), 2);
@@ -86,4 +83,32 @@ fn each_vector_is_pushed_to_once(rt: HostRuntime) {
     assert_eq!(rt; stored(&rt, &one), (2, 0));
     let other = [(true, 7), (false, 8), (false, 7), (false, 7)];
     assert_eq!(rt; stored(&rt, &other), (1, 2));
+}
+
+// Whether there is room for the steps of a trace in a report that has so many before them, and how many steps and races it then has.
+fn counted<R: Host>(rt: &R, table: &LocksetTable, trace: &Trace, before: u64) -> (bool, u64, u64) {
+    let rules = Suppressions::new(rt.alloc());
+    let mut machine = Machine::new(rt.alloc(), table).expect(rt, "memory");
+    let mut builder = ReportBuilder::new(rt.alloc(), &rules).expect(rt, "memory");
+    let mut has_room = before <= u64::MAX - builder.steps();
+    if has_room {
+        builder.add_plain(before);
+        has_room = answer_batch(rt, &mut machine, trace, &mut builder, None).is_ok();
+    }
+    (has_room, builder.steps(), builder.races())
+}
+
+#[test]
+fn more_steps_than_32_bits_number(rt: HostRuntime) {
+    let table = table_of_hundred(&rt);
+    let mut text = Device::new(b"eraser trace 1\nt1 write 0x1000\nt2 write 0x1000\n".as_slice());
+    let trace = read_trace(rt.alloc(), &mut text, 100).expect(&rt, "a trace");
+    for before in [0, (1 << 32) - 3, (1 << 32) - 2, 1 << 33, u64::MAX - 2] {
+        let found = counted(&rt, &table, &trace, before);
+        assert_eq!(rt; found, (true, before + 2, 1), "behind {before}");
+    }
+    for before in [u64::MAX - 1, u64::MAX] {
+        let (has_room, steps, _) = counted(&rt, &table, &trace, before);
+        assert_eq!(rt; (has_room, steps), (false, before), "behind {before}");
+    }
 }

@@ -1,27 +1,54 @@
-//! Calls at one detector, by two threads at once or beside a shard whose lock is held. Two threads wait for each other first, so that mostly
-//! neither is done before the other begins; the answers are the same in whatever order they come.
-use crate::gates::meeting_gate;
+//! Two threads at once: at a gate, at one detector, as workers of a workload and of a parallel replay; and a call beside a shard whose lock is held.
+//! Threads wait for each other first, so that mostly neither is done before the other begins; the answers are the same in whatever order they come.
+use crate::Host;
 use crate::sets::table_of_hundred;
 use er_detector::{Config, Detector, settle};
-use er_event::{Kind, LockId, Mode, Refusal, Site, Word, WordRange};
-use er_gate::{Gate, PairGate};
+use er_event::{Event, Kind, LockId, Mode, Refusal, Site, Step, ThreadId, Word, WordRange};
+use er_gate::{Gate, OpenGate, PairGate};
+use er_journal::Answer;
+use er_load::{Workload, run_workload};
+use er_parallel::{ReplayConfig, replay_parallel};
 use er_seat::Seat;
 use er_table::LocksetTable;
-use std::alloc::Global;
-use std::process::Abort;
-use std::sync::Wait;
+use std::sync::atomic::{AtomicU32, Ordering};
 use std::test::*;
 use std::thread;
-use std::thread::Threads;
 
-// A way out that drops a detector or a seat is long to prove, so one function owns the detector, and no other returns early with one.
+/// A gate at which pieces 0 and 1 wait for each other, however long one of them has to wait for a processor. If they never are at work at once, the
+/// test has no end, and fails by its limit of time.
+pub(crate) fn meeting_gate() -> PairGate {
+    PairGate::with_looks(0, 1, u64::MAX)
+}
 
-// A detector of so many shards and seats.
-fn detector<'t, R: Abort + AllocGlobal>(
-    rt: &R,
-    table: &'t LocksetTable,
-    (shards, seats): (u32, u32),
-) -> Detector<'t> {
+// A busy machine may run one thread behind the other, so a gate at which they didn't meet says nothing, and another is tried.
+fn meet<R: Host>(rt: &R) -> bool {
+    for _ in 0..u32::MAX {
+        let gate = PairGate::new(0, 1);
+        thread::join(rt, || gate.enter(0), || gate.enter(1));
+        if gate.met() {
+            return true;
+        }
+    }
+    false
+}
+
+#[test]
+fn a_pair_meets(rt: HostRuntime) {
+    assert!(rt; meet(&rt));
+}
+
+// A piece that leaves before the other comes didn't see it.
+#[test]
+fn one_after_the_other_is_no_meeting(rt: HostRuntime) {
+    let gate = PairGate::with_looks(0, 1, 3);
+    OpenGate.enter(0);
+    for piece in [2, 0, 1] {
+        gate.enter(piece);
+        assert!(rt; !gate.met());
+    }
+}
+
+fn detector<'t, R: Host>(rt: &R, table: &'t LocksetTable, shards: u32, seats: u32) -> Detector<'t> {
     let config = Config::new(7, shards, 100_000, seats).expect(rt, "a configuration");
     Detector::new(rt.alloc(), table, config).expect(rt, "memory")
 }
@@ -29,153 +56,162 @@ fn detector<'t, R: Abort + AllocGlobal>(
 // How many seats each of two threads opens: as long as it takes for both to be at work at once, also on a busy machine.
 const SEATS: u32 = 50_000;
 
-// The thread of a new seat.
-fn next_thread(detector: &Detector) -> Result<u32, Refusal> {
-    Ok(detector.open_seat()?.thread().number())
-}
-
 // The threads of seats that are opened one after the other, behind the gate.
-fn open_all(alloc: Global, detector: &Detector, gate: &PairGate, piece: u32) -> Vec<u32> {
-    let mut threads = Vec::new(alloc);
+fn open_all<R: Host>(rt: &R, detector: &Detector, gate: &PairGate, piece: u32) -> Vec<u32> {
+    let mut threads = Vec::new(rt.alloc());
     gate.enter(piece);
     for _ in 0..SEATS {
-        let Ok(number) = next_thread(detector) else {
-            return threads;
-        };
-        if threads.push(number).is_err() {
-            return threads;
-        }
+        let seat = detector.open_seat().expect(rt, "a seat");
+        threads.push(seat.thread().number()).expect(rt, "memory");
     }
     threads
 }
 
-// Whether the two lists have each number below the sum of their lengths, which is this. Each list rises.
-fn is_each_once(first: &[u32], second: &[u32], count: u32) -> bool {
-    let (mut from_first, mut from_second) = (0usize, 0usize);
-    for number in 0..count {
-        if first.get(from_first) == Some(&number) {
-            from_first = from_first.saturating_add(1);
-        } else if second.get(from_second) == Some(&number) {
-            from_second = from_second.saturating_add(1);
-        } else {
-            return false;
-        }
-    }
-    from_first == first.len() && from_second == second.len()
-}
-
-// Whether two threads at once get each seat once, and then no one gets one more.
-fn opens_each_seat_once<R: Threads + AllocGlobal + Sync>(rt: &R, detector: &Detector) -> bool {
+// Whether two threads at once get each seat once, in order, and then no one gets one more.
+fn opens_each_seat_once<R: Host>(rt: &R, detector: &Detector) -> bool {
     let gate = meeting_gate();
-    let alloc = rt.alloc();
     let (first, second) = thread::join(
         rt,
-        || open_all(alloc, detector, &gate, 0),
-        || open_all(alloc, detector, &gate, 1),
+        || open_all(rt, detector, &gate, 0),
+        || open_all(rt, detector, &gate, 1),
     );
-    is_each_once(&first, &second, 100_000)
-        && matches!(next_thread(detector), Err(Refusal::TooManyThreads))
+    let in_order = first.is_sorted() && second.is_sorted();
+    let mut all = first;
+    all.extend_from_slice(&second).expect(rt, "memory");
+    all.sort_unstable();
+    let each_once = all.iter().copied().eq(0..100_000);
+    in_order && each_once && matches!(detector.open_seat(), Err(Refusal::TooManyThreads))
 }
 
-fn writes<R: Wait>(rt: &R, detector: &Detector, seat: &mut Seat) -> bool {
-    detector
-        .access(rt, seat, Word::new(0x400), Kind::Write, Site::MISSING)
-        .is_ok()
+#[test]
+fn each_seat_has_a_thread_of_its_own(rt: HostRuntime) {
+    let table = table_of_hundred(&rt);
+    let detector = detector(&rt, &table, 1, 2 * SEATS);
+    assert!(rt; opens_each_seat_once(&rt, &detector));
 }
 
 // Whether a seat takes a lock and writes in the second shard, while the lock of the first shard is held.
-fn goes_on_beside_a_guard<R: Wait + Abort>(rt: &R, detector: &Detector) -> bool {
+fn goes_on_beside_a_guard<R: Host>(rt: &R, detector: &Detector) -> bool {
     if detector.config().shards == 0 {
         return false;
     }
     let mut seat = detector.open_seat().expect(rt, "a seat");
     let _kept = detector.shard(rt, 0);
-    seat.acquire(LockId::new(5), Mode::Write).is_ok() && writes(rt, detector, &mut seat)
-}
-
-// What is tried at a detector.
-#[derive(Clone, Copy)]
-enum Trial {
-    OpensEachSeatOnce,
-    GoesOnBesideAGuard,
-}
-
-// Whether the trial ends well, at a detector of so many shards and seats.
-fn ends_well<R: Threads + Wait + Abort + AllocGlobal + Sync>(
-    rt: &R,
-    shards: u32,
-    seats: u32,
-    trial: Trial,
-) -> bool {
-    let table = table_of_hundred(rt);
-    let detector = detector(rt, &table, (shards, seats));
-    match trial {
-        Trial::OpensEachSeatOnce => opens_each_seat_once(rt, &detector),
-        Trial::GoesOnBesideAGuard => goes_on_beside_a_guard(rt, &detector),
-    }
-}
-
-#[test]
-fn each_seat_has_a_thread_of_its_own(rt: HostRuntime) {
-    assert!(rt; ends_well(&rt, 1, 2 * SEATS, Trial::OpensEachSeatOnce));
+    let word = Word::new(0x400);
+    let takes = seat.acquire(LockId::new(5), Mode::Write).is_ok();
+    let written = detector.access(rt, &mut seat, word, Kind::Write, Site::MISSING);
+    takes && written.is_ok()
 }
 
 // A shard that stopped another would stop this test for good.
 #[test]
 fn one_shard_does_not_stop_another(rt: HostRuntime) {
-    assert!(rt; ends_well(&rt, 2, 1, Trial::GoesOnBesideAGuard));
+    let table = table_of_hundred(&rt);
+    let detector = detector(&rt, &table, 2, 1);
+    assert!(rt; goes_on_beside_a_guard(&rt, &detector));
 }
 
 // How often each of two threads reuses one page.
 const REUSES: u32 = 10_000;
 
-fn reuse_once<R: Wait>(rt: &R, detector: &Detector, seat: &mut Seat) -> bool {
-    match WordRange::of_bytes(0x1000, 4096) {
-        Ok(Some(range)) => detector.reuse(rt, seat, &range).is_ok(),
-        _ => false,
-    }
-}
-
-fn reuse_all<R: Wait>(rt: &R, detector: &Detector, gate: &PairGate, mut seat: Seat) -> Seat {
+fn reuse_all<R: Host>(rt: &R, detector: &Detector, gate: &PairGate, mut seat: Seat) -> Seat {
+    let words = WordRange::of_bytes(0x1000, 4096).expect(rt, "a page");
+    let range = words.expect(rt, "its words");
     gate.enter(seat.thread().number());
     for _ in 0..REUSES {
-        if !reuse_once(rt, detector, &mut seat) {
-            return seat;
-        }
+        detector.reuse(rt, &mut seat, &range).expect(rt, "room");
     }
     seat
 }
 
-fn open_two<R: Abort + AllocGlobal>(rt: &R, detector: &Detector) -> Vec<Seat> {
+// The seats of two threads that reused the page at once.
+fn reuse_together<R: Host>(rt: &R, detector: &Detector) -> Vec<Seat> {
+    let gate = meeting_gate();
     let mut seats = Vec::new(rt.alloc());
     for _ in 0..2u32 {
-        seats
-            .push(detector.open_seat().expect(rt, "a seat"))
-            .expect(rt, "memory");
+        let seat = detector.open_seat().expect(rt, "a seat");
+        seats.push(seat).expect(rt, "memory");
     }
-    seats
-}
-
-// The seats of two threads that reused the page at once.
-fn reuse_together<R: Threads + Wait + Abort + AllocGlobal + Sync>(
-    rt: &R,
-    detector: &Detector,
-) -> Vec<Seat> {
-    let gate = meeting_gate();
-    let seats = open_two(rt, detector);
     thread::map_vec(rt, seats, &|seat| reuse_all(rt, detector, &gate, seat)).expect(rt, "memory")
-}
-
-// How many steps the run has, or none if it doesn't settle.
-fn settled_steps(alloc: Global, detector: Detector, seats: Vec<Seat>) -> usize {
-    settle(alloc, detector, seats).map_or(0, |run| run.steps.len())
 }
 
 // A reuse draws its ticket under the lock of its shard, so that its journal is in the order of tickets.
 #[test]
 fn reuses_of_one_page_settle(rt: HostRuntime) {
     let table = table_of_hundred(&rt);
-    let detector = detector(&rt, &table, (1, 2));
+    let detector = detector(&rt, &table, 1, 2);
     let seats = reuse_together(&rt, &detector);
-    assert_eq!(rt; settled_steps(rt.alloc(), detector, seats), 20_000);
+    let settled = settle(rt.alloc(), detector, seats);
+    assert_eq!(rt; settled.map_or(0, |run| run.steps.len()), 20_000);
+}
+
+// Both threads are at work at once, and there is one race all the same.
+#[test]
+fn workers_run_side_by_side(rt: HostRuntime) {
+    let gate = meeting_gate();
+    let run = run_workload(&rt, rt.alloc(), Workload::RacyCounter, &gate).expect(&rt, "a run");
+    assert_eq!(rt; (run.steps.len(), run.races()), (4, 1));
+    assert!(rt; gate.met());
+}
+
+// Steps of two threads that write to eight pages in turn: the first thread's writes are the first eight.
+fn steps_of<R: Host>(rt: &R, count: u32) -> Vec<Step> {
+    let mut steps = Vec::new(rt.alloc());
+    for place in 0..count {
+        let word = Word::new(Word::PER_PAGE * u64::from(place % 8));
+        let thread = ThreadId::new(if place < 8 { 1 } else { 2 });
+        let event = Event::Access(Kind::Write, word, Site::MISSING);
+        steps.push(Step { thread, event }).expect(rt, "memory");
+    }
+    steps
+}
+
+// How many races and how many answers: of some workers to the steps, in so many shards.
+type Counts = (usize, usize);
+
+fn replayed<G: Gate, R: Host>(
+    rt: &R,
+    shards: u32,
+    workers: u32,
+    steps: &[Step],
+    gate: &G,
+) -> Counts {
+    let config = ReplayConfig::new(shards, 16).expect(rt, "a configuration");
+    let outcome = replay_parallel(rt, rt.alloc(), config, steps, workers.clamp(1, 16), gate);
+    let answers = outcome.expect(rt, "an outcome").answers;
+    let is_race = |place: &usize| matches!(answers.get(*place), Some(Answer::Race));
+    ((0..answers.len()).filter(is_race).count(), answers.len())
+}
+
+// Two workers pass the gates of their first shards at once.
+#[test]
+fn replays_run_side_by_side(rt: HostRuntime) {
+    let gate = meeting_gate();
+    let steps = steps_of(&rt, 16);
+    assert_eq!(rt; replayed(&rt, 8, 2, &steps, &gate), (8, 16));
+    assert!(rt; gate.met());
+}
+
+// Counts the pieces, and adds up their numbers.
+#[derive(Drop)]
+struct CountingGate {
+    pieces: AtomicU32,
+    sum: AtomicU32,
+}
+
+impl Gate for CountingGate {
+    fn enter(&self, piece: u32) {
+        self.pieces.fetch_add(1, Ordering::SeqCst);
+        self.sum.fetch_add(piece, Ordering::SeqCst);
+    }
+}
+
+// Each shard has its gate, also where it has no step.
+#[test]
+fn each_shard_passes_the_gate_once(rt: HostRuntime) {
+    let (pieces, sum) = (AtomicU32::new(0), AtomicU32::new(0));
+    let gate = CountingGate { pieces, sum };
+    assert_eq!(rt; replayed(&rt, 64, 3, &[], &gate), (0, 0));
+    assert_eq!(rt; gate.pieces.load(Ordering::SeqCst), 64);
+    assert_eq!(rt; gate.sum.load(Ordering::SeqCst), 2016);
 }

@@ -2,7 +2,7 @@
 use Rattle.std.specs.Prelude.{◌≡◌, ◌<◌, ◌≤◌, ℕ, Bool, List, slice_get, Some, IsTrue}
 use Rattle.er_event.specs.declared.steps.Step.{Step}
 use Rattle.er_parallel.specs.Crews.{AreNoted, AreUnusual}
-use Rattle.er_parallel.specs.declared.unusual.Unusual.{Unusual}
+use Rattle.er_parallel.specs.declared.worker.Unusual.{Unusual}
 
 -- the items below index `next` are those of the positions below k
 pub record IsNext (items : List Unusual) (next k : ℕ) : Type 0 where

@@ -1,6 +1,7 @@
 -- The three lists of the document.
 use Rattle.std.specs.Prelude.{ℕ, Bool, true, false, cond, List, [], ◌∷◌, ◌++◌, codes}
 use Rattle.er_json.specs.Document.{is_race, is_refused, is_shown, rows_if}
+pub use Rattle.er_json.specs.Document.{rows_text}
 use Rattle.er_json.specs.declared.document.Section.{Section}
 use Rattle.er_json.specs.declared.document.Section.TheVariants as section
 use Rattle.er_places.specs.Places.{PlaceTable}

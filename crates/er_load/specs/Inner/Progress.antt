@@ -7,8 +7,8 @@ use Rattle.er_settle.specs.Seats.{SeatList}
 use Rattle.er_load.specs.declared.workloads.Workload.{Workload}
 use Rattle.er_load.specs.declared.workloads.Stage.{Stage}
 use Rattle.er_load.specs.declared.workloads.Stage.TheVariants.{First, Second}
-use Rattle.er_load.specs.declared.stages.Worker.{Worker}
-use Rattle.er_load.specs.declared.stages.Worker.TheVariants.{Idle, Started}
+use Rattle.er_load.specs.declared.runs.Worker.{Worker}
+use Rattle.er_load.specs.declared.runs.Worker.TheVariants.{Idle, Started}
 use Rattle.er_load.specs.Faults.{may_meet}
 use Rattle.er_load.specs.Workloads.{stage_events}
 

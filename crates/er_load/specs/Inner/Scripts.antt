@@ -3,8 +3,8 @@ use Rattle.std.specs.Prelude.{List, [], ◌∷◌, ◌++◌, map}
 use Rattle.er_event.specs.declared.steps.Event.{Event}
 use Rattle.er_event.specs.declared.steps.Event.TheVariants as event
 use Rattle.er_event.specs.Span.{parts_of}
-use Rattle.er_load.specs.declared.scripts.Action.{Action}
-use Rattle.er_load.specs.declared.scripts.Action.TheVariants.{Acquire, Release, Access, Reuse, IgnoreOn, IgnoreOff}
+use Rattle.er_load.specs.declared.runner.Action.{Action}
+use Rattle.er_load.specs.declared.runner.Action.TheVariants.{Acquire, Release, Access, Reuse, IgnoreOn, IgnoreOff}
 
 -- the events of one action: a reuse is one for each page
 abbrev pub events_by : Action → List Event

@@ -3,8 +3,8 @@ use Rattle.std.specs.Prelude.{◌≡◌, ◌⊎◌, ◌<◌, ◌≤◌, ℕ, Lis
 use Rattle.er_event.specs.declared.refusals.NoRoom.TheVariants.{TableFull}
 use Rattle.er_event.specs.declared.steps.Step.{Step}
 use Rattle.er_parallel.specs.Faults.{AsksForSet, fault_of}
-use Rattle.er_parallel.specs.declared.faults.ReplayFault.{ReplayFault}
-use Rattle.er_parallel.specs.declared.faults.ReplayFault.TheVariants.{Memory}
+use Rattle.er_parallel.specs.declared.config.ReplayFault.{ReplayFault}
+use Rattle.er_parallel.specs.declared.config.ReplayFault.TheVariants.{Memory}
 use Rattle.er_parallel.specs.declared.worker.WorkFault.{WorkFault}
 use Rattle.er_parallel.specs.declared.worker.Worker.{Worker}
 

@@ -5,7 +5,7 @@ use Rattle.er_event.specs.declared.steps.Reply.{Reply}
 use Rattle.er_event.specs.declared.steps.Step.{Step}
 use Rattle.er_model.specs.Answers.{answer}
 use Rattle.er_parallel.specs.Crews.{IsAmong, IsAnswered}
-use Rattle.er_parallel.specs.declared.unusual.Unusual.{Unusual}
+use Rattle.er_parallel.specs.declared.worker.Unusual.{Unusual}
 
 -- the place has the answer that the list of steps gives
 abbrev pub IsRight : List Step → List (Result Reply Refusal) → ℕ → Type 0

@@ -1,7 +1,7 @@
 -- How the unusual answers of all workers come into one list.
 use Rattle.std.specs.Prelude.{◌≡◌, ◌⊎◌, ◌<◌, ◌≤◌, ◌+◌, ℕ, List, [], ◌∷◌, length, slice_get, set, map, Option, Some, IfSome}
 use Rattle.er_parallel.specs.Crews.{Rise}
-use Rattle.er_parallel.specs.declared.unusual.Unusual.{Unusual}
+use Rattle.er_parallel.specs.declared.worker.Unusual.{Unusual}
 use Rattle.er_parallel.specs.declared.worker.Worker.{Worker}
 use Rattle.er_replay.specs.Standing.{Replayed}
 

@@ -12,8 +12,8 @@ use Rattle.er_parallel.specs.Crews.{IsAmong, IsAnswered, HasFollowed, LeavesWord
 use Rattle.er_parallel.specs.Usual.{usual}
 use Rattle.er_parallel.specs.Tasks.{worker_for}
 use Rattle.er_parallel.specs.Inner.Faults.{MayBeFull}
-use Rattle.er_parallel.specs.declared.task.Share.{Share}
-use Rattle.er_parallel.specs.declared.unusual.Unusual.{Unusual}
+use Rattle.er_parallel.specs.declared.worker.Share.{Share}
+use Rattle.er_parallel.specs.declared.worker.Unusual.{Unusual}
 use Rattle.er_parallel.specs.declared.worker.Worker.{Worker}
 use Rattle.er_replay.specs.Standing.{Replayed, holding, states}
 use Rattle.er_replay.specs.Wants.{is_access}

@@ -1,14 +1,17 @@
 -- What a pass over steps keeps, and the steps that it stands for.
 use Rattle.std.specs.Prelude.{◌≡◌, ℕ, ◌==◌, ◌&&◌, Bool, true, cond, List, length, Option, None, All, IfSome, IsSome}
 use Rattle.er_event.specs.declared.steps.Step.{Step}
-use Rattle.er_held.specs.ThreadLocks.{held_by}
+pub use Rattle.er_held.specs.ThreadLocks.{held_by}
 use Rattle.er_model.specs.Holdings.{Holdings, after_step, holdings_end}
-use Rattle.er_places.specs.Places.{ArePlaces, HasPlaceNames, place_in, place_below, place_by, or_else}
-use Rattle.er_places.specs.declared.place.Place.{Place}
+use Rattle.er_places.specs.Places.{ArePlaces, HasPlaceNames, place_below, place_by, or_else}
+pub use Rattle.er_places.specs.Places.{place_in}
+pub use Rattle.er_places.specs.Wanted.{are_asked, is_wanted}
+use Rattle.er_places.specs.declared.places.Place.{Place}
 use Rattle.er_text.specs.Batches.{HasRead}
 use Rattle.er_text.specs.Places.{Reached}
 use Rattle.er_trace.specs.Names.{NameTable}
-use Rattle.er_trace.specs.Trace.{IsNamed, Recording}
+use Rattle.er_trace.specs.Trace.{Recording}
+pub use Rattle.er_trace.specs.Trace.{IsNamed}
 
 -- what each thread holds, and the places so far
 pub record Followed : Type 0 where

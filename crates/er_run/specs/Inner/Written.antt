@@ -1,7 +1,7 @@
 -- What writing a report that was built leaves in the writer.
 use Rattle.std.specs.Prelude.{ℕ, List, Option, Result, Ok, Err, take}
 use Rattle.std.specs.Io.KnownBytes.{Appends, Keeps}
-use Rattle.er_print.specs.declared.fault.WriteFault.TheVariants as writing
+use Rattle.er_print.specs.declared.report.WriteFault.TheVariants as writing
 use Rattle.er_run.specs.declared.fault.RunFault.{RunFault}
 use Rattle.er_run.specs.declared.fault.RunFault.TheVariants.{Read, Write, Replay, Beyond, Memory, Damaged}
 

@@ -4,7 +4,10 @@ use Rattle.std.specs.List.{position, sum_by}
 use Rattle.er_event.specs.declared.steps.Kind.TheVariants as kind
 use Rattle.er_report.specs.declared.report.Line.{Line}
 use Rattle.er_report.specs.declared.report.Line.TheVariants.{Race, Reused, Refused, Shown}
-use Rattle.er_sites.specs.Table.{is_at, reads_at, writes_at, reuses_at, races_at, races_in, IsOwnCount}
+use Rattle.er_sites.specs.Table.{is_at, races_at, races_in, IsOwnCount}
+pub use Rattle.er_report.specs.Names.{HasNames}
+pub use Rattle.er_report.specs.declared.report.Line.{Line as LineOf}
+pub use Rattle.er_sites.specs.Table.{reads_at, writes_at, reuses_at}
 use Rattle.er_sites.specs.declared.counts.Counts.{Counts}
 use Rattle.er_sites.specs.declared.row.SiteRow.{SiteRow}
 use Rattle.er_trace.specs.Names.{NameTable}

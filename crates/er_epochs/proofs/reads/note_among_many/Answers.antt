@@ -1,4 +1,4 @@
-use Rattle.std.proofs.Common.{◌∷◌, ◌++◌, ◌∙◌, [], reverse, ap, ap₂}
+use Rattle.std.proofs.Common.{◌≡◌, ◌∷◌, ◌++◌, ◌∙◌, [], reverse, ap, ap₂, rules}
 use Rattle.er_clock.specs.Counts.{count_by}
 use Rattle.er_epochs.specs.Epochs.{tagged}
 use Rattle.er_epochs.proofs.Noted.{noted_many}
@@ -6,7 +6,8 @@ use Rattle.er_epochs.proofs.reads.note_among_many.Goals as goal
 
 pub returns-clause-ok : goal.returns-clause-ok
 returns-clause-ok g c =
-    noted_many (count_by c.args.clock.now) c.args.reads.now.items (tagged c.args.clock.now.0 (count_by c.args.clock.now c.args.clock.now.0) c.args.tag) c.in_ok-turned.turned.items c.in_ok-left.left.items c.push.new.self.items
-    c.in_ok-turned.ensures c.in_ok-left.ensures
+    let turned : c.turn.new.reads.items ≡ reverse c.args.reads.now.items = search rules in
+    noted_many (count_by c.args.clock.now) c.args.reads.now.items (tagged c.args.clock.now.0 (count_by c.args.clock.now c.args.clock.now.0) c.args.tag) c.turn.new.reads.items c.in_ok-left.left.items c.push.new.self.items
+    turned c.in_ok-left.ensures
     (c.in_ok-push.ensures.items
-    ∙ ap₂ (λ rest last. rest ++ last ∷ []) (c.turn.ensures ∙ ap reverse c.in_ok-reserve.ensures.items) c.access_by.ensures)
+    ∙ ap₂ (λ rest last. rest ++ last ∷ []) (c.turn-2.ensures ∙ ap reverse c.in_ok-reserve.ensures.items) c.access_by.ensures)

@@ -6,6 +6,6 @@ use Rattle.er_json.proofs.document.put_rows.Given as goal
 
 abbrev pub invariant-loop-line : goal.invariant-loop-line
 invariant-loop-line l = record {
-  first : l.is_first ≡ has_none (flat_map (rows_in l.of l.names l.places) (map line_view (take l.line-index l.lines)));
-  text : l.out.items ≡ l.fn.out.items ++ rows_text (flat_map (rows_in l.of l.names l.places) (map line_view (take l.line-index l.lines)));
+  first : l.is_first ≡ has_none (flat_map (rows_in l.of l.legend.names.now l.legend.places.now) (map line_view (take l.line-index l.lines)));
+  text : l.out.items ≡ l.fn.out.items ++ rows_text (flat_map (rows_in l.of l.legend.names.now l.legend.places.now) (map line_view (take l.line-index l.lines)));
 }

@@ -4,4 +4,4 @@ use Rattle.er_json.proofs.document.put_stop.Goals as goal
 
 pub returns : goal.returns
 unfolding stop_member
-returns c = rw (c.in-Some.is, ← c.in-Some.line-is, ← c.in-Some.cause-is, ← c.refusal.ensures, ← c.text.ensures, ← c.as_bytes.ensures.value) c.put_all.ensures.joined
+returns c = rw (c.in-Some.is, ← c.in-Some.line-is, ← c.in-Some.cause-is, ← c.refusal.ensures, ← c.text.ensures, ← c.as_bytes.ensures.value) c.put.ensures.joined

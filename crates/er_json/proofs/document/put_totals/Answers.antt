@@ -5,4 +5,4 @@ use Rattle.er_json.proofs.document.put_totals.Goals as goal
 
 pub returns : goal.returns
 unfolding totals_member
-returns c = put_three _ _ _ _ _ _ _ c.in_ok-put_all.ensures.joined c.in_ok-put_lost.ensures c.in_ok-extend_from_slice.ensures.items
+returns c = put_three _ _ _ _ _ _ _ c.in_ok-put.ensures.joined c.in_ok-put_lost.ensures c.in_ok-extend_from_slice.ensures.items

@@ -6,8 +6,8 @@ use Rattle.er_report.specs.Names.{HasLockName, HasLockNames}
 use Rattle.er_trace.specs.Names.{NameTable}
 use Rattle.er_json.proofs.rows.put_known.Goals as goal
 
-pub put_all-requires : goal.put_all-requires
-put_all-requires c =
+pub put-requires : goal.put-requires
+put-requires c =
     let names : NameTable = c.args.names.now in
     let held : HasLockNames names c.as_slice-held.result.now = subst (HasLockNames names) (sym c.as_slice-held.ensures.locks) c.requires.held in
     let to_read : HasLockNames names c.deref.result.now = subst (HasLockNames names) (sym (c.deref.ensures.value ∙ c.in_ok-to_read.ensures))

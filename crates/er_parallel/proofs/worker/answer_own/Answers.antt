@@ -1,16 +1,17 @@
-use Rattle.std.proofs.Common.{IsFalse}
+use Rattle.std.proofs.Common.{◌≡◌, false, IsFalse, rules, tests}
 use Rattle.er_parallel.proofs.FollowingLemmas.{usual-found}
 use Rattle.er_parallel.proofs.TakingLemmas.{come-asks, come-usual, come-kept}
 use Rattle.er_replay.specs.Standing.{found_no_room}
 use Rattle.er_parallel.proofs.worker.answer_own.Goals as goal
 
-pub returns-then-is_plain-clause-far : goal.returns-then-is_plain-clause-far
-returns-then-is_plain-clause-far g c past come =
-    let usual = (c.is_plain.ensures c.if-is_plain.true).0 in
+pub returns-then-is_usual-clause-far : goal.returns-then-is_usual-clause-far
+returns-then-is_usual-clause-far g c past come =
+    let usual = c.is_usual.ensures c.if-is_usual.true in
+    let quiet : c.answer_one-answer.result.1 ≡ false = search (rules, tests) in
     let room : IsFalse (found_no_room c.answer_one-answer.result.0) = usual-found c.args.step.now.event c.answer_one-answer.result.0 usual in
     come-usual past c.args.steps.now c.args.share c.args.at c.args.step.now c.requires.there c.args.found.now.items c.args.machine.now c.answer_one-answer.new.machine come (c.answer_one-answer.ensures.holdings room)
     c.requires.own c.answer_one-answer.result.0 (c.answer_one-answer.ensures.answered room) (c.answer_one-answer.ensures.states room) usual
-    (λ noting access. c.answer_one-answer.ensures.same noting access (c.is_plain.ensures c.if-is_plain.true).1)
+    (λ noting access. c.answer_one-answer.ensures.same noting access quiet)
 
 pub returns-clause-full : goal.returns-clause-full
 returns-clause-full g c past come full =

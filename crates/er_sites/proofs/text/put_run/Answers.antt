@@ -21,5 +21,5 @@ returns c =
     c.in_ok-put_title.ensures
     ∙ ap (λ (nothing : List ℕ). old ++ title_of (codes "races in this run") nothing c.is_empty.result) (c.nothing_in-nothing.ensures ∙ ap nothing_in c.deref.ensures.value)
     ∙ ap (λ (none : Bool). old ++ title_of (codes "races in this run") (nothing_in lines) none) (c.is_empty.ensures ∙ none_is rows) in
-    let sites : c.put_rows.new.out.items ≡ c.put_title.new.out.items ++ rows_text c.args.names.now c.args.places.now lines rows = rw c.deref-2.ensures.value at c.in_ok-put_rows.ensures in
+    let sites : c.put_rows.new.out.items ≡ c.put_title.new.out.items ++ rows_text c.args.legend.now.names.now c.args.legend.now.places.now lines rows = rw c.deref-2.ensures.value at c.in_ok-put_rows.ensures in
     rw c.in-Some.is (on_ok_weaker c.put_reuses.result (put_three old _ _ _ _ _ _ title sites) (rw c.deref-3.ensures.value at c.put_reuses.ensures))

@@ -1,7 +1,9 @@
 -- What the analyst stands for before any step, the pass has come to.
+use Rattle.std.proofs.Common.{rules}
 use Rattle.er_batch.proofs.PassLemmas.{begun}
 use Rattle.er_batch.proofs.passes.Pass.new.Goals as goal
 
 pub returns-clause-come : goal.returns-clause-come
 returns-clause-come g c = λ asked stands told.
-    begun (g.A.Analyst.stands c.args.analyst asked) c.in_ok-lines.lines c.keyed.result c.keyed.ensures c.in_ok-lines.ensures.starts stands told
+    begun (g.A.Analyst.stands c.args.analyst asked) c.in_ok-lines.lines c.keyed.result c.new-2.result.items c.new-3.result.items c.new-4.result.items c.keyed.ensures
+    (search rules) (search rules) (search rules) c.in_ok-lines.ensures.starts stands told

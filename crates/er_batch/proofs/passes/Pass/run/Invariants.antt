@@ -1,6 +1,7 @@
 use Rattle.std.proofs.Common.{◌≡◌, ◌+◌, ◌-◌, ◌≤◌, ℕ, List, Option, false}
 use Rattle.er_batch.specs.Analysts.{Asked}
 use Rattle.er_batch.specs.Inner.Passes.{HasCome}
+use Rattle.er_batch.specs.Runs.{IsWellFormed, recorded}
 use Rattle.er_device.specs.Device.{inner_of, has_failed, taken_of}
 use Rattle.er_lines.specs.Lending.{taken_by}
 use Rattle.er_batch.proofs.passes.Pass.run.Given as goal
@@ -11,8 +12,9 @@ invariant-loop-watcher g l = record {
   unfailed : has_failed l.reader ≡ false;
   limit : l.self.lines.place.limit ≡ l.fn.self.lines.place.limit;
   taken : taken_of l.reader + taken_by l.fn.self.lines.place ≤ taken_of l.fn.reader + taken_by l.self.lines.place;
-  come : (asked : Asked) (told : Option (List ℕ)) → HasCome (g.A.Analyst.stands l.fn.self.analyst asked) told (g.D.Read.remaining (inner_of l.fn.reader)) l.fn.self.lines l.fn.self.trace
-      → HasCome (g.A.Analyst.stands l.self.analyst asked) told (g.D.Read.remaining (inner_of l.reader)) l.self.lines l.self.trace;
+  come : (asked : Asked) (told : Option (List ℕ)) → HasCome (g.A.Analyst.stands l.fn.self.analyst asked) told (g.D.Read.remaining (inner_of l.fn.reader)) l.fn.self.lines l.fn.self.trace l.fn.self.steps.items l.fn.self.numbers.items l.fn.self.sites.items
+      → HasCome (g.A.Analyst.stands l.self.analyst asked) told (g.D.Read.remaining (inner_of l.reader)) l.self.lines l.self.trace l.self.steps.items l.self.numbers.items l.self.sites.items;
+  formed : IsWellFormed (recorded l.self.steps.items l.self.numbers.items l.self.sites.items l.self.trace.names);
 }
 
 abbrev pub decreases-loop-watcher : goal.decreases-loop-watcher

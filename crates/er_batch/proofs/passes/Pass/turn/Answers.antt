@@ -1,27 +1,55 @@
--- A batch goes on behind the steps that are forgotten, and with the last one they are the text's.
-use Rattle.std.proofs.Common.{sym, subst}
+-- The batch that was read takes the place of the one that is answered, and the last one is answered too.
+use Rattle.std.proofs.Common.{rules, ◌≡◌, ℕ, List, Option, Ok}
+use Rattle.er_batch.proofs.PassLemmas.{ended-on, ends-on, moved, part, still-formed, whole}
+use Rattle.er_batch.specs.Runs.{recorded}
 use Rattle.er_device.specs.Device.{inner_of}
-use Rattle.er_batch.specs.Inner.Passes.{HasCome}
-use Rattle.er_batch.proofs.PassLemmas.{part, whole, ends-by}
+use Rattle.er_event.specs.declared.steps.Step.{Step}
+use Rattle.er_text.specs.Batches.{GivesBatch, HasRead}
+use Rattle.er_text.specs.Named.{Grows}
 use Rattle.er_trace.specs.Trace.{Recording}
 use Rattle.er_batch.proofs.passes.Pass.turn.Goals as goal
 
-pub returns-in-End-clause-ended : goal.returns-in-End-clause-ended
-returns-in-End-clause-ended g c = λ asked told come last.
-    whole (g.A.Analyst.stands c.args.self.now.analyst asked) (g.A.Analyst.stands c.answer.new.self asked) told c.args.self.now.lines c.next_batch.new.self
-    (g.D.Read.remaining (inner_of c.args.reader.now)) (g.D.Read.remaining (inner_of c.next_batch.new.reader)) c.args.self.now.trace c.next_batch.new.trace c.in_ok-batch.batch come
-    c.in_ok-batch.ensures.told (λ past lines sites stands. c.in_ok-answer.ensures.goes_on asked past lines sites c.args.self.now.trace.names c.in_ok-batch.ensures.grows.names stands)
-    c.in-End.is c.in_ok-batch.ensures.limit
+pub answer_last-requires-clause-formed : goal.answer_last-requires-clause-formed
+answer_last-requires-clause-formed g c κs within =
+    let grows : Grows c.args.self.now.trace c.prepare.new.beside.3.now = search rules in
+    still-formed _ _ _ _ _ grows.names c.requires.formed
 
 pub returns-in-More-clause-come : goal.returns-in-More-clause-come
 returns-in-More-clause-come g c = λ asked told come more.
-    subst (λ (t : Recording). HasCome (g.A.Analyst.stands c.answer.new.self asked) told (g.D.Read.remaining (inner_of c.next_batch.new.reader)) c.next_batch.new.self t) (sym c.clear.ensures)
-    (part (g.A.Analyst.stands c.args.self.now.analyst asked) (g.A.Analyst.stands c.answer.new.self asked) told c.args.self.now.lines c.next_batch.new.self
-    (g.D.Read.remaining (inner_of c.args.reader.now)) (g.D.Read.remaining (inner_of c.next_batch.new.reader)) c.args.self.now.trace c.next_batch.new.trace c.in_ok-batch.batch come
-    c.in_ok-batch.ensures.told (λ past lines sites stands. c.in_ok-answer.ensures.goes_on asked past lines sites c.args.self.now.trace.names c.in_ok-batch.ensures.grows.names stands)
+    let t : Recording = c.args.self.now.trace in
+    let u : Recording = c.prepare.new.beside.3.now in
+    let known : Option (List ℕ) = g.D.Read.remaining (inner_of c.args.reader.now) in
+    let rest : Option (List ℕ) = g.D.Read.remaining (inner_of c.reader-1.given.0) in
+    let grows : Grows t u = search rules in
+    let gives : (text : List ℕ) (past : List Step) (lines sites : List ℕ) → HasRead text past lines sites c.args.self.now.lines known t
+    → GivesBatch text past lines sites c.prepare.new.beside.0.now rest u (Ok c.in_ok-batch.batch) = search rules in
+    moved u _ _ _ _ c.in_ok-answer_last.ensures.trace c.in_ok-answer_last.ensures.next.0 c.in_ok-answer_last.ensures.next.1 c.in_ok-answer_last.ensures.next.2
+    (g.A.Analyst.stands c.answer_last.new.self.analyst asked) told rest c.prepare.new.beside.0.now _ c.answer_last.ensures.lines
+    (part (g.A.Analyst.stands c.args.self.now.analyst asked) (g.A.Analyst.stands c.answer_last.new.self.analyst asked) told c.args.self.now.lines c.prepare.new.beside.0.now known rest t u
+    c.args.self.now.steps.items c.args.self.now.numbers.items c.args.self.now.sites.items c.in_ok-batch.batch come gives
+    (λ past lines sites stands. c.in_ok-answer_last.ensures.answered asked past lines sites t.names grows.names
+    (rw c.as_slice.ensures.value at (c.prepare.ensures.ready asked (recorded past lines sites t.names) stands)))
     c.in-More.is)
 
-pub returns-in-End-clause-ends : goal.returns-in-End-clause-ends
-returns-in-End-clause-ends g c = λ asked told come last.
-    ends-by (g.A.Analyst.stands c.args.self.now.analyst asked) told (g.D.Read.remaining (inner_of c.args.reader.now)) c.args.self.now.lines c.next_batch.new.self c.args.self.now.trace
-    c.in_ok-batch.batch come c.in_ok-batch.ensures.ends c.in-End.is
+pub returns-in_ok-answer_last-in-End-clause-ended : goal.returns-in_ok-answer_last-in-End-clause-ended
+returns-in_ok-answer_last-in-End-clause-ended g c = λ asked told come ended.
+    let t : Recording = c.args.self.now.trace in
+    let u : Recording = c.prepare.new.beside.3.now in
+    let known : Option (List ℕ) = g.D.Read.remaining (inner_of c.args.reader.now) in
+    let rest : Option (List ℕ) = g.D.Read.remaining (inner_of c.prepare.new.beside.2.now) in
+    let grows : Grows t u = search rules in
+    let limit : c.prepare.new.beside.0.now.place.limit ≡ c.args.self.now.lines.place.limit = search rules in
+    let gives : (text : List ℕ) (past : List Step) (lines sites : List ℕ) → HasRead text past lines sites c.args.self.now.lines known t
+    → GivesBatch text past lines sites c.prepare.new.beside.0.now rest u (Ok c.in_ok-batch.batch) = search rules in
+    ended-on u c.answer_last.new.self.trace _ _ _ c.in_ok-answer_last.ensures.trace c.in_ok-answer_last.ensures.next.0 c.in_ok-answer_last.ensures.next.1 c.in_ok-answer_last.ensures.next.2
+    (g.A.Analyst.stands c.answer_last-in-End.new.self.analyst asked) told c.args.self.now.lines.place.limit c.answer_last-in-End.new.self.trace c.in_ok-answer_last-in-End.ensures.trace
+    (whole (g.A.Analyst.stands c.args.self.now.analyst asked) (g.A.Analyst.stands c.answer_last.new.self.analyst asked) told c.args.self.now.lines c.prepare.new.beside.0.now known rest t u
+    c.args.self.now.steps.items c.args.self.now.numbers.items c.args.self.now.sites.items c.in_ok-batch.batch come gives
+    (λ past lines sites stands. c.in_ok-answer_last.ensures.answered asked past lines sites t.names grows.names
+    (rw c.as_slice.ensures.value at (c.prepare.ensures.ready asked (recorded past lines sites t.names) stands)))
+    (g.A.Analyst.stands c.answer_last-in-End.new.self.analyst asked)
+    (ends-on u c.answer_last.new.self.trace _ _ _ c.in_ok-answer_last.ensures.trace c.in_ok-answer_last.ensures.next.0 c.in_ok-answer_last.ensures.next.1 c.in_ok-answer_last.ensures.next.2
+    (g.A.Analyst.stands c.answer_last.new.self.analyst asked) (g.A.Analyst.stands c.answer_last-in-End.new.self.analyst asked)
+    (λ past lines sites names kept stands. c.in_ok-answer_last-in-End.ensures.answered asked past lines sites names kept
+    (rw c.as_slice-in-End.ensures.value at (c.prepare-in-End.ensures.ready asked (recorded past lines sites names) stands))))
+    c.in-End.is limit)

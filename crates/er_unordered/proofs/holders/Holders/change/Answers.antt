@@ -44,9 +44,6 @@ nothing_ends h e is accepted ends =
 pub returns-in_err-change-in-None-clause-free : goal.returns-in_err-change-in-None-clause-free
 returns-in_err-change-in-None-clause-free c ends = absurd (nothing_ends _ _ (absent (goal.at.returns-in_err-change-in-None-clause-free c).In-None) c.requires ends)
 
-pub returns-in_err-make_room-in-None-clause-free : goal.returns-in_err-make_room-in-None-clause-free
-returns-in_err-make_room-in-None-clause-free c ends = absurd (nothing_ends _ _ (absent (goal.at.returns-in_err-make_room-in-None-clause-free c).In-None) c.requires ends)
-
 pub returns-in_err-insert-in-None-clause-free : goal.returns-in_err-insert-in-None-clause-free
 returns-in_err-insert-in-None-clause-free c ends = absurd (nothing_ends _ _ (absent (goal.at.returns-in_err-insert-in-None-clause-free c).In-None) c.requires ends)
 
@@ -62,9 +59,6 @@ returns-in-Some-clause-within c =
 
 pub returns-in_err-change-in-None-clause-within : goal.returns-in_err-change-in-None-clause-within
 returns-in_err-change-in-None-clause-within c = nothing_within _ (absent (goal.at.returns-in_err-change-in-None-clause-within c).In-None)
-
-pub returns-in_err-make_room-in-None-clause-within : goal.returns-in_err-make_room-in-None-clause-within
-returns-in_err-make_room-in-None-clause-within c = nothing_within _ (absent (goal.at.returns-in_err-make_room-in-None-clause-within c).In-None)
 
 pub returns-in_err-insert-in-None-clause-within : goal.returns-in_err-insert-in-None-clause-within
 returns-in_err-insert-in-None-clause-within c = nothing_within _ (absent (goal.at.returns-in_err-insert-in-None-clause-within c).In-None)

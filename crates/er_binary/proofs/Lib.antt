@@ -1,0 +1,9 @@
+pub mod DecodedLaws
+pub mod LineLemmas
+pub mod DecoderLaws
+pub mod FillLemmas
+pub mod MeaningLaws
+pub mod NameLemmas
+pub mod NumberLemmas
+pub mod TextLemmas
+pub mod WordLemmas

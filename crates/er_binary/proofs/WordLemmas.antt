@@ -1,0 +1,32 @@
+-- The checksum by words of 8 bytes, and the number of 8 bytes.
+use Rattle.std.proofs.Common.{◌≡◌, ℕ, ◌<◌, ◌≤◌, List, [], ◌∷◌, length, take, drop, refl, arith}
+use Rattle.er_binary.specs.Meaning.{mixed, mixed_all}
+use Rattle.er_binary.specs.Numbers.{number}
+
+-- a whole word in front is mixed in
+pub word_mixed : (sum : ℕ) (bytes : List ℕ) → 8 ≤ length bytes → mixed_all (mixed sum (number (take 8 bytes))) (drop 8 bytes) ≡ mixed_all sum bytes
+word_mixed sum [] long = absurd (omega arith)
+word_mixed sum (a ∷ []) long = absurd (omega arith)
+word_mixed sum (a ∷ b ∷ []) long = absurd (omega arith)
+word_mixed sum (a ∷ b ∷ c ∷ []) long = absurd (omega arith)
+word_mixed sum (a ∷ b ∷ c ∷ d ∷ []) long = absurd (omega arith)
+word_mixed sum (a ∷ b ∷ c ∷ d ∷ e ∷ []) long = absurd (omega arith)
+word_mixed sum (a ∷ b ∷ c ∷ d ∷ e ∷ f ∷ []) long = absurd (omega arith)
+word_mixed sum (a ∷ b ∷ c ∷ d ∷ e ∷ f ∷ g ∷ []) long = absurd (omega arith)
+word_mixed sum (a ∷ b ∷ c ∷ d ∷ e ∷ f ∷ g ∷ h ∷ bytes) long = refl
+
+-- what is left behind the words is mixed in as one
+pub rest_mixed : (sum : ℕ) (bytes : List ℕ) → length bytes < 8 → 0 < length bytes → mixed_all sum bytes ≡ mixed sum (number bytes)
+rest_mixed sum [] short some = absurd (omega arith)
+rest_mixed sum (a ∷ []) short some = refl
+rest_mixed sum (a ∷ b ∷ []) short some = refl
+rest_mixed sum (a ∷ b ∷ c ∷ []) short some = refl
+rest_mixed sum (a ∷ b ∷ c ∷ d ∷ []) short some = refl
+rest_mixed sum (a ∷ b ∷ c ∷ d ∷ e ∷ []) short some = refl
+rest_mixed sum (a ∷ b ∷ c ∷ d ∷ e ∷ f ∷ []) short some = refl
+rest_mixed sum (a ∷ b ∷ c ∷ d ∷ e ∷ f ∷ g ∷ []) short some = refl
+rest_mixed sum (a ∷ b ∷ c ∷ d ∷ e ∷ f ∷ g ∷ h ∷ bytes) short some = absurd (omega arith)
+
+pub none_mixed : (sum : ℕ) (bytes : List ℕ) → length bytes ≡ 0 → mixed_all sum bytes ≡ sum
+none_mixed sum [] none = refl
+none_mixed sum (a ∷ bytes) none = absurd (omega arith)

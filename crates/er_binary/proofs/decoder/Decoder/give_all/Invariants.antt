@@ -1,0 +1,14 @@
+-- What was given, and what is still to be given, are what was to be given.
+use Rattle.std.proofs.Common.{◌≡◌, ◌<◌, ◌≤◌, ◌++◌, ℕ, List, length, take}
+use Rattle.er_binary.specs.Inner.Decoders.{IsGiven, left, still}
+use Rattle.er_binary.proofs.decoder.Decoder.give_all.Given as goal
+
+abbrev pub invariant-loop-count : goal.invariant-loop-count
+invariant-loop-count l = record {
+  within : l.count ≤ length l.buffer;
+  gives : (rest : List ℕ) → still l.fn.self rest ≡ take l.count l.buffer ++ still l.self rest;
+  given : l.count < length l.buffer → IsGiven l.self;
+}
+
+abbrev pub decreases-loop-count : goal.decreases-loop-count
+decreases-loop-count l = left l.self.phase l.self

@@ -1,0 +1,34 @@
+-- A record that is taken, one that may not come, and one for which there was no memory.
+use Rattle.std.proofs.Common.{◌≡◌, ◌≤◌, ◌<◌, ◌+◌, ◌++◌, List, ℕ, drop, length, vec_items, vec_len, refl, sym, ap, ◌∙◌, arith, rules}
+use Rattle.er_binary.specs.Meaning.{past, take_record}
+use Rattle.er_binary.proofs.DecoderLaws.{emptied, refused_is, taken_is}
+use Rattle.er_binary.proofs.MeaningLaws.{none_at, some_at, within_at}
+use Rattle.er_binary.proofs.TextLemmas.{either_way}
+use Rattle.er_binary.proofs.decoder.Decoder.next_record.Goals as goal
+
+pub returns-in-Ok-Some-clause-same : goal.returns-in-Ok-Some-clause-same
+returns-in-Ok-Some-clause-same c = λ rest.
+    let d = c.args.self.now in
+    let n = c.in-Ok-Some.len in
+    let within = within_at _ n _ c.in-Ok-Some.field-0-is c.in-Ok-Some.ensures.len in
+    let h = some_at (take_record d.state c.split_at.result.1.now) _ _ d.state _ _ n c.in-Ok-Some.field-0-is c.in-Ok-Some.ensures.taken in
+    let back = c.split_at.ensures.back ∙ ap (λ (t : List ℕ). drop d.next t) c.deref.ensures.value in
+    let all : length (vec_items d.bytes) ≡ vec_len d.bytes = search rules in
+    let less : d.next < length (vec_items d.bytes) = omega arith in
+    let some : 1 ≤ h.0.len = omega (arith, h.2, within.0) in
+    taken_is d _ rest h.0 c.requires.given c.requires.phase less (sym (ap (λ (t : List ℕ). take_record d.state t) back) ∙ h.1) some c.requires.phase refl (h.3 ∙ ap (λ (t : List ℕ). t ++ h.0.text) c.clear.ensures.items) h.4
+    (c.past-self.ensures ∙ ap (λ (k : ℕ). past d.spot k) h.2) refl (ap (λ (k : ℕ). d.next + k) h.2)
+
+pub returns-in-Ok-None-clause-same : goal.returns-in-Ok-None-clause-same
+returns-in-Ok-None-clause-same c = λ rest.
+    let d = c.args.self.now in
+    let h = none_at (take_record d.state c.split_at.result.1.now) _ _ d.state _ _ c.in-Ok-None.field-0-is c.in-Ok-None.ensures.taken in
+    let back = c.split_at.ensures.back ∙ ap (λ (t : List ℕ). drop d.next t) c.deref.ensures.value in
+    let all : length (vec_items d.bytes) ≡ vec_len d.bytes = search rules in
+    let less : d.next < length (vec_items d.bytes) = omega arith in
+    either_way c.stop.result c.stop.ensures.ok c.stop.ensures.err
+    (λ ok. refused_is d rest c.requires.given c.requires.phase less (sym (ap (λ (t : List ℕ). take_record d.state t) back) ∙ h.0) ∙ sym (ok rest))
+    (λ err. emptied d _ rest c.requires.given (search rules) refl h.2 refl refl refl refl refl refl ∙ err rest)
+
+pub returns-in-Err-clause-same : goal.returns-in-Err-clause-same
+returns-in-Err-clause-same c = λ rest. emptied c.args.self.now _ rest c.requires.given (search rules) refl c.in-Err.ensures.err refl refl refl refl refl refl

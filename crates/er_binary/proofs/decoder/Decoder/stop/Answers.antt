@@ -1,0 +1,13 @@
+use Rattle.std.proofs.Common.{◌++◌, List, ℕ, refl, ap, ◌∙◌, rules}
+use Rattle.std.proofs.lemmas.List.{append-nil}
+use Rattle.er_binary.specs.Inner.Decoders.{still}
+use Rattle.er_binary.specs.Meaning.{last_line}
+use Rattle.er_binary.proofs.DecoderLaws.{same_undecoded}
+use Rattle.er_binary.proofs.decoder.Decoder.stop.Goals as goal
+
+pub returns-in-Ok-clause-ok : goal.returns-in-Ok-clause-ok
+unfolding still
+returns-in-Ok-clause-ok c = λ rest. append-nil _ ∙ c.in-Ok.ensures ∙ ap (λ (t : List ℕ). t ++ last_line c.args.what.now c.args.byte) c.clear.ensures.items
+
+pub returns-in-Err-clause-err : goal.returns-in-Err-clause-err
+returns-in-Err-clause-err c = λ rest. same_undecoded _ _ rest c.requires (search rules) refl

@@ -1,0 +1,4 @@
+-- What stands inside the decoder.
+pub mod Decoders
+pub mod Spans
+pub mod Taking

@@ -1,0 +1,389 @@
+//! Decodes the blocks of a binary trace, one after another.
+ghost use Rattle.std.specs.Prelude.{◌≡◌, ◌≢◌, ◌<◌, ◌≤◌, ◌^◌, ◌+◌, ◌++◌, ℕ, List, OnOk, OnErr, IfOk, length, vec_len, min, take, option_map, false};
+ghost use Rattle.std.specs.Io.{ReadsAtMost};
+ghost use Rattle.er_binary.specs.Meaning.{checksum, is_bad_len, last_line, mixed, past, spot_at};
+ghost use Rattle.er_binary.specs.Numbers.{number};
+ghost use Rattle.std.specs.Io.KnownBytes.{IsAtEnd, Keeps, ReadConsumes, prepend_known};
+
+use crate::names::{Put, number, put_number};
+use crate::state::State;
+use std::alloc::{AllocError, Global};
+use std::io;
+use std::io::{ErrorKind, Read};
+
+/// A place in a block: the block's number, the byte at which it begins, the byte of the next record, and how many records were found, all modulo
+/// 2^64. The block is to have `count` records and the checksum `sum`.
+#[derive(Clone, Copy)]
+pub(crate) struct Spot {
+    pub(crate) block: u64,
+    pub(crate) start: u64,
+    pub(crate) at: u64,
+    pub(crate) found: u64,
+    pub(crate) count: u32,
+    pub(crate) sum: u64,
+}
+
+impl Spot {
+    /// The place of the first record of a block with this header, which begins at the same byte.
+    pub(crate) fn begun(self, header: &[u8]) -> Spot
+        requires { length header.now ≡ 16 }
+        ensures { result ≡ spot_at self.block self.start header.now }
+    {
+        Spot {
+            at: self.start.wrapping_add(16),
+            found: 0,
+            count: number(&header[4..8]) as u32,
+            sum: number(&header[8..16]),
+            ..self
+        }
+    }
+
+    pub(crate) fn past(self, len: u64) -> Spot
+        ensures { result ≡ past self len }
+    {
+        Spot {
+            at: self.at.wrapping_add(len),
+            found: self.found.wrapping_add(1),
+            ..self
+        }
+    }
+}
+
+/// What comes next: the first 16 bytes of a block, its records' bytes, a record of them, or nothing.
+#[derive(Clone, Copy)]
+pub(crate) enum Phase {
+    Header,
+    Content,
+    Record,
+    Nothing,
+}
+
+/// A decoder: it keeps the block that it is in, and the text of one record.
+#[derive(Drop)]
+pub(crate) struct Decoder {
+    state: State,
+    spot: Spot,
+    phase: Phase,
+    // The first bytes of the block, of which `header_held` were read.
+    header: [u8; 16],
+    header_held: usize,
+    // The bytes of its records, of which `held` were read, and `next` are decoded.
+    bytes: Vec<u8>,
+    held: usize,
+    next: usize,
+    // The text that was made last, of which `given` bytes were given.
+    text: Vec<u8>,
+    given: usize,
+    ghost begun: { header_held ≤ 16 },
+    ghost within: { held ≤ vec_len bytes },
+    ghost decoded: { next ≤ vec_len bytes },
+    ghost small: { vec_len bytes ≤ 2 ^ 20 },
+    ghost some: { given ≤ vec_len text },
+}
+
+impl Decoder {
+    ghost use Rattle.std.specs.Prelude.{codes};
+    ghost use Rattle.er_binary.specs.Inner.Decoders.{IsGiven, all_content, is_record, left, still};
+    ghost use Rattle.er_binary.specs.Meaning.{text_behind};
+    ghost use Rattle.er_binary.specs.declared.decoder.Phase.TheVariants as phase;
+
+    /// A decoder behind the first 8 bytes of a trace.
+    pub(crate) fn new(alloc: Global) -> Result<Decoder, AllocError>
+        ensures { IfOk result (λ d. (bytes : List ℕ) → still d bytes ≡ text_behind bytes) }
+    {
+        Ok(Decoder {
+            state: State::new(alloc),
+            spot: Spot {
+                block: 0,
+                start: 8,
+                at: 0,
+                found: 0,
+                count: 0,
+                sum: 0,
+            },
+            phase: Phase::Header,
+            header: [0; 16],
+            header_held: 0,
+            bytes: Vec::new(alloc),
+            held: 0,
+            next: 0,
+            text: Vec::from_slice(alloc, b"eraser trace 3\n")?,
+            given: 0,
+        })
+    }
+
+    /// Gives text, and reads on where it must. No byte means that the text ended, or that the buffer has no room.
+    pub(crate) fn read<R: Read>(&mut self, reader: &mut R, buffer: &mut [u8]) -> io::Result<usize>
+        ensures bound { ReadsAtMost result buffer.new }
+        ensures bytes { ReadConsumes (option_map (still self.old) (R.remaining reader.old)) (option_map (still self.new) (R.remaining reader.new)) result buffer.new }
+    {
+        if buffer.is_empty() {
+            return Ok(0);
+        }
+        for _ in 0..u64::MAX {
+            let count = self.give_all(buffer)?;
+            if count > 0 {
+                return Ok(count);
+            }
+            match self.phase {
+                Phase::Nothing => return Ok(0),
+                Phase::Header => self.read_header(reader)?,
+                Phase::Content => self.read_content(reader)?,
+                Phase::Record => {}
+            }
+        }
+        Err(io::Error::from(ErrorKind::Other))
+    }
+
+    // Gives the text of the block, as far as the buffer has room.
+    fn give_all(&mut self, buffer: &mut [u8]) -> io::Result<usize>
+        ensures bound { IfOk result (λ n. n ≤ length buffer.new) }
+        ensures gives { IfOk result (λ n. (rest : List ℕ) → still self.old rest ≡ take n buffer.new ++ still self.new rest) }
+        ensures given { IfOk result (λ n. n ≡ 0 → 0 < length buffer.new → IsGiven self.new) }
+        ensures err { OnErr result ((rest : List ℕ) → still self.old rest ≡ still self.new rest) }
+    {
+        let mut count = self.give(buffer);
+        while count < buffer.len() && self.has_record() {
+            if let Err(refused) = self.next_record() {
+                return if count > 0 { Ok(count) } else { Err(refused) };
+            }
+            count += self.give(&mut buffer[count..]);
+        }
+        Ok(count)
+    }
+
+    fn has_record(&self) -> bool
+        ensures { result ≡ is_record self.now.phase }
+    {
+        matches!(self.phase, Phase::Record)
+    }
+
+    // Gives the rest of the text that was made.
+    fn give(&mut self, buffer: &mut [u8]) -> usize
+        ensures bound { result ≤ length buffer.new }
+        ensures gives { (rest : List ℕ) → still self.old rest ≡ take result buffer.new ++ still self.new rest }
+        ensures given { result < length buffer.new → IsGiven self.new }
+        ensures phase { self.new.phase ≡ self.old.phase }
+        ensures bytes { self.new.bytes ≡ self.old.bytes }
+        ensures next { self.new.next ≡ self.old.next }
+    {
+        let (_, rest) = self.text.split_at(self.given);
+        let count = copy_front(rest, buffer);
+        self.given += count;
+        count
+    }
+
+    // Makes the text of the next record, or ends the block.
+    fn next_record(&mut self) -> io::Result<()>
+        requires phase { self.old.phase ≡ phase.Record }
+        requires given { IsGiven self.old }
+        ensures same { (rest : List ℕ) → still self.old rest ≡ still self.new rest }
+        ensures less { OnOk result (left self.new.phase self.new < left self.old.phase self.old) }
+    {
+        if self.next == self.bytes.len() {
+            return self.end_block();
+        }
+        self.given = 0;
+        self.text.clear();
+        let (_, rest) = self.bytes.split_at(self.next);
+        match self.state.take(&mut self.text, rest) {
+            Ok(Some(len)) => {
+                self.next += len;
+                self.spot = self.spot.past(len as u64);
+                Ok(())
+            }
+            Ok(None) => self.stop(b"damaged", self.spot.at),
+            Err(refused) => {
+                self.text.clear();
+                Err(io::Error::from(refused))
+            }
+        }
+    }
+
+    fn end_block(&mut self) -> io::Result<()>
+        requires phase { self.old.phase ≡ phase.Record }
+        requires given { IsGiven self.old }
+        requires next { self.old.next ≡ vec_len self.old.bytes }
+        ensures same { (rest : List ℕ) → still self.old rest ≡ still self.new rest }
+        ensures less { OnOk result (left self.new.phase self.new < left self.old.phase self.old) }
+    {
+        if self.spot.found != u64::from(self.spot.count) {
+            return self.stop(b"damaged", self.spot.start);
+        }
+        self.spot.block = self.spot.block.wrapping_add(1);
+        self.spot.start = self.spot.start.wrapping_add(16 + self.bytes.len() as u64);
+        self.header_held = 0;
+        self.phase = Phase::Header;
+        Ok(())
+    }
+
+    // Reads the first bytes of the next block.
+    fn read_header<R: Read>(&mut self, reader: &mut R) -> io::Result<()>
+        requires phase { self.old.phase ≡ phase.Header }
+        requires given { IsGiven self.old }
+        ensures { Keeps (option_map (still self.old) (R.remaining reader.old)) (option_map (still self.new) (R.remaining reader.new)) }
+    {
+        fill(reader, &mut self.header, &mut self.header_held)?;
+        let (start, held) = (self.spot.start, self.header_held as u64);
+        if self.state.ended {
+            if held == 0 {
+                self.phase = Phase::Nothing;
+                return Ok(());
+            }
+            return self.stop(b"damaged", start);
+        }
+        if held < 16 {
+            let end = start.wrapping_add(held);
+            return self.stop(b"cut off", end);
+        }
+        let len = number(&self.header[0..4]);
+        if is_bad_len(len) {
+            return self.stop(b"damaged", start);
+        }
+        self.begin_content(len as usize)
+    }
+
+    // Makes room for the records of the block that the header is of.
+    fn begin_content(&mut self, len: usize) -> io::Result<()>
+        requires len { len ≤ 2 ^ 20 }
+        requires phase { self.old.phase ≡ phase.Header }
+        requires given { IsGiven self.old }
+        ensures ok { OnOk result ((rest : List ℕ) → still self.new rest
+            ≡ all_content (spot_at self.old.spot.block self.old.spot.start self.old.header) len self.old.state rest) }
+        ensures err { OnErr result ((rest : List ℕ) → still self.old rest ≡ still self.new rest) }
+    {
+        self.bytes.truncate(len);
+        self.held = 0;
+        self.next = 0;
+        self.bytes.resize(len, 0)?;
+        self.spot = self.spot.begun(&self.header);
+        self.phase = Phase::Content;
+        Ok(())
+    }
+
+    // Reads the records of a block.
+    fn read_content<R: Read>(&mut self, reader: &mut R) -> io::Result<()>
+        requires phase { self.old.phase ≡ phase.Content }
+        requires given { IsGiven self.old }
+        ensures { Keeps (option_map (still self.old) (R.remaining reader.old)) (option_map (still self.new) (R.remaining reader.new)) }
+    {
+        fill(reader, &mut self.bytes, &mut self.held)?;
+        let start = self.spot.start;
+        if self.held < self.bytes.len() {
+            return self.stop(b"cut off", start.wrapping_add(16 + self.held as u64));
+        }
+        if checksum(self.spot.block, self.spot.count, &self.bytes) != self.spot.sum {
+            return self.stop(b"damaged", start);
+        }
+        self.state.begin_block();
+        self.next = 0;
+        self.phase = Phase::Record;
+        Ok(())
+    }
+
+    // Ends the text by a line with this byte.
+    fn stop(&mut self, what: &[u8], byte: u64) -> io::Result<()>
+        requires { IsGiven self.old }
+        ensures ok { OnOk result ((rest : List ℕ) → still self.new rest ≡ last_line what.now byte) }
+        ensures phase { OnOk result (self.new.phase ≡ phase.Nothing) }
+        ensures err { OnErr result ((rest : List ℕ) → still self.old rest ≡ still self.new rest) }
+    {
+        self.given = 0;
+        self.text.clear();
+        match put_last_line(&mut self.text, what, byte) {
+            Ok(()) => {
+                self.phase = Phase::Nothing;
+                Ok(())
+            }
+            Err(refused) => {
+                self.text.clear();
+                Err(io::Error::from(refused))
+            }
+        }
+    }
+}
+
+// Whether the records of a block can't have so many bytes.
+fn is_bad_len(len: u64) -> bool
+    ensures value { result ≡ is_bad_len len }
+    ensures small { result ≡ false → len ≤ 2 ^ 20 }
+{
+    len == 0 || len > 1 << 20
+}
+
+/// Copies the front of some bytes, as much as there is room for.
+pub(crate) fn copy_front(from: &[u8], to: &mut [u8]) -> usize
+    ensures count { result ≡ min (length from.now) (length to.new) }
+    ensures bytes { take result to.new ≡ take result from.now }
+{
+    let count = from.len().min(to.len());
+    to[..count].copy_from_slice(&from[..count]);
+    count
+}
+
+fn put_last_line(out: &mut Vec<u8>, what: &[u8], byte: u64) -> Put
+    ensures { OnOk result (out.new.items ≡ out.old.items ++ last_line what.now byte) }
+{
+    out.extend_from_slice(what)?;
+    out.extend_from_slice(b" at byte ")?;
+    put_number(out, byte)?;
+    out.extend_from_slice(b"\n")
+}
+
+/// Reads on until all of the bytes are there, or the reader ends. `held` of them are there.
+pub(crate) fn fill<R: Read>(reader: &mut R, bytes: &mut [u8], held: &mut usize) -> io::Result<()>
+    requires { held.old ≤ length bytes.old }
+    ensures within { held.new ≤ length bytes.new }
+    ensures grown { held.old ≤ held.new }
+    ensures same { Keeps (prepend_known (take held.old bytes.old) (R.remaining reader.old)) (prepend_known (take held.new bytes.new) (R.remaining reader.new)) }
+    ensures end { OnOk result (held.new < length bytes.new → IsAtEnd (R.remaining reader.new)) }
+{
+    while *held < bytes.len() {
+        let count = reader.read(&mut bytes[*held..])?;
+        if count == 0 {
+            return Ok(());
+        }
+        *held += count;
+    }
+    Ok(())
+}
+
+/// The checksum of a block with this number and this count of records.
+pub(crate) fn checksum(block: u64, count: u32, bytes: &[u8]) -> u64
+    requires { length bytes.now < 2 ^ 32 }
+    ensures { result ≡ checksum block (length bytes.now) count bytes.now }
+{
+    let sizes = bytes.len() as u64 + u64::from(count) * 0x1_0000_0000;
+    let mut sum = mixed(mixed(0, block), sizes);
+    let mut rest = bytes;
+    while rest.len() >= 8 {
+        let (word, more) = rest.split_at(8);
+        sum = mixed(sum, word_of(word));
+        rest = more;
+    }
+    if rest.is_empty() {
+        return sum;
+    }
+    mixed(sum, number(rest))
+}
+
+#[inline(always)]
+#[tactic(auto, unfolding(crate::specs::Meaning::mixed))]
+fn mixed(sum: u64, word: u64) -> u64
+    ensures { result ≡ mixed sum word }
+{
+    sum.wrapping_add(word)
+        .wrapping_mul(0x9E37_79B9_7F4A_7C15)
+        .rotate_left(32)
+}
+
+// The number of 8 bytes, in one load.
+#[inline(always)]
+fn word_of(bytes: &[u8]) -> u64
+    requires { length bytes.now ≡ 8 }
+    ensures { result ≡ number bytes.now }
+{
+    u64::from_le_bytes([
+        bytes[0], bytes[1], bytes[2], bytes[3], bytes[4], bytes[5], bytes[6], bytes[7],
+    ])
+}

@@ -1,0 +1,24 @@
+//! The binary form of a trace, read as text.
+//!
+//! A binary trace is smaller than text, and has blocks with a checksum each. Begin with [`Decoded`]: it wraps a reader and gives the text that
+//! its bytes mean. Bytes that don't begin as a binary trace does mean themselves, and go through as they are.
+//!
+//! What it promises, by the names of clauses: what a new `Decoded` gives is the text that the bytes of its reader mean (`fresh`), in whatever
+//! pieces they come and it is asked for. The text of a damaged trace ends in a line that says at which byte the damage is.
+//!
+//! ```
+//! let mut reader = Decoded::new(alloc, b"eraser trace 1\n".as_slice());
+//! let mut text = Vec::new(alloc);
+//! reader.read_to_end(&mut text)?;
+//! // Here `text` has the bytes `eraser trace 1\n`.
+//! ```
+#![tactic(auto)]
+
+pub use decoded::Decoded;
+
+mod decoded;
+mod decoder;
+mod names;
+mod records;
+mod state;
+mod text;

@@ -1,0 +1,256 @@
+//! What is known behind the records so far, and takes one more.
+ghost use Rattle.std.specs.Prelude.{◌≡◌, ◌≤◌, ◌<◌, ◌^◌, ◌+◌, [], IfOk, IfSome, OnOk, OnErr, length};
+ghost use Rattle.std.specs.List.{list_all};
+ghost use Rattle.er_binary.specs.Inner.Taking.{HasTaken, IsSized};
+ghost use Rattle.er_binary.specs.Meaning.{take_access, take_record, take_said};
+ghost use Rattle.er_binary.specs.Records.{body_len};
+ghost use Rattle.er_binary.specs.States.{address_of, after, after_access, at_block, first_state, is_access, is_note_byte, is_place, is_right, may_come, shown_by, slot};
+
+use crate::names::{Names, Numbers, number};
+use crate::records::Kind::*;
+use crate::records::{ADDRESS_END, Access, Kind, Record, record_at};
+use er_lines::{is_lock_name, is_name, is_site_name};
+use std::alloc::{AllocError, Global};
+
+/// The names and nodes so far, what the next access goes on from, and what was counted.
+#[derive(Drop)]
+pub(crate) struct State {
+    pub(crate) threads: Names,
+    pub(crate) locks: Names,
+    pub(crate) places: Names,
+    /// The place that each node shows.
+    pub(crate) shown: Numbers,
+    pub(crate) thread: Option<u64>,
+    pub(crate) node: u64,
+    pub(crate) last: [u64; 256],
+    pub(crate) events: u64,
+    pub(crate) lost: u64,
+    pub(crate) ended: bool,
+}
+
+impl State {
+    pub(crate) fn new(alloc: Global) -> State
+        ensures { result ≡ first_state }
+    {
+        State {
+            threads: Names::new(alloc),
+            locks: Names::new(alloc),
+            places: Names::new(alloc),
+            shown: Numbers::new(alloc),
+            thread: None,
+            node: 0,
+            last: [0; 256],
+            events: 0,
+            lost: 0,
+            ended: false,
+        }
+    }
+
+    pub(crate) fn begin_block(&mut self)
+        ensures { self.new ≡ at_block self.old }
+    {
+        self.thread = None;
+        self.node = 0;
+        self.last = [0; 256];
+    }
+
+    fn slot(&self) -> usize
+        ensures { result ≡ slot self.now }
+    {
+        (self.thread.unwrap_or(0) % 256) as usize
+    }
+
+    /// The address of an access.
+    pub(crate) fn address_of(&self, access: Access) -> u64
+        ensures { result ≡ address_of self.now access }
+    {
+        self.last[self.slot()].wrapping_add(access.distance) % ADDRESS_END
+    }
+
+    /// Whether an access may come next.
+    pub(crate) fn is_access(&self, access: Access) -> bool
+        requires { access.size ≤ 16 }
+        ensures { result ≡ is_access self.now access }
+    {
+        self.thread.is_some()
+            && access.node.unwrap_or(self.node) <= self.shown.len()
+            && self.address_of(access) + access.size <= ADDRESS_END
+    }
+
+    pub(crate) fn add_access(&mut self, access: Access)
+        ensures { self.new ≡ after_access self.old access }
+    {
+        let (slot, address) = (self.slot(), self.address_of(access));
+        self.last[slot] = address;
+        self.node = access.node.unwrap_or(self.node);
+        self.events = self.events.wrapping_add(1);
+    }
+
+    /// Whether another record may come next. Its body is whole, and the block has `behind` behind it.
+    pub(crate) fn may_come(&self, kind: Kind, number: u64, body: &[u8], behind: &[u8]) -> bool
+        requires { length body.now ≡ body_len kind number }
+        ensures { result ≡ may_come self.now kind number body.now behind.now }
+    {
+        (!kind.is_event() || self.thread.is_some()) && self.is_right(kind, number, body, behind)
+    }
+
+    fn is_right(&self, kind: Kind, number: u64, body: &[u8], behind: &[u8]) -> bool
+        requires { length body.now ≡ body_len kind number }
+        ensures { result ≡ is_right self.now kind number body.now behind.now }
+    {
+        match kind {
+            Thread | Start | Join => number < self.threads.len(),
+            Node => number <= self.shown.len(),
+            Lock | Unlock | ReadLock | ReadUnlock | FailedTry | Signal | Await => number
+                < self.locks.len(),
+            Show => number < ADDRESS_END,
+            Level => number <= 31,
+            ThreadName => is_name(body),
+            LockName => is_lock_name(body),
+            Place => is_place(body),
+            NewNode => self.is_node(number, body),
+            Note => body.len() <= 1000 && is_note(body),
+            End => number == self.events && behind.is_empty(),
+            _ => true,
+        }
+    }
+
+    fn is_node(&self, caller: u64, body: &[u8]) -> bool
+        requires { length body.now ≡ 5 }
+        ensures { result ≡ is_right self.now Kind.NewNode caller body.now [] }
+    {
+        caller <= self.shown.len() && number(&body[0..4]) < self.places.len() && body[4] <= 3
+    }
+
+    fn shown_by(&self, caller: u64, body: &[u8]) -> u64
+        requires { length body.now ≡ 5 }
+        ensures { result ≡ shown_by self.now caller body.now }
+    {
+        if body[4] % 2 == 1 && caller != 0 {
+            self.shown.get(caller - 1)
+        } else {
+            number(&body[0..4])
+        }
+    }
+
+    /// Adds another record that may come next. An error changes nothing.
+    pub(crate) fn add(&mut self, kind: Kind, number: u64, body: &[u8]) -> Result<(), AllocError>
+        requires { length body.now ≡ body_len kind number }
+        ensures ok { OnOk result (self.new ≡ after self.old kind number body.now) }
+        ensures err { OnErr result (self.new ≡ self.old) }
+    {
+        match kind {
+            Thread => self.thread = Some(number),
+            Node => self.node = number,
+            ThreadName => self.threads.push(body)?,
+            LockName => self.locks.push(body)?,
+            Place => self.places.push(body)?,
+            NewNode => {
+                let place = self.shown_by(number, body);
+                self.shown.push(place)?;
+            }
+            Lost => self.lost = number,
+            End => self.ended = true,
+            Note | Fact => {}
+            _ => self.events = self.events.wrapping_add(1),
+        }
+        Ok(())
+    }
+
+    /// Takes the record in front, whose text it puts behind what is there: how many bytes it has, or None if it may not come. An error, which
+    /// is want of memory, changes nothing but the text.
+    pub(crate) fn take(
+        &mut self,
+        out: &mut Vec<u8>,
+        bytes: &[u8],
+    ) -> Result<Option<usize>, AllocError>
+        ensures taken { IfOk result (λ len. HasTaken (take_record self.old bytes.now) out.old.items out.new.items self.old self.new len) }
+        ensures len { IfOk result (λ len. IfSome len (λ n. (1 ≤ n) × (n ≤ length bytes.now))) }
+        ensures err { OnErr result (self.new ≡ self.old) }
+    {
+        match record_at(bytes) {
+            None => Ok(None),
+            Some(head) => {
+                let (_, rest) = bytes.split_at(head.len);
+                self.take_said(out, head.says, head.len, rest)
+            }
+        }
+    }
+
+    fn take_said(
+        &mut self,
+        out: &mut Vec<u8>,
+        says: Record,
+        len: usize,
+        rest: &[u8],
+    ) -> Result<Option<usize>, AllocError>
+        requires some { IsSized says }
+        requires len { len + length rest.now < 2 ^ 64 }
+        ensures taken { IfOk result (λ n. HasTaken (take_said self.old len rest.now says) out.old.items out.new.items self.old self.new n) }
+        ensures len { IfOk result (λ n. IfSome n (λ k. (len ≤ k) × (k ≤ len + length rest.now))) }
+        ensures err { OnErr result (self.new ≡ self.old) }
+    {
+        match says {
+            Record::Access(access) => self.take_access(out, access, len),
+            Record::Other(kind, number) => self.take_other(out, kind, number, len, rest),
+        }
+    }
+
+    fn take_access(
+        &mut self,
+        out: &mut Vec<u8>,
+        access: Access,
+        len: usize,
+    ) -> Result<Option<usize>, AllocError>
+        requires some { 1 ≤ access.size }
+        requires size { access.size ≤ 16 }
+        ensures taken { IfOk result (λ n. HasTaken (take_access self.old len access) out.old.items out.new.items self.old self.new n) }
+        ensures len { IfOk result (λ n. IfSome n (λ k. k ≡ len)) }
+        ensures err { OnErr result (self.new ≡ self.old) }
+    {
+        if !self.is_access(access) {
+            return Ok(None);
+        }
+        self.put_access(out, access)?;
+        self.add_access(access);
+        Ok(Some(len))
+    }
+
+    fn take_other(
+        &mut self,
+        out: &mut Vec<u8>,
+        kind: Kind,
+        number: u64,
+        len: usize,
+        rest: &[u8],
+    ) -> Result<Option<usize>, AllocError>
+        requires { len + length rest.now < 2 ^ 64 }
+        ensures taken { IfOk result (λ n. HasTaken (take_said self.old len rest.now (Record.Other kind number)) out.old.items out.new.items self.old self.new n) }
+        ensures len { IfOk result (λ n. IfSome n (λ k. (len ≤ k) × (k ≤ len + length rest.now))) }
+        ensures err { OnErr result (self.new ≡ self.old) }
+    {
+        let body_len = kind.body_len(number);
+        if (rest.len() as u64) < body_len {
+            return Ok(None);
+        }
+        let (body, behind) = rest.split_at(body_len as usize);
+        if !self.may_come(kind, number, body, behind) {
+            return Ok(None);
+        }
+        self.put_record(out, kind, number, body)?;
+        self.add(kind, number, body)?;
+        Ok(Some(len + body_len as usize))
+    }
+}
+
+fn is_place(bytes: &[u8]) -> bool
+    ensures { result ≡ is_place bytes.now }
+{
+    bytes != b"-".as_slice() && is_site_name(bytes)
+}
+
+fn is_note(bytes: &[u8]) -> bool
+    ensures { result ≡ list_all is_note_byte bytes.now }
+{
+    bytes.iter().all(|byte| *byte >= b' ' && *byte <= b'~')
+}

@@ -1,0 +1,188 @@
+//! The text of records.
+ghost use Rattle.std.specs.Prelude.{◌≡◌, ◌≤◌, ◌<◌, ◌^◌, ◌-◌, ◌*◌, ◌++◌, OnOk, codes, decimal, length};
+ghost use Rattle.er_binary.specs.Records.{body_len};
+ghost use Rattle.er_binary.specs.Numbers.{address_word};
+ghost use Rattle.er_binary.specs.Texts.{access_lines, access_text, access_verb, feed, lost_line, lost_text, operand, site, text_of, thread_does, verb, word};
+
+use crate::names::{Put, number, put_address, put_number};
+use crate::records::Kind::*;
+use crate::records::{Access, Kind};
+use crate::state::State;
+
+impl State {
+    fn put_thread(&self, out: &mut Vec<u8>, verb: &[u8]) -> Put
+        ensures { OnOk result (out.new.items ≡ out.old.items ++ thread_does self.now verb.now) }
+    {
+        let name = self.threads.get(self.thread.unwrap_or(0));
+        out.extend_from_slice(name)?;
+        put_word(out, verb)
+    }
+
+    fn put_site(&self, out: &mut Vec<u8>, node: u64) -> Put
+        ensures { OnOk result (out.new.items ≡ out.old.items ++ site self.now node) }
+    {
+        if node == 0 {
+            return Ok(());
+        }
+        let place = self.shown.get(node - 1);
+        let name = self.places.get(place);
+        put_word(out, name)
+    }
+
+    /// Puts the text of an access that comes next.
+    pub(crate) fn put_access(&self, out: &mut Vec<u8>, access: Access) -> Put
+        requires some { 1 ≤ access.size }
+        requires size { access.size ≤ 16 }
+        ensures { OnOk result (out.new.items ≡ out.old.items ++ access_text self.now access) }
+    {
+        let node = access.node.unwrap_or(self.node);
+        let address = self.address_of(access);
+        let end = (address + access.size - 1) / 4 + 1;
+        self.put_lines(out, access.verb(), node, address / 4, end)
+    }
+
+    // Puts a line for each word from the first one to the end.
+    fn put_lines(&self, out: &mut Vec<u8>, verb: &[u8], node: u64, first: u64, end: u64) -> Put
+        requires { end < 2 ^ 48 }
+        ensures { OnOk result (out.new.items ≡ out.old.items ++ access_lines self.now verb.now node first (end - first)) }
+    {
+        for word in first..end {
+            self.put_line(out, verb, node, word)?;
+        }
+        Ok(())
+    }
+
+    fn put_line(&self, out: &mut Vec<u8>, verb: &[u8], node: u64, word: u64) -> Put
+        requires { word < 2 ^ 48 }
+        ensures { OnOk result (out.new.items ≡ out.old.items ++ (thread_does self.now verb.now ++ address_word (4 * word) ++ site self.now node ++ feed)) }
+    {
+        self.put_thread(out, verb)?;
+        put_address(out, 4 * word)?;
+        self.put_site(out, node)?;
+        out.extend_from_slice(b"\n")
+    }
+
+    /// Puts the text of another record that comes next.
+    #[rattlefmt::skip]
+    pub(crate) fn put_record(&self, out: &mut Vec<u8>, kind: Kind, number: u64, body: &[u8]) -> Put
+        requires { length body.now ≡ body_len kind number }
+        ensures { OnOk result (out.new.items ≡ out.old.items ++ text_of self.now kind number body.now) }
+    {
+        match kind {
+            Thread | Node | FailedTry | Flow | ThreadName | LockName | Place | NewNode | Fact | Lost => Ok(()),
+            Note => put_note(out, body),
+            End => self.put_end(out, number),
+            _ => {
+                self.put_thread(out, kind.verb())?;
+                self.put_operand(out, kind, number, body)?;
+                out.extend_from_slice(b"\n")
+            }
+        }
+    }
+
+    fn put_operand(&self, out: &mut Vec<u8>, kind: Kind, n: u64, body: &[u8]) -> Put
+        requires { length body.now ≡ body_len kind n }
+        ensures { OnOk result (out.new.items ≡ out.old.items ++ operand self.now kind n body.now) }
+    {
+        match kind {
+            Start | Join => put_word(out, self.threads.get(n)),
+            IgnoreOn | IgnoreOff => Ok(()),
+            Reuse => {
+                put_address(out, number(body))?;
+                put_number_word(out, n)?;
+                self.put_site(out, self.node)
+            }
+            Show => put_address(out, n),
+            Level => put_number_word(out, n),
+            _ => put_word(out, self.locks.get(n)),
+        }
+    }
+
+    fn put_end(&self, out: &mut Vec<u8>, events: u64) -> Put
+        ensures { OnOk result (out.new.items ≡ out.old.items ++ (lost_text self.now events ++ codes "end\n")) }
+    {
+        self.put_lost(out, events)?;
+        out.extend_from_slice(b"end\n")
+    }
+
+    fn put_lost(&self, out: &mut Vec<u8>, events: u64) -> Put
+        ensures { OnOk result (out.new.items ≡ out.old.items ++ lost_text self.now events) }
+    {
+        if self.lost == 0 {
+            return Ok(());
+        }
+        put_lost_line(out, events, self.lost)
+    }
+}
+
+impl Access {
+    fn verb(self) -> &'static [u8]
+        ensures { result.now ≡ access_verb self }
+    {
+        if self.writes {
+            b"write".as_slice()
+        } else {
+            b"read".as_slice()
+        }
+    }
+}
+
+impl Kind {
+    fn verb(self) -> &'static [u8]
+        ensures { result.now ≡ verb self }
+    {
+        match self {
+            Lock => b"lock".as_slice(),
+            Unlock => b"unlock".as_slice(),
+            ReadLock => b"rlock".as_slice(),
+            ReadUnlock => b"runlock".as_slice(),
+            Signal => b"signal".as_slice(),
+            Await => b"await".as_slice(),
+            Start => b"start".as_slice(),
+            Join => b"join".as_slice(),
+            IgnoreOn => b"ignore-on".as_slice(),
+            IgnoreOff => b"ignore-off".as_slice(),
+            Reuse => b"reuse".as_slice(),
+            Show => b"show".as_slice(),
+            Level => b"level".as_slice(),
+            _ => b"".as_slice(),
+        }
+    }
+}
+
+fn put_word(out: &mut Vec<u8>, bytes: &[u8]) -> Put
+    ensures { OnOk result (out.new.items ≡ out.old.items ++ word bytes.now) }
+{
+    out.push(b' ')?;
+    out.extend_from_slice(bytes)
+}
+
+fn put_number_word(out: &mut Vec<u8>, n: u64) -> Put
+    ensures { OnOk result (out.new.items ≡ out.old.items ++ word (decimal n)) }
+{
+    out.push(b' ')?;
+    put_number(out, n)
+}
+
+fn put_lost_line(out: &mut Vec<u8>, events: u64, lost: u64) -> Put
+    ensures { OnOk result (out.new.items ≡ out.old.items ++ lost_line events lost) }
+{
+    out.extend_from_slice(b"# incomplete: ")?;
+    put_before(out, events, b" events, ")?;
+    put_before(out, lost, b" lost\n")
+}
+
+fn put_before(out: &mut Vec<u8>, n: u64, after: &[u8]) -> Put
+    ensures { OnOk result (out.new.items ≡ out.old.items ++ (decimal n ++ after.now)) }
+{
+    put_number(out, n)?;
+    out.extend_from_slice(after)
+}
+
+fn put_note(out: &mut Vec<u8>, body: &[u8]) -> Put
+    ensures { OnOk result (out.new.items ≡ out.old.items ++ (codes "# " ++ body.now ++ feed)) }
+{
+    out.extend_from_slice(b"# ")?;
+    out.extend_from_slice(body)?;
+    out.extend_from_slice(b"\n")
+}

@@ -1,0 +1,13 @@
+-- The four parts, one behind another.
+use Rattle.std.proofs.Common.{codes}
+use Rattle.er_places.specs.Reasons.{reason_place}
+use Rattle.er_json.proofs.PutLemmas.{put_four}
+use Rattle.er_json.specs.Sarif.{holding_words, opening_text, reason_text, sentence_words}
+use Rattle.er_json.proofs.locations.put_reason.Goals as goal
+
+pub returns : goal.returns
+unfolding reason_text
+returns c =
+    put_four _ _ _ _ _ (opening_text c.args.legend.now.places.now.names (reason_place c.args.legend.now.places.now c.args.because.now)) (sentence_words c.args.legend.now.names.now c.args.because.now)
+    (holding_words c.args.legend.now.places.now.names (reason_place c.args.legend.now.places.now c.args.because.now)) (codes "\"}}") c.in_ok-put_opening.ensures c.in_ok-put_sentence.ensures
+    c.in_ok-put_holding.ensures c.in_ok-extend_from_slice.ensures.items

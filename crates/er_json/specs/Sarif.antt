@@ -1,0 +1,238 @@
+-- The SARIF of reports: a result for each site and kind of race, one for each reuse without a site, and one for each rule that takes races.
+use Rattle.std.specs.Prelude.{ℕ, zero, suc, ◌+◌, ◌==◌, cond, List, [], ◌∷◌, ◌++◌, flat_map, take, drop, length, max, count_by, slice_get, Option, Some, None, codes, decimal}
+use Rattle.er_event.specs.Lockset.{has}
+use Rattle.er_event.specs.declared.steps.Kind.TheVariants as kind
+use Rattle.er_json.specs.Document.{rows_text, sign_if}
+use Rattle.er_places.specs.Places.{PlaceTable}
+pub use Rattle.er_places.specs.Places.{HasPlaceNames}
+pub use Rattle.er_places.specs.Reasons.{reason_place}
+use Rattle.er_places.specs.declared.places.Place.{Place}
+use Rattle.er_print.specs.Printed.{address_text, bytes_between, kind_text, lost_text, name_at, site_text}
+use Rattle.er_print.specs.Styles.{escaped_text, label_in, lock_in, locks_in, string_text, thread_in}
+pub use Rattle.er_print.specs.Values.{values_text}
+use Rattle.er_print.specs.declared.styles.Style.TheVariants as style
+use Rattle.er_report.specs.Lines.{RaceView, line_view, race_of}
+pub use Rattle.er_report.specs.Names.{HasLockName, HasLockNames, HasNames, HasRaceNames, HasReasonNames}
+pub use Rattle.er_report.specs.Reports.{HaveNames}
+use Rattle.er_report.specs.declared.report.Because.{Because}
+use Rattle.er_report.specs.declared.report.Deed.{Deed}
+use Rattle.er_report.specs.declared.report.Deed.TheVariants as deed
+use Rattle.er_report.specs.declared.report.Line.{Line}
+use Rattle.er_report.specs.declared.report.Line.TheVariants.{Race, Reused, Refused, Shown}
+use Rattle.er_report.specs.declared.report.Report.{Report}
+use Rattle.er_report.specs.declared.reports.Reports.{Reports}
+use Rattle.er_rules.specs.Rules.{Target, AtSite, AtWords}
+use Rattle.er_json.specs.Places.{file_end}
+use Rattle.er_json.specs.Uris.{uri_text}
+use Rattle.er_print.specs.declared.lines.ReportKind.{ReportKind}
+use Rattle.er_print.specs.declared.lines.ReportKind.TheVariants.{Lockset, Unordered}
+use Rattle.er_sites.specs.Table.{reads_at, reuses_at, writes_at}
+use Rattle.er_sites.specs.Text.{access_text}
+use Rattle.er_trace.specs.Names.{NameTable}
+use Rattle.er_triage.specs.Texts.{target_text}
+
+-- what a thread did that is a race, as a verb and in words
+abbrev pub verb_of : Deed → List ℕ
+verb_of (deed.Access kind word) = kind_text kind
+verb_of (deed.Reuse range) = codes "reuse"
+
+abbrev pub deed_words : Deed → List ℕ
+deed_words (deed.Access kind word) = access_text kind ++ address_text word
+deed_words (deed.Reuse range) = codes " gave back " ++ decimal (bytes_between range.lo range.hi) ++ codes " bytes at " ++ address_text range.lo
+
+-- what the results of a run begin with: the front of a rule
+abbrev pub rule_front : ReportKind → List ℕ
+rule_front Lockset = codes "{\"ruleId\":\"race/"
+rule_front Unordered = codes "{\"ruleId\":\"unordered/"
+
+-- why its races are races
+abbrev pub cause_words : ReportKind → List ℕ
+cause_words Lockset = codes ", and no lock protects it"
+cause_words Unordered = codes ", and nothing orders this after an earlier access"
+
+-- a site that doesn't end with a line is a name
+unfoldable pub name_member : List ℕ → List ℕ
+name_member site = codes "{\"logicalLocations\":[{\"fullyQualifiedName\":" ++ string_text site ++ codes "}]"
+
+-- and of another the file ends at the colon
+unfoldable pub file_member : List ℕ → ℕ → List ℕ
+file_member site n =
+    codes "{\"physicalLocation\":{\"artifactLocation\":{\"uri\":" ++ uri_text (take n site) ++ codes "},\"region\":{\"startLine\":" ++ drop (n + 1) site ++ codes "}}"
+
+abbrev pub place_by : List ℕ → Option ℕ → List ℕ
+place_by site None = name_member site
+place_by site (Some n) = file_member site n
+
+-- a location with this site, which is left open
+unfoldable pub open_location : List ℕ → List ℕ
+open_location site = place_by site (file_end site)
+
+unfoldable pub location_member : List ℕ → List ℕ
+location_member site = codes ",\"locations\":[" ++ open_location site ++ codes "}]"
+
+-- who did what there, and what it has to do with the race
+unfoldable pub sentence_words : NameTable → Because → List ℕ
+sentence_words names because =
+    codes "\"message\":{\"text\":\"" ++ label_in style.InString names because.label ++ codes ": " ++ thread_in style.InString names because.thread ++ codes " "
+    ++ kind_text because.kind ++ codes " on line " ++ decimal because.line ++ codes " of the trace"
+
+-- a lock that is held only to read is marked
+abbrev pub mode_words : List ℕ → ℕ → List ℕ
+mode_words writes lock = cond (has writes lock) [] (codes " (to read)")
+
+-- a lock behind this sign
+unfoldable pub lock_words : NameTable → List ℕ → List ℕ → ℕ → List ℕ
+lock_words names writes sign lock = sign ++ lock_in style.InString names lock ++ mode_words writes lock
+
+-- the locks that a thread held, of which these to write
+abbrev pub locks_words : NameTable → List ℕ → List ℕ → List ℕ
+locks_words names writes [] = codes " no lock"
+locks_words names writes (lock ∷ locks) = lock_words names writes (codes " ") lock ++ flat_map (lock_words names writes (codes ", ")) locks
+
+-- if that is known
+unfoldable pub holding_words : NameTable → Option Place → List ℕ
+holding_words names None = []
+holding_words names (Some place) = codes ", holding" ++ locks_words names place.write_held place.held
+
+-- where an access stood: the missing site is left out
+unfoldable pub opening_of : NameTable → ℕ → List ℕ
+opening_of names zero = codes "{"
+opening_of names (suc n) = open_location (name_at names.sites n) ++ codes ","
+
+-- if that is known
+abbrev pub opening_text : NameTable → Option Place → List ℕ
+opening_text names None = codes "{"
+opening_text names (Some place) = opening_of names place.site
+
+-- one of a race's reasons
+unfoldable pub reason_text : NameTable → PlaceTable → Because → List ℕ
+reason_text names table because =
+    opening_text table.names (reason_place table because) ++ sentence_words names because ++ holding_words table.names (reason_place table because) ++ codes "\"}}"
+
+-- what is wrong, and how often; then comes where
+unfoldable pub front_text : ReportKind → NameTable → RaceView → ℕ → List ℕ
+front_text of names race count =
+    rule_front of ++ verb_of race.deed ++ codes "\",\"level\":\"error\",\"message\":{\"text\":\"" ++ thread_in style.InString names race.thread ++ deed_words race.deed
+    ++ (cause_words of ++ codes "\"},\"occurrenceCount\":" ++ decimal count ++ codes ",\"locations\":[")
+
+-- where it is: at its site, or a reuse without one at the address of its first byte
+abbrev pub race_site : NameTable → ℕ → Deed → List ℕ
+race_site names zero (deed.Reuse range) = address_text range.lo
+race_site names (suc n) (deed.Reuse range) = site_text names (suc n)
+race_site names site (deed.Access kind word) = site_text names site
+
+-- that, and a fingerprint that is the same in each run; then come the accesses that make the first race
+unfoldable pub place_text : List ℕ → Deed → List ℕ
+place_text site deed =
+    open_location site ++ (codes "}],\"partialFingerprints\":{\"siteAndKind/v1\":\"" ++ escaped_text site ++ codes " " ++ verb_of deed ++ codes "\"},\"relatedLocations\":[")
+
+-- how it came about, the line of the first race, and the locks that its thread held
+unfoldable pub back_text : NameTable → PlaceTable → RaceView → List ℕ
+back_text names table race =
+    values_text (reason_text names table) race.explained
+    ++ (codes "],\"properties\":{\"line\":" ++ decimal race.line ++ codes ",\"held\":" ++ locks_in style.Json names race.held ++ codes "}}")
+
+-- a result: so many races here, and the first of them
+unfoldable pub result_text : ReportKind → NameTable → PlaceTable → RaceView → ℕ → List ℕ
+result_text of names table race count = front_text of names race count ++ place_text (race_site names race.site race.deed) race.deed ++ back_text names table race
+
+-- how many of the lines are races of the line's site and kind; a reuse without a site is like none
+abbrev pub races_like : List Line → Line → ℕ
+races_like lines (Race number thread kind.Read word site held explained) = count_by (reads_at site) lines
+races_like lines (Race number thread kind.Write word site held explained) = count_by (writes_at site) lines
+races_like lines (Reused number thread range zero held explained) = 0
+races_like lines (Reused number thread range (suc site) held explained) = count_by (reuses_at (suc site)) lines
+races_like lines (Refused number step refusal) = 0
+races_like lines (Shown number word state) = 0
+
+-- a race has a result if none like it came before, and there are so many like it in all; one that is like none counts as one
+abbrev pub results_if : ReportKind → NameTable → PlaceTable → ℕ → ℕ → Option RaceView → List (List ℕ)
+results_if of names table before count None = []
+results_if of names table before count (Some race) = cond (before == 0) (result_text of names table race (max count 1) ∷ []) []
+
+abbrev pub results_of : ReportKind → NameTable → PlaceTable → ℕ → ℕ → Line → List (List ℕ)
+results_of of names table before count line = results_if of names table before count (race_of (line_view line))
+
+abbrev pub results_at : ReportKind → NameTable → PlaceTable → List Line → ℕ → Option Line → List (List ℕ)
+results_at of names table lines n None = []
+results_at of names table lines n (Some line) = results_of of names table (races_like (take n lines) line) (races_like lines line) line
+
+-- the results of the first n lines
+unfoldable pub results_below : ReportKind → NameTable → PlaceTable → List Line → ℕ → List (List ℕ)
+results_below of names table lines zero = []
+results_below of names table lines (suc n) = results_below of names table lines n ++ results_at of names table lines n (slice_get lines n)
+
+-- the rule of this text, which takes races, and how many
+unfoldable pub taken_text : ReportKind → List ℕ → ℕ → List ℕ
+taken_text of rule count =
+    rule_front of ++ codes "suppressed\",\"level\":\"error\",\"message\":{\"text\":\"Races that a rule takes: " ++ escaped_text rule
+    ++ codes "\"},\"occurrenceCount\":" ++ decimal count
+
+-- where they are, if the rule is for a site that has a name
+abbrev pub target_location : Target → List ℕ
+target_location (AtSite (Some name)) = location_member name
+target_location (AtSite None) = []
+target_location (AtWords words) = []
+
+-- that they count as suppressed, by the rule of this text and number; the fingerprint is the same in each run
+unfoldable pub suppression_text : List ℕ → ℕ → List ℕ
+suppression_text rule number =
+    codes ",\"partialFingerprints\":{\"rule/v1\":\"" ++ escaped_text rule ++ codes "\"},\"suppressions\":[{\"kind\":\"external\",\"justification\":\"rule " ++ decimal number ++ codes "\"}]}"
+
+-- the result of a rule that takes races
+unfoldable pub suppressed_text : ReportKind → ℕ → ℕ → Target → List ℕ
+suppressed_text of number count target = taken_text of (target_text target) count ++ target_location target ++ suppression_text (target_text target) number
+
+-- a rule has a result if it takes a race
+abbrev pub suppressed_of : ReportKind → ℕ → Option ℕ → Target → List (List ℕ)
+suppressed_of of number None target = []
+suppressed_of of number (Some count) target = cond (count == 0) [] (suppressed_text of number count target ∷ [])
+
+abbrev pub suppressed_at : ReportKind → List ℕ → ℕ → Option Target → List (List ℕ)
+suppressed_at of counts k None = []
+suppressed_at of counts k (Some target) = suppressed_of of (k + 1) (slice_get counts k) target
+
+-- the results of the first n rules, by how many races each rule takes; rules are numbered from 1
+unfoldable pub suppressed_below : ReportKind → List ℕ → List Target → ℕ → List (List ℕ)
+suppressed_below of counts targets zero = []
+suppressed_below of counts targets (suc n) = suppressed_below of counts targets n ++ suppressed_at of counts n (slice_get targets n)
+
+-- the results of the lines, and behind them those of the rules
+abbrev pub all_results : ReportKind → NameTable → PlaceTable → List Line → List ℕ → List Target → List (List ℕ)
+all_results of names table lines counts targets = results_below of names table lines (length lines) ++ suppressed_below of counts targets (length targets)
+
+-- the rules by which results go; the run by happens-before has a name, by which code hosts keep it apart
+abbrev pub rules_text : ReportKind → List ℕ
+rules_text Lockset = codes "{\"id\":\"race/read\",\"shortDescription\":{\"text\":\"A read that no lock protects\"}},{\"id\":\"race/write\",\"shortDescription\":{\"text\":\"A write that no lock protects\"}},{\"id\":\"race/suppressed\",\"shortDescription\":{\"text\":\"Races that a rule of suppressions takes\"}}]}}"
+rules_text Unordered = codes "{\"id\":\"unordered/read\",\"shortDescription\":{\"text\":\"A read that nothing orders after an earlier write\"}},{\"id\":\"unordered/write\",\"shortDescription\":{\"text\":\"A write that nothing orders after an earlier access\"}},{\"id\":\"unordered/reuse\",\"shortDescription\":{\"text\":\"A reuse of memory that nothing orders after an earlier access\"}},{\"id\":\"unordered/suppressed\",\"shortDescription\":{\"text\":\"Races that a rule of suppressions takes\"}}]}},\n\"automationDetails\":{\"id\":\"happens-before/\"}"
+
+-- what stands before the results
+unfoldable pub start_text : ReportKind → List ℕ
+start_text of = codes "{\n\"tool\":{\"driver\":{\"name\":\"eraser\",\"rules\":[" ++ rules_text of ++ codes ",\n\"results\":["
+
+-- what is said of the run, between these, if events were lost
+abbrev pub before_lost : List ℕ
+before_lost = codes ",\n\"invocations\":[{\"executionSuccessful\":true,\"toolExecutionNotifications\":[{\"level\":\"warning\",\"message\":{\"text\":\""
+
+abbrev pub after_lost : List ℕ
+after_lost = codes " events were lost: the report is of a part of the run\"}}]}]"
+
+-- what stands after the results
+unfoldable pub end_text : Option ℕ → List ℕ
+end_text lost = codes "]" ++ lost_text before_lost after_lost lost ++ codes "}"
+
+-- the run of a report; each reason says where its access was, as far as this table knows
+unfoldable pub run_text : ReportKind → NameTable → PlaceTable → List Target → Report → List ℕ
+run_text of names table targets r =
+    start_text of ++ rows_text (all_results of names table r.lines.items r.rule_counts.items targets) ++ end_text r.lost
+
+-- if there is such a report
+abbrev pub run_if : ReportKind → NameTable → PlaceTable → List Target → Option Report → List ℕ
+run_if of names table targets None = []
+run_if of names table targets (Some r) = run_text of names table targets r
+
+-- the whole log
+unfoldable pub sarif_reports : NameTable → PlaceTable → List Target → Reports → List ℕ
+sarif_reports names table targets reports =
+    codes "{\"$schema\":\"https://json.schemastore.org/sarif-2.1.0.json\",\n\"version\":\"2.1.0\",\n\"runs\":[" ++ run_if Lockset names table targets reports.lockset
+    ++ sign_if reports (codes ",") ++ run_if Unordered names table targets reports.unordered ++ codes "]}\n"

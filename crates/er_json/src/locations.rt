@@ -1,0 +1,267 @@
+//! Where in the program accesses stand, what their threads held, and the reasons of a result.
+ghost use Rattle.std.specs.Prelude.{◌≡◌, ◌++◌, ◌<◌, ◌≤◌, codes, flat_map, length, All, IfSome, OnOk};
+ghost use Rattle.std.specs.List.{list_all};
+ghost use Rattle.er_json.specs.Places.{colon_below, file_end, is_digit, is_line};
+ghost use Rattle.er_json.specs.Sarif.{HasLockName, HasLockNames, HasPlaceNames, HasReasonNames, file_member, holding_words, location_member, lock_words, locks_words, mode_words, name_member, open_location, opening_of, opening_text, reason_place, reason_text, sentence_words, values_text};
+ghost use Rattle.er_json.specs.Uris.{digit_byte, is_path_byte, uri_byte, uri_text};
+
+use er_event::{LockId, Lockset, Site};
+use er_places::{Legend, Places};
+use er_print::Piece::{Label, Lock, Number, Text, Thread, Verb};
+use er_print::{Put, Style, comma_before, put, put_string};
+use er_report::Because;
+use er_trace::Names;
+
+/// Puts where in the program races stand.
+#[tactic(auto, unfolding(crate::specs::Sarif::location_member))]
+pub(crate) fn put_location(out: &mut Vec<u8>, site: &[u8]) -> Put
+    ensures { OnOk result (out.new.items ≡ out.old.items ++ location_member site.now) }
+{
+    out.extend_from_slice(b",\"locations\":[")?;
+    open_location(out, site)?;
+    out.extend_from_slice(b"}]")?;
+    Ok(())
+}
+
+/// Opens a location with its site.
+#[tactic(auto, unfolding(crate::specs::Sarif::open_location))]
+pub(crate) fn open_location(out: &mut Vec<u8>, site: &[u8]) -> Put
+    ensures { OnOk result (out.new.items ≡ out.old.items ++ open_location site.now) }
+{
+    match file_end(site) {
+        Some(place) => put_file(out, site, place),
+        None => put_name(out, site),
+    }
+}
+
+#[tactic(auto, unfolding(crate::specs::Sarif::name_member))]
+fn put_name(out: &mut Vec<u8>, site: &[u8]) -> Put
+    ensures { OnOk result (out.new.items ≡ out.old.items ++ name_member site.now) }
+{
+    out.extend_from_slice(b"{\"logicalLocations\":[{\"fullyQualifiedName\":")?;
+    put_string(out, site)?;
+    out.extend_from_slice(b"}]")?;
+    Ok(())
+}
+
+#[tactic(auto, unfolding(crate::specs::Sarif::file_member))]
+fn put_file(out: &mut Vec<u8>, site: &[u8], place: usize) -> Put
+    requires { place < length site.now }
+    ensures { OnOk result (out.new.items ≡ out.old.items ++ file_member site.now place) }
+{
+    out.extend_from_slice(b"{\"physicalLocation\":{\"artifactLocation\":{\"uri\":")?;
+    put_uri(out, &site[..place])?;
+    out.extend_from_slice(b"},\"region\":{\"startLine\":")?;
+    out.extend_from_slice(&site[place + 1..])?;
+    out.extend_from_slice(b"}}")?;
+    Ok(())
+}
+
+/// Puts the accesses that make the first race.
+pub(crate) fn put_reasons(out: &mut Vec<u8>, legend: &Legend, explained: &[Because]) -> Put
+    requires { All (HasReasonNames legend.now.names.now) explained.now }
+    ensures { OnOk result (out.new.items ≡ out.old.items ++ values_text (reason_text legend.now.names.now legend.now.places.now) explained.now) }
+{
+    for (place, because) in explained.iter().enumerate() {
+        out.extend_from_slice(comma_before(place))?;
+        put_reason(out, legend, because)?;
+    }
+    Ok(())
+}
+
+#[tactic(auto, unfolding(crate::specs::Sarif::reason_text))]
+fn put_reason(out: &mut Vec<u8>, legend: &Legend, because: &Because) -> Put
+    requires { HasReasonNames legend.now.names.now because.now }
+    ensures { OnOk result (out.new.items ≡ out.old.items ++ reason_text legend.now.names.now legend.now.places.now because.now) }
+{
+    put_opening(out, legend.places, because)?;
+    put_sentence(out, legend.names, because)?;
+    put_holding(out, legend.places, because)?;
+    out.extend_from_slice(b"\"}}")?;
+    Ok(())
+}
+
+// Puts who did what, and what it has to do with the race.
+#[tactic(auto, unfolding(crate::specs::Sarif::sentence_words))]
+fn put_sentence(out: &mut Vec<u8>, names: &Names, because: &Because) -> Put
+    requires { HasReasonNames names.now because.now }
+    ensures { OnOk result (out.new.items ≡ out.old.items ++ sentence_words names.now because.now) }
+{
+    put!(out, Style::InString, names;
+        Label(b"\"message\":{\"text\":\"", because.label), Thread(b": ", because.thread),
+        Verb(b" ", because.kind), Number(b" on line ", because.line), Text(b" of the trace")
+    )
+}
+
+// Opens the location of a reason, with its site if that is known.
+fn put_opening(out: &mut Vec<u8>, places: &Places, because: &Because) -> Put
+    ensures { OnOk result (out.new.items ≡ out.old.items ++ opening_text places.now.names (reason_place places.now because.now)) }
+{
+    match places.of_reason(because) {
+        Some(place) => put_site(out, places.names(), place.site),
+        None => out.extend_from_slice(b"{"),
+    }
+}
+
+#[tactic(auto, unfolding(crate::specs::Sarif::opening_of))]
+fn put_site(out: &mut Vec<u8>, names: &Names, site: Site) -> Put
+    requires { site ≤ length names.now.sites }
+    ensures { OnOk result (out.new.items ≡ out.old.items ++ opening_of names.now site) }
+{
+    if site.number() == 0 {
+        return out.extend_from_slice(b"{");
+    }
+    open_location(out, names.site_name(site).as_bytes())?;
+    out.extend_from_slice(b",")
+}
+
+// Puts what the thread of a reason held, if that is known.
+#[tactic(auto, unfolding(crate::specs::Sarif::holding_words))]
+fn put_holding(out: &mut Vec<u8>, places: &Places, because: &Because) -> Put
+    ensures { OnOk result (out.new.items ≡ out.old.items ++ holding_words places.now.names (reason_place places.now because.now)) }
+{
+    match places.of_reason(because) {
+        Some(place) => {
+            out.extend_from_slice(b", holding")?;
+            let held = place.held.as_slice();
+            put_locks(out, places.names(), &place.write_held, held)
+        }
+        None => Ok(()),
+    }
+}
+
+fn put_locks(out: &mut Vec<u8>, names: &Names, writes: &Lockset, locks: &[LockId]) -> Put
+    requires { HasLockNames names.now locks.now }
+    ensures { OnOk result (out.new.items ≡ out.old.items ++ locks_words names.now writes.now locks.now) }
+{
+    match locks {
+        [] => out.extend_from_slice(b" no lock"),
+        [first, rest @ ..] => {
+            put_lock(out, names, writes, b" ", *first)?;
+            put_more_locks(out, names, writes, rest)
+        }
+    }
+}
+
+// Puts each lock behind a comma.
+fn put_more_locks(out: &mut Vec<u8>, names: &Names, writes: &Lockset, locks: &[LockId]) -> Put
+    requires { HasLockNames names.now locks.now }
+    ensures { OnOk result (out.new.items ≡ out.old.items ++ flat_map (lock_words names.now writes.now (codes ", ")) locks.now) }
+{
+    for lock in locks {
+        put_lock(out, names, writes, b", ", *lock)?;
+    }
+    Ok(())
+}
+
+#[tactic(auto, unfolding(crate::specs::Sarif::lock_words))]
+fn put_lock(out: &mut Vec<u8>, names: &Names, writes: &Lockset, sign: &[u8], lock: LockId) -> Put
+    requires { HasLockName names.now lock }
+    ensures { OnOk result (out.new.items ≡ out.old.items ++ lock_words names.now writes.now sign.now lock) }
+{
+    let mode = mode_words(writes, lock);
+    put!(out, Style::InString, names; Text(sign), Lock(b"", lock), Text(mode))
+}
+
+fn mode_words(writes: &Lockset, lock: LockId) -> &'static [u8]
+    ensures { result.now ≡ mode_words writes.now lock }
+{
+    if writes.contains(lock) {
+        b"".as_slice()
+    } else {
+        b" (to read)".as_slice()
+    }
+}
+
+// The place of the colon between a file and a line, if the name ends with both.
+fn file_end(name: &[u8]) -> Option<usize>
+    ensures { result ≡ file_end name.now }
+{
+    match last_colon(name) {
+        Some(place) if place > 0 && is_line(&name[place + 1..]) => Some(place),
+        _ => None,
+    }
+}
+
+#[tactic(auto, unfolding(crate::specs::Places::colon_below))]
+fn last_colon(name: &[u8]) -> Option<usize>
+    ensures within { IfSome result (λ place. place < length name.now) }
+    ensures place { result ≡ colon_below name.now (length name.now) }
+{
+    let mut found = None;
+    for place in 0..name.len() {
+        if name[place] == b':' {
+            found = Some(place);
+        }
+    }
+    found
+}
+
+fn is_line(text: &[u8]) -> bool
+    ensures { result ≡ is_line text.now }
+{
+    match text {
+        [] => false,
+        [first, rest @ ..] => {
+            b'1' <= *first && *first <= b'9' && rest.len() < 9 && are_digits(rest)
+        }
+    }
+}
+
+fn are_digits(text: &[u8]) -> bool
+    ensures { result ≡ list_all is_digit text.now }
+{
+    text.iter().all(|byte| is_digit(*byte))
+}
+
+fn is_digit(byte: u8) -> bool
+    ensures { result ≡ is_digit byte }
+{
+    b'0' <= byte && byte <= b'9'
+}
+
+#[tactic(auto, unfolding(crate::specs::Uris::uri_text))]
+fn put_uri(out: &mut Vec<u8>, file: &[u8]) -> Put
+    ensures { OnOk result (out.new.items ≡ out.old.items ++ uri_text file.now) }
+{
+    out.extend_from_slice(b"\"")?;
+    put_path(out, file)?;
+    out.extend_from_slice(b"\"")
+}
+
+fn put_path(out: &mut Vec<u8>, file: &[u8]) -> Put
+    ensures { OnOk result (out.new.items ≡ out.old.items ++ flat_map uri_byte file.now) }
+{
+    for byte in file {
+        put_byte(out, *byte)?;
+    }
+    Ok(())
+}
+
+fn put_byte(out: &mut Vec<u8>, byte: u8) -> Put
+    ensures { OnOk result (out.new.items ≡ out.old.items ++ uri_byte byte) }
+{
+    if is_path_byte(byte) {
+        out.push(byte)?;
+        return Ok(());
+    }
+    out.extend_from_slice(&[b'%', digit_byte(byte / 16), digit_byte(byte % 16)])
+}
+
+// Whether the byte stands for itself in the path of a URI that has no scheme.
+fn is_path_byte(byte: u8) -> bool
+    ensures { result ≡ is_path_byte byte }
+{
+    byte.is_ascii_alphanumeric() || b"/-._~!$&'()*+,;=@".contains(&byte)
+}
+
+fn digit_byte(digit: u8) -> u8
+    requires { digit < 16 }
+    ensures { result ≡ digit_byte digit }
+{
+    if digit < 10 {
+        b'0' + digit
+    } else {
+        b'A' - 10 + digit
+    }
+}

@@ -1,3 +1,0 @@
-pub mod PutLemmas
-pub mod ResultLemmas
-pub mod SuppressedLemmas

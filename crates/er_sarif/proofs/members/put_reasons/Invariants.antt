@@ -1,7 +1,0 @@
-use Rattle.std.proofs.Common.{◌≡◌, ◌++◌, take}
-use Rattle.er_print.specs.Values.{values_text}
-use Rattle.er_sarif.specs.Document.{reason_text}
-use Rattle.er_sarif.proofs.members.put_reasons.Given as goal
-
-abbrev pub invariant-loop-place : goal.invariant-loop-place
-invariant-loop-place l = l.out.items ≡ l.fn.out.items ++ values_text (reason_text l.names l.places) (take l.place l.explained)

@@ -1,8 +1,0 @@
--- The two parts, one behind another.
-use Rattle.er_sarif.proofs.PutLemmas.{put_two}
-use Rattle.er_sarif.specs.Document.{back_text}
-use Rattle.er_sarif.proofs.results.put_back.Goals as goal
-
-pub returns : goal.returns
-unfolding back_text
-returns c = rw (← c.race.view_is) (put_two _ _ _ _ _ c.in_ok-put_reasons.ensures c.in_ok-put_all.ensures.joined)

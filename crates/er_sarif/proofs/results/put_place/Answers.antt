@@ -1,8 +1,0 @@
--- The two parts, one behind another.
-use Rattle.er_sarif.proofs.PutLemmas.{put_two}
-use Rattle.er_sarif.specs.Document.{place_text}
-use Rattle.er_sarif.proofs.results.put_place.Goals as goal
-
-pub returns : goal.returns
-unfolding place_text
-returns c = rw (← c.verb_of.ensures) (put_two _ _ _ _ _ c.in_ok-open_location.ensures c.in_ok-put_all.ensures.joined)

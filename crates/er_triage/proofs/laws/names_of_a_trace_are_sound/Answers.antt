@@ -1,5 +1,0 @@
-use Rattle.er_triage.proofs.TraceNameLemmas.{trace_names}
-use Rattle.er_triage.proofs.laws.names_of_a_trace_are_sound.Goals as goal
-
-pub returns : goal.returns
-returns c = trace_names
