@@ -6,6 +6,7 @@
 - each kind is answered as the references answer it: by locks and by happens-before, with reasons, by several workers, and also if the system gives no
   random bytes to hash by
 - clocks that really differ take no more memory than other texts: the replay ends with a fault
+- threads that meet at barriers over and over, and signal equally often, compare no counts but those of their own block
 - no text takes more than 400 bytes of memory for each of its own, beside 32 MiB, and by happens-before alone no more than 200. The dearest line takes a
   page: 4,096 bytes by locks, and 2,048 by happens-before
 - two of many readers of a word that read it in turn, two million times, take no more than 16 MiB
@@ -64,6 +65,7 @@ COSTS = {
     "started": (16_000, [[], HAPPENS_BEFORE]),
     "two-signals": (4000, [[], HAPPENS_BEFORE]),
     "some-signals": (4000, [[], HAPPENS_BEFORE]),
+    "barriers": (2000, [[], HAPPENS_BEFORE]),
     "freed": (2000, [[], HAPPENS_BEFORE]),
 }
 # The clocks of these have each other counts than all others: the longer text ends with a fault.

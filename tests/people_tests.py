@@ -97,6 +97,8 @@ TRACES = {
     "two traces": (b"eraser trace 3\nend\neraser trace 3\n", "line 3: after end", ("eraser trace 3", 0),
                    "nothing but comments follows the line end; are these two traces?"),
     "a high level": (b"eraser trace 2\nt1 level 32\n", "line 2: level too high", ("t1 level 32", 9), "levels are 0 to 31"),
+    "a binary trace that is cut off": (b"\xe5eraser\x04", "line 2: bad verb", ("cut off at byte 8", 0),
+                                       "the option --until-fault reports what the binary trace has before this byte"),
     "a long line": (HEADER + b"a" * 1100 + b"\n", "line 2: line too long", ("a" * 100 + "..", 0), "a line has at most 1024 bytes; is this a text?"),
     "a very long line": (HEADER + b"\0" * 300000, "line 2: line too long", (r"\x00" * 25 + "..", 0), "a line has at most 1024 bytes; is this a text?"),
     "a place far to the right": (HEADER + b"t1 write 0x1000 " + b"a" * 100 + b"+\n", "line 2: bad name", (".." + "a" * 20 + "+", 22), SITES),

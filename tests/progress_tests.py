@@ -104,11 +104,14 @@ def numbers(record, folder):
     record("progress: the lines before a fault", rest == b"line 6: missing operand\n" and len(lines) >= 1 and lines[-1][:2] == (len(text), 4), f"{lines} {rest}")
     lines, rest = parted(run(["replay", "--progress", "-"], HEAD + BATCH + b"fault\n")[1])
     record("progress: the batches before a fault", rest == b"line 1026: missing operand\n" and len(lines) == 1 and lines[-1][1] <= 1024, f"{lines} {rest}")
-    # The lines before a fault are a part of the file. What is no ordinary file has no share.
+    # The lines before a fault are a part of the file. What is no ordinary file has no share, and neither has a binary trace, whose text is longer.
     whole, path = HEAD + RACE + MORE + b"fault\n" + RACE * 9, folder / "n.trace"
     path.write_bytes(whole)
     lines, _ = parted(run(["replay", "--progress", "--until-fault", str(path)])[1])
     record("progress: the share of the lines before a fault", len(lines) >= 1 and lines[-1][4] == 100 * len(text) // len(whole) < 100, f"{lines}")
+    path.write_bytes(b"\xe5eraser\x04")
+    lines, rest = parted(run(["replay", "--progress", "--until-fault", str(path)])[1])
+    record("progress: a binary trace has no share", len(lines) >= 1 and lines[-1][4] is None and rest == b"line 2: bad verb\n", f"{lines} {rest}")
     os.mkfifo(folder / "n.fifo")
     feeder = threading.Thread(target=lambda: (folder / "n.fifo").write_bytes(text))
     feeder.start()

@@ -25,7 +25,7 @@ import order_reference
 import record_tests
 import reference
 from alone import run_alone
-from record_tests import LEVELS, RUN, SOURCES, WORKERS, Findings, build, command, marked
+from record_tests import LEVELS, RUN, SOURCES, WORKERS, Findings, build, command, marked, text_in
 
 RUNS = max(1, record_tests.RUNS // 4)
 ORDER_VERBS = ("start", "join", "signal", "await")
@@ -234,9 +234,10 @@ def program_fault(source, text):
 
 
 def record_trace(folder, nth, program, *options):
-    trace = folder / f"{program.name}.{nth}.trace"
-    done = command([RUN, "-q", "-o", trace, *options, program])
-    text = trace.read_text()
+    """What the recorder says, and the text of the trace. Each second one is recorded in the binary form."""
+    trace, form = folder / f"{program.name}.{nth}.trace", "4" if nth in range(1, RUNS, 2) else "3"
+    done = command([RUN, "-q", "-o", trace, "--trace", form, *options, program])
+    text = text_in(trace, form)
     trace.unlink()
     return done, text
 

@@ -23,6 +23,7 @@ import tempfile
 import threading
 import time
 
+import trace4
 from alone import program
 
 TOP = pathlib.Path(__file__).resolve().parent.parent
@@ -143,12 +144,12 @@ def build_all(folder, findings):
 
 
 class Recording:
-    """One run of a program under record/run, with its trace and its report."""
+    """One run of a program under record/run, with its trace, in one of the two forms, and its report."""
 
-    def __init__(self, folder, nth, program, *words):
+    def __init__(self, folder, nth, program, *words, form="3"):
         trace, report = folder / f"{program.name}.{nth}.trace", folder / f"{program.name}.{nth}.report"
-        self.done = command([RUN, "-o", trace, "--replay", "--report", report, program, *words])
-        self.trace, self.report = trace.read_text(), report.read_text()
+        self.done = command([RUN, "-o", trace, "--trace", form, "--replay", "--report", report, program, *words])
+        self.trace, self.report = text_in(trace, form), report.read_text()
         trace.unlink()
         report.unlink()
 
@@ -165,12 +166,18 @@ class Recording:
         return lock_fault(self.trace)
 
 
+def text_in(trace, form):
+    """The text of a trace that was recorded in this form."""
+    data = trace.read_bytes()
+    return trace4.text_of(data).decode() if trace4.is_binary(data) == (form == "4") else f"not a trace {form}"
+
+
 def run_often(folder, findings, program, source, words=(), status=0, printed=None, runs=RUNS, extra=None):
     expected = marked(source, "RACE")
     for nth in range(runs):
         name = f"{program.name} {' '.join(words)}run {nth}" if not words else f"{program.name} {words[-1]} run {nth}"
         try:
-            recording = Recording(folder, f"{'-'.join(pathlib.Path(word).name for word in words)}{nth}", program, *words)
+            recording = Recording(folder, f"{'-'.join(pathlib.Path(word).name for word in words)}{nth}", program, *words, form="34"[nth % 2])
             fault = recording.fault(status, printed, expected, may_lose=source.stem == "jumps") or (extra and extra(recording.trace))
         except subprocess.TimeoutExpired:
             fault = "hung"
@@ -985,6 +992,61 @@ def early_ends(folder, findings, busy):
     findings.check("a recorder that is killed", is_begun and wait_for(went_on))
 
 
+def same_text(text):
+    """A text of which two runs of a program of one thread have the same: an address is told by how many others came before it."""
+    places = {}
+    lines = [line for line in text.splitlines() if not line.startswith("# complete: ")]
+    return re.sub(r" 0x([0-9a-f]+)", lambda found: f" {places.setdefault(int(found[1], 16), len(places))}", "\n".join(lines))
+
+
+def binary_traces(folder, findings, made):
+    """--trace 4 writes what --trace 3 writes, in its form, to a file and to the replay."""
+    trace, report = folder / "binary.trace", folder / "binary.report"
+    for source in ("lives.c", "sizes.c", "gives.cpp"):
+        texts = []
+        for form in ("3", "4"):
+            done = command([RUN, "-o", trace, "--trace", form, "--order", made[SOURCES / source, "gcc", "-O0"]])
+            texts.append(text_in(trace, form))
+            count = re.search(r"^record: (\d+) events recorded, 0 lost$", done.stderr, re.M)
+            events = len(trace4.Trace(trace.read_bytes()).events) if form == "4" else len([line for line in texts[0].splitlines() if line[0] != "#"]) - 2
+            findings.check(f"how many events of {source} trace {form} has", count and int(count[1]) == events > 10, f"{done} {events}")
+        findings.check(f"the two forms of a trace of {source}", same_text(texts[0]) == same_text(texts[1]), f"{texts}")
+    done = command([RUN, "-o", trace, "--trace", "4", made[SOURCES / "queue.cpp", "gcc", "-O0"]])
+    found = trace4.Trace(trace.read_bytes())
+    flagged = {found.places[node.place] for node in found.nodes[1:] if node.flags & trace4.IN_HEADER}
+    in_headers = {place for place in found.places if place.startswith((b"/usr/include/", b"/usr/lib/"))}
+    findings.check("nodes in headers of the system", flagged == in_headers and 0 < len(flagged) < len(found.places), f"{done} {flagged ^ in_headers}")
+    released = [next(found.stack(event.node), None) for event in found.events if event.kind == trace4.UNLOCK]
+    findings.check("places of releases", released and None not in released, f"{released}")
+    counter, busy = made[SOURCES / "counter.c", "gcc", "-O2"], made[SOURCES / "busy.c", "gcc", "-O2"]
+    for words in ([], ["--explain"], ["--analysis", "both", "--by-site"], ["--strict"], ["-o", trace, "--replay", "--by-site", "--explain"], ["--runs", "2", "-o", f"{folder}/binary.runs/", "--replay"]):
+        done = command([RUN, "--trace", "4", "--report", "-", *words, counter], cwd=folder)
+        site, = marked(SOURCES / "counter.c", "RACE")
+        findings.check(f"a report of a trace 4 {words}", done.returncode == 3 and site in done.stdout and ", 0 lost" in done.stderr or "--runs" in words and site in done.stdout, f"{done}")
+    done = command([RUN, "-o", trace, "--trace", "4", "--limit", "20000", busy, "300000"])
+    data = trace.read_bytes()
+    found = trace4.Trace(data)
+    is_cut = 15000 < len(data) <= 20000 and not found.damage and re.search(rb"\n# incomplete: \d+ events, [1-9]\d* lost\nend\n\Z", found.text())
+    findings.check("a limit of a trace 4", is_cut and done.returncode == 0 and done.stderr.count("limit of 20000 bytes") == 2, f"{done} {len(data)} {found.lines[-3:]}")
+    done = command([RUN, "-o", trace, "--trace", "4", busy, "30000"])
+    found = trace4.Trace(trace.read_bytes())
+    most = max(found.kinds.values())
+    findings.check("blocks of a trace 4", not found.damage and 1 < found.blocks < len(found.data) / 5000 and 5 * len(found.data) < len(found.text()) and most == found.kinds["access"], f"{done} {found.blocks} {len(found.data)} {found.kinds}")
+    begun, went_on = folder / "binary.begun", folder / "binary.on"
+    recorder = subprocess.Popen([RUN, "-o", trace, "--trace", "4", "--limit", "0", busy, "3000000", begun, went_on], stdout=subprocess.DEVNULL, stderr=subprocess.DEVNULL)
+    is_begun = wait_for(begun)
+    recorder.kill()
+    recorder.wait()
+    has_gone_on = wait_for(went_on)
+    data = trace.read_bytes()[:1_000_000]
+    findings.check("a trace 4 whose recorder is killed", is_begun and has_gone_on and trace4.Trace(data).damage == b"cut off at byte %d" % len(data), f"{trace4.Trace(data).lines[-2:]}")
+    done = command([RUN, "-o", "/dev/full", "--trace", "4", counter])
+    findings.check("a trace 4 on a full disk", done.returncode == 125 and "cannot write /dev/full" in done.stderr, f"{done}")
+    for form in ("2", "5", "44", ""):
+        done = command([RUN, "--trace", form, counter])
+        findings.check(f"--trace {form!r}", (done.stdout, done.returncode, done.stderr) == ("", 125, f"record: --trace is '3' or '4', not '{form}'\n"), f"{done}")
+
+
 def memory(folder, findings, busy):
     """With the trace in a pipe, more than four times the events take no more memory, and the limit of a trace that is kept is none here."""
     used, sizes = [], []
@@ -1182,6 +1244,7 @@ def tests(record):
         outlived(folder, findings, made[SOURCES / "recursive.cpp", "gcc", "-O0"], busy)
         hints(folder, findings, counter)
         early_ends(folder, findings, busy)
+        binary_traces(folder, findings, made)
         memory(folder, findings, busy)
         interrupts(folder, findings, busy)
         several_runs(folder, findings, made)

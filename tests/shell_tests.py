@@ -88,7 +88,7 @@ def bash_tests(record, commands, options, values):
     record("bash: options", found == words_of(options[""]), f"{found}")
     found = bash_completes("help", "")
     record("bash: commands behind help", found == set(commands), f"{found}")
-    for name in ("replay", "explain", "demo"):
+    for name in ("replay", "explain", "print", "demo"):
         # A dash alone is standard input, so the options of a replay come behind two.
         found = bash_completes(name, "-") | bash_completes(name, "--") | bash_completes(name, "-h")
         record(f"bash: options of {name}", found - {"-"} == words_of(options[name]), f"{found}")
@@ -107,7 +107,7 @@ def bash_tests(record, commands, options, values):
                 most = int(re.search(r" to (\d+)", options[name][other][2])[1])
                 record(f"bash: numbers behind {other}", found and {int(word) for word in found} <= set(range(1, most + 1)) and str(most) in found, f"{found}")
     record("bash: demos", bash_completes("demo", "r") == {name for name in values["demo", "<NAME>"] if name[0] == "r"})
-    record("bash: traces", bash_completes("replay", "READ") == {"README.md"} == bash_completes("replay", "--explain", "READ") == bash_completes("explain", "3", "READ"))
+    record("bash: traces", bash_completes("replay", "READ") == {"README.md"} == bash_completes("replay", "--explain", "READ") == bash_completes("explain", "3", "READ") == bash_completes("print", "READ"))
 
 
 def zsh_options(text):
@@ -129,7 +129,7 @@ def zsh_options(text):
 
 def fish_options(text):
     """The same of the file for fish."""
-    found = {"": {}, "replay": {}, "explain": {}, "demo": {}, "help": {}}
+    found = {"": {}, "replay": {}, "explain": {}, "print": {}, "demo": {}, "help": {}}
     for line in text.splitlines():
         if not line.startswith("complete "):
             continue
@@ -161,7 +161,7 @@ def file_tests(record, commands, options, values):
             done = command(["fish", "-N", "-c", f"source {SHELL}/eraser.fish; complete -C {shlex.quote(line)}"], cwd=TOP)
             return {row.split("\t")[0] for row in done.stdout.splitlines()}
         record("fish completes commands", completed("eraser ") == set(commands), f"{completed('eraser ')}")
-        for name in ("replay", "explain", "demo"):
+        for name in ("replay", "explain", "print", "demo"):
             found = completed(f"eraser {name} -")
             record(f"fish completes the options of {name}", found == words_of(options[name]), f"{found}")
         record("fish completes demos", set(values["demo", "<NAME>"]) <= completed("eraser demo "))
@@ -249,7 +249,7 @@ def recorder_bash_tests(record, options):
             elif takes == "anything":
                 record(f"bash: eraser-record {name}: nothing that could be known", found == set() == begun, f"{found}, {begun}")
             elif takes:
-                cut = completes(name, "="), completes(name, "=", takes[:2])
+                cut = completes(name, "="), completes(name, "=", takes.split()[0][:2])
                 record(f"bash: eraser-record {name}: values", found == set(takes.split()) == cut[0] and takes.split()[0] in cut[1] < found, f"{found}, {cut}")
             # Behind the option and its value the program can come, or another option.
             value = ["3"] if takes else []

@@ -1,0 +1,178 @@
+#!/usr/bin/env python3
+"""Records programs with `record/run --trace 4 --stacks`, and compares the calls of each access with what the programs say.
+
+The programs of tests/record/stacks have marks (marks.h), and name all stacks that their accesses have: those of the trace are these and no others, by
+two compilers at two levels. tests/trace4.py reads the traces.
+
+`tests/run` calls `tests`. By itself this file runs these tests alone.
+"""
+
+import collections
+import concurrent.futures
+import itertools
+import os
+import pathlib
+import re
+import sys
+import tempfile
+
+sys.path.insert(0, str(pathlib.Path(__file__).parent))
+sys.dont_write_bytecode = True
+import record_tests
+import trace4
+from alone import run_alone
+from record_tests import LEVELS, RUN, SOURCES, TOP, WORKERS, Findings, command
+
+PROGRAMS = SOURCES / "stacks"
+# Of those that are linked together with another file, which.
+PARTS = {"thrown": "through.c"}
+# Programs that say more than which stacks there are.
+ALONE = ("crowd.c", "deep.c", "interrupted.c", "many.c")
+LEFT_OUT = "calls-left-out"
+# Calls that a stack has, and the main program's one among them.
+MOST_CALLS = 256
+
+
+def build(folder, source, compiler, level):
+    """Builds a program, and its second file as C. Gives its path and what the compilers said."""
+    program = folder / f"{source.stem}-{compiler}{level}"
+    settings = {**os.environ, "ERASER_CC": compiler, "ERASER_CXX": {"gcc": "g++", "clang": "clang++"}[compiler]}
+    files, said = [source], ""
+    if source.stem in PARTS:
+        part = folder / f"{program.name}.o"
+        said += command([TOP / "record/cc", level, *record_tests.WARNINGS, "-c", PROGRAMS / PARTS[source.stem], "-o", part], env=settings).stderr
+        files.append(part)
+    wrapper = TOP / "record" / ("c++" if source.suffix == ".cpp" else "cc")
+    said += command([wrapper, level, *record_tests.WARNINGS, *files, "-o", program], env=settings).stderr
+    return program, said
+
+
+def lines_of(source):
+    """The mark of each line that has one."""
+    return {number: match[1] for number, line in enumerate(source.read_text().splitlines(), 1) if (match := re.search(r"/\* @(\S+) \*/", line))}
+
+
+def expected(source, word="STACK"):
+    return {tuple(line.split()) for line in re.findall(rf"^ \* {word} (.+)$", source.read_text(), re.M)}
+
+
+# Kinds of events that programs name.
+KINDS = {trace4.LOCK: "lock", trace4.UNLOCK: "unlock", trace4.READ_LOCK: "rlock", trace4.READ_UNLOCK: "runlock", trace4.START: "start", trace4.JOIN: "join",
+    trace4.SIGNAL: "signal", trace4.AWAIT: "await", trace4.REUSE: "reuse"}
+
+
+class Recording:
+    """One run of a program with --stacks, and of what it started."""
+
+    def __init__(self, folder, program, *words):
+        traces = folder / f"{program.name}.traces"
+        self.done = command([RUN, *words, "-o", f"{traces}/", "--limit", "0", "--trace", "4", "--stacks", program])
+        self.traces = [trace4.Trace(path.read_bytes()) for path in sorted(traces.glob("*.trace"))]
+
+    def fault(self):
+        if self.done.returncode or not self.traces or any(trace.damage or trace.lost or not trace.has_ended for trace in self.traces):
+            return f"status {self.done.returncode}, {self.done.stderr!r}, {[trace.damage for trace in self.traces]}"
+        return None
+
+    def stacks(self, source, of_events=False):
+        """The stacks of the accesses of a source, or of its other events, by its marks."""
+        marks = lines_of(source)
+        for trace in self.traces:
+            for event in trace.events:
+                places = [place.decode() for place, _ in trace.stack(event.node)]
+                if places and places[0].startswith(f"{source.name}:") and (event.kind != "access") == of_events:
+                    kind = [KINDS.get(event.kind, str(event.kind))] if of_events else []
+                    yield (*kind, *(name_of(place, source, marks) for place in places))
+
+
+def name_of(place, source, marks):
+    """The mark of a place, `*` if it is in another file."""
+    file, _, line = place.rpartition(":")
+    return LEFT_OUT if place == LEFT_OUT else marks.get(int(line), place) if file == source.name else "*"
+
+
+# ---- The programs
+
+def says_what_it_does(folder, findings, source, compiler, level):
+    program, said = build(folder, source, compiler, level)
+    findings.check(f"{program.name} is built", said == "", said)
+    of_events = source.stem == "events"
+    recording = Recording(folder, program, *["--order"] * of_events)
+    wrong = set(recording.stacks(source, of_events)) ^ expected(source, "EVENT" if of_events else "STACK")
+    fault = recording.fault() or (wrong and f"only in one: {sorted(map(' < '.join, wrong))}")
+    findings.check(f"the calls of {program.name}", not fault, fault)
+
+
+def deep(folder, findings, compiler, level):
+    """Deep calls are left out, and counted."""
+    source = PROGRAMS / "deep.c"
+    program, said = build(folder, source, compiler, level)
+    findings.check(f"{program.name} is built", said == "", said)
+    recording = Recording(folder, program)
+    found = set(recording.stacks(source))
+    bottoms = {stack for stack in found if stack[0] == "bottom"}
+    ends = [("calls", "main-few"), ("calls", "main-some"), ("calls", "main-many")]
+    wanted = {("bottom", *["deeper"] * 20, *ends[0])} | {("bottom", LEFT_OUT, *["deeper"] * (MOST_CALLS - 3), *end) for end in ends[1:]}
+    findings.check(f"the depth of {program.name}", not recording.fault() and bottoms == wanted, f"{recording.done.stderr} {[(s[:3], len(s), s[-3:]) for s in bottoms]}")
+    wrong = (found - bottoms) ^ expected(source)
+    findings.check(f"the calls of {program.name}", not wrong, f"{wrong}"[:500])
+    findings.check(f"what {program.name} is told", re.search("^record: [24] events lack their innermost calls", recording.done.stderr, re.M), recording.done.stderr)
+
+
+def interrupted(folder, findings, compiler, level):
+    source = PROGRAMS / "interrupted.c"
+    program, said = build(folder, source, compiler, level)
+    findings.check(f"{program.name} is built", said == "", said)
+    recording = Recording(folder, program)
+    found = set(recording.stacks(source))
+    handled = {stack for stack in found if stack[0] == "note"}
+    findings.check(f"the handlers of {program.name}", handled and all(stack[1:3] == ("handles", "*") for stack in handled), f"{handled}"[:500])
+    wrong = (found - handled) ^ expected(source)
+    findings.check(f"the calls of {program.name}", not recording.fault() and not wrong, f"{recording.fault()} {sorted(map(' < '.join, wrong))}"[:500])
+
+
+def crowd(folder, findings, compiler, level):
+    """Each thread has each stack: those of all ways down a tree."""
+    source = PROGRAMS / "crowd.c"
+    program, said = build(folder, source, compiler, level)
+    findings.check(f"{program.name} is built", said == "", said)
+    trace, marks, found = Recording(folder, program).traces[0], lines_of(source), collections.defaultdict(set)
+    for event in trace.events:
+        stack = tuple(name_of(place.decode(), source, marks) for place, _ in trace.stack(event.node))
+        if stack and stack[0] == "tree":
+            found[event.thread].add(stack)
+    wanted = {("tree", *way, "root") for height in range(10) for way in itertools.product(("left", "right"), repeat=height)}
+    findings.check(f"the calls of {program.name}", len(found) == 4 and all(stacks == wanted for stacks in found.values()), f"{[len(stacks) for stacks in found.values()]}")
+
+
+def many(folder, findings):
+    """More stacks than there is room for: a tree of calls has 2,097,151, and the one of main comes before them. What a second tree of 15 calls does is in
+    main, and nobody knows by which calls."""
+    program, said = build(folder, PROGRAMS / "many.c", "gcc", "-O2")
+    findings.check("many is built", said == "", said)
+    done = command([RUN, "-o", "/dev/null", "--limit", "0", "--trace", "4", "--stacks", program])
+    findings.check("more stacks than there is room for", "record: 32 events lack their innermost calls: " in done.stderr and ", 0 lost\n" in done.stderr, done.stderr)
+
+
+def options(folder, findings):
+    done = command([RUN, "--stacks", "-o", folder / "text.trace", "true"])
+    wanted = "record: --stacks wants --trace 4: a text has no stacks\n"
+    findings.check("stacks in a text", (done.returncode, done.stdout, done.stderr) == (125, "", wanted) and not (folder / "text.trace").exists(), f"{done}")
+
+
+def tests(record):
+    findings = Findings(record)
+    command([TOP / "record/build"])
+    sources = [source for source in sorted(PROGRAMS.glob("*.c*")) if source.name not in (*PARTS.values(), *ALONE)]
+    with tempfile.TemporaryDirectory() as name, concurrent.futures.ThreadPoolExecutor(WORKERS) as pool:
+        folder = pathlib.Path(name)
+        ways = [(compiler, level) for compiler in ("gcc", "clang") for level in LEVELS]
+        done = [pool.submit(says_what_it_does, folder, findings, source, *way) for source in sources for way in ways]
+        done += [pool.submit(test, folder, findings, *way) for test in (crowd, deep, interrupted) for way in ways]
+        done += [pool.submit(many, folder, findings), pool.submit(options, folder, findings)]
+        for one in done:
+            one.result()
+
+
+if __name__ == "__main__":
+    run_alone(tests)

@@ -1,0 +1,514 @@
+#!/usr/bin/env python3
+"""Reads and writes the binary form of a trace: a second reading of docs/FORMATS.md ("Trace 4"), slow and plain.
+
+trace4.py print [FILE]         prints the text that a trace means; a text means itself
+trace4.py encode [SEED]        makes a trace 4 of the text on standard input; with a seed its lengths, blocks and records without a meaning are random
+trace4.py sizes [FILE]         prints how many bytes, blocks and records of each kind a trace has
+
+It shares no code with the program, nor with the recorder.
+"""
+
+import collections
+import random
+import struct
+import sys
+
+sys.dont_write_bytecode = True
+import reference
+
+MAGIC = b"\xe5eraser\x04"
+BLOCK = struct.Struct("<IIQ")
+MOST_BYTES = 1 << 20
+USUAL_BYTES = 1 << 16
+ADDRESS_END = 1 << 48
+# By the bits of a tag.
+OPERANDS, DISTANCES, NODES, SIZES = (1, 2, 4, 8), (1, 2, 4, 6), (0, 1, 2, 4), (1, 4, 8, None)
+(THREAD, NODE, LOCK, UNLOCK, READ_LOCK, READ_UNLOCK, TRY, READ_TRY, FAILED_TRY, FAILED_READ_TRY, SIGNAL, AWAIT, START, JOIN, IGNORE_ON, IGNORE_OFF,
+    REUSE, SHOW, LEVEL, SENT, SAW, THREAD_NAME, LOCK_NAME, PLACE, NEW_NODE, NOTE, VARIABLE, MEMORY, THREAD_FACTS, LOCK_FACTS, LOST, END) = range(32)
+# Which verb a record has in the text, by what it names.
+OF_LOCKS = {LOCK: b"lock", UNLOCK: b"unlock", READ_LOCK: b"rlock", READ_UNLOCK: b"runlock", TRY: b"lock", READ_TRY: b"rlock", SIGNAL: b"signal", AWAIT: b"await"}
+FAILED = (FAILED_TRY, FAILED_READ_TRY)
+OF_THREADS = {START: b"start", JOIN: b"join"}
+ALONE = {IGNORE_ON: b"ignore-on", IGNORE_OFF: b"ignore-off"}
+IN_HEADER, INLINED = 1, 2
+
+
+def checksum(number, count, records):
+    filled = records + bytes(-len(records) % 8)
+    mixed = 0
+    for word in (number, len(records) + (count << 32), *struct.unpack(f"<{len(filled) // 8}Q", filled)):
+        product = (mixed + word) * 0x9E3779B97F4A7C15 % 2**64
+        mixed = product >> 32 | product << 32 & 2**64 - 1
+    return mixed
+
+
+def block(number, count, records):
+    """A block, as it stands in the file."""
+    return BLOCK.pack(len(records), count, checksum(number, count, records)) + records
+
+
+# ---- Reading
+
+Event = collections.namedtuple("Event", "thread kind is_write address size operand node")
+Node = collections.namedtuple("Node", "caller place flags")
+
+
+class Damage(Exception):
+    """A record or a block that no trace has, at this byte, or a file that ends there."""
+
+    def __init__(self, at, says="damaged"):
+        super().__init__(f"{says} at byte {at}")
+
+
+class Trace:
+    """What a trace 4 says: its lines of text, its events and its tables. `damage` is its last line, if it is damaged."""
+
+    def __init__(self, data):
+        self.data, self.lines, self.events, self.damage = data, [b"eraser trace 3"], [], None
+        self.threads, self.locks, self.places, self.nodes = [], [], [], [None]
+        self.kinds, self.bytes, self.blocks = collections.Counter(), collections.Counter(), 0
+        self.lost, self.has_ended = 0, False
+        try:
+            self.read_blocks()
+        except Damage as damage:
+            self.damage = str(damage).encode()
+            self.lines.append(self.damage)
+
+    def text(self):
+        return b"".join(line + b"\n" for line in self.lines)
+
+    def read_blocks(self):
+        at = len(MAGIC)
+        while not self.has_ended:
+            at = self.read_block(at)
+        if at != len(self.data):
+            raise Damage(at)
+
+    def read_block(self, at):
+        begin = at + BLOCK.size
+        if begin > len(self.data):
+            raise Damage(len(self.data), "cut off")
+        length, count, mixed = BLOCK.unpack_from(self.data, at)
+        if not 1 <= length <= MOST_BYTES:
+            raise Damage(at)
+        end = begin + length
+        if end > len(self.data):
+            raise Damage(len(self.data), "cut off")
+        if checksum(self.blocks, count, self.data[begin:end]) != mixed:
+            raise Damage(at)
+        self.blocks += 1
+        self.thread, self.node, self.last = None, 0, [0] * 256
+        self.at, self.end, found = begin, end, 0
+        while self.at < end:
+            self.read_record()
+            found += 1
+        if found != count:
+            raise Damage(at)
+        return end
+
+    def take(self, count):
+        """So many bytes of the record."""
+        if self.at + count > self.end:
+            raise Damage(self.record)
+        self.at += count
+        return self.data[self.at - count:self.at]
+
+    def number(self, count):
+        return int.from_bytes(self.take(count), "little")
+
+    def check(self, is_right):
+        if not is_right:
+            raise Damage(self.record)
+
+    def named(self, table, number):
+        self.check(number < len(table))
+        return table[number]
+
+    def read_record(self):
+        self.record = self.at
+        tag = self.number(1)
+        if tag < 128:
+            kind = "access"
+            self.read_access(tag)
+        else:
+            kind = (tag - 128) // 4
+            self.read_kind(kind, self.number(OPERANDS[tag % 4]))
+        self.kinds[kind] += 1
+        self.bytes[kind] += self.at - self.record
+
+    def add_event(self, kind, is_write=False, address=None, size=None, operand=None):
+        self.check(self.thread is not None)
+        self.events.append(Event(self.threads[self.thread], kind, is_write, address, size, operand, self.node))
+
+    def line(self, *words):
+        self.lines.append(b" ".join((self.threads[self.thread], *words)))
+
+    def site(self):
+        """The last word of an access, if it has one: the nearest place outside headers of the system, or the outermost."""
+        node = self.node
+        while node and self.nodes[node].flags & IN_HEADER and self.nodes[node].caller:
+            node = self.nodes[node].caller
+        return [self.places[self.nodes[node].place]] if node else []
+
+    def stack(self, node):
+        """The places of a node and its callers with their flags, the innermost first."""
+        while node:
+            caller, place, flags = self.nodes[node]
+            yield self.places[place], flags
+            node = caller
+
+    def read_access(self, tag):
+        size = SIZES[tag >> 4 & 3] or self.number(1)
+        self.check(1 <= size <= 16)
+        distance = int.from_bytes(self.take(DISTANCES[tag >> 2 & 3]), "little", signed=True)
+        if tag & 3:
+            node = self.number(NODES[tag & 3])
+            self.check(node < len(self.nodes))
+            self.node = node
+        self.check(self.thread is not None)
+        slot = self.thread % 256
+        address = (self.last[slot] + distance) % ADDRESS_END
+        self.last[slot] = address
+        self.check(address + size <= ADDRESS_END)
+        self.add_event("access", bool(tag & 64), address, size)
+        for word in range(address & ~3, address + size, 4):
+            self.line(b"write" if tag & 64 else b"read", b"0x%012x" % word, *self.site())
+
+    def read_kind(self, kind, operand):
+        if kind == THREAD:
+            self.named(self.threads, operand)
+            self.thread = operand
+        elif kind == NODE:
+            self.named(self.nodes, operand)
+            self.node = operand
+        elif kind in OF_LOCKS or kind in FAILED:
+            lock = self.named(self.locks, operand)
+            self.add_event(kind, operand=lock)
+            if kind in OF_LOCKS:
+                self.line(OF_LOCKS[kind], lock)
+        elif kind in OF_THREADS:
+            other = self.named(self.threads, operand)
+            self.add_event(kind, operand=other)
+            self.line(OF_THREADS[kind], other)
+        elif kind in ALONE:
+            self.add_event(kind)
+            self.line(ALONE[kind])
+        elif kind in (REUSE, SHOW, LEVEL, SENT, SAW):
+            self.read_other_event(kind, operand)
+        elif kind in (THREAD_NAME, LOCK_NAME, PLACE, NOTE, VARIABLE, MEMORY, THREAD_FACTS, LOCK_FACTS):
+            self.read_bytes(kind, self.take(operand))
+        elif kind == NEW_NODE:
+            place, flags = self.number(4), self.number(1)
+            self.check(operand < len(self.nodes) and place < len(self.places) and flags <= IN_HEADER | INLINED)
+            self.nodes.append(Node(operand, place, flags))
+        elif kind == LOST:
+            self.lost = operand
+        else:
+            self.read_end(operand)
+
+    def read_other_event(self, kind, operand):
+        address = self.number(6) if kind == REUSE else operand
+        self.check(kind != SHOW or address < ADDRESS_END)
+        self.check(kind != LEVEL or operand <= 31)
+        self.add_event(kind, address=address, size=operand if kind == REUSE else None)
+        if kind == REUSE:
+            self.line(b"reuse", b"0x%012x" % address, b"%d" % operand, *self.site())
+        elif kind == SHOW:
+            self.line(b"show", b"0x%012x" % address)
+        elif kind == LEVEL:
+            self.line(b"level", b"%d" % operand)
+
+    def read_bytes(self, kind, content):
+        if kind == THREAD_NAME:
+            self.check(reference.is_name(content))
+            self.threads.append(content)
+        elif kind == LOCK_NAME:
+            self.check(reference.is_name(content, of_lock=True))
+            self.locks.append(content)
+        elif kind == PLACE:
+            self.check(reference.is_site(content, b"3") and content != b"-")
+            self.places.append(content)
+        elif kind == NOTE:
+            self.check(len(content) <= 1000 and all(32 <= byte <= 126 for byte in content))
+            self.lines.append(b"# " + content)
+
+    def read_end(self, count):
+        self.check(self.at == self.end and count == len(self.events))
+        if self.lost:
+            self.lines.append(b"# incomplete: %d events, %d lost" % (count, self.lost))
+        self.lines.append(b"end")
+        self.has_ended = True
+
+
+def is_binary(data):
+    return data.startswith(MAGIC)
+
+
+def text_of(data):
+    """The text that a trace of any form means."""
+    return Trace(data).text() if is_binary(data) else data
+
+
+# ---- Writing
+
+class Writer:
+    """Makes a trace 4. Without dice each number is as short as it may be, and no record is there that says nothing."""
+
+    def __init__(self, dice=None, most_bytes=USUAL_BYTES):
+        self.dice, self.most_bytes = dice, most_bytes
+        self.blocks, self.whole, self.events = 0, bytearray(MAGIC), 0
+        self.threads, self.locks, self.places, self.nodes = {}, {}, {}, {}
+        self.begin_block()
+
+    def begin_block(self):
+        self.records, self.count, self.thread, self.node, self.last = bytearray(), 0, None, 0, [0] * 256
+
+    def end_block(self):
+        if self.count:
+            self.whole += block(self.blocks, self.count, bytes(self.records))
+            self.blocks += 1
+        self.begin_block()
+
+    def chance(self, one_in):
+        return self.dice is not None and self.dice.randrange(one_in) == 0
+
+    def length(self, lengths, fits):
+        """The place of the shortest length that fits, or of any such one."""
+        fitting = [place for place, length in enumerate(lengths) if fits(length)]
+        return self.dice.choice(fitting) if self.chance(3) else fitting[0]
+
+    def add(self, record):
+        self.records += record
+        self.count += 1
+
+    def record(self, kind, operand=0, rest=b""):
+        place = self.length(OPERANDS, lambda length: operand < 1 << 8 * length)
+        self.add(bytes([128 + 4 * kind + place]) + operand.to_bytes(OPERANDS[place], "little") + rest)
+
+    def name(self, table, kind, name):
+        """The number of a name, which is written if it is new."""
+        if name not in table:
+            self.record(kind, len(name), name)
+            table[name] = len(table)
+        return table[name]
+
+    def node_of(self, place, caller=0, flags=0):
+        """The number of a node, which is written if it is new. No place: 0."""
+        if place is None:
+            return 0
+        key = (caller, self.name(self.places, PLACE, place), flags)
+        if key not in self.nodes:
+            self.record(NEW_NODE, caller, key[1].to_bytes(4, "little") + bytes([flags]))
+            self.nodes[key] = len(self.nodes) + 1
+        return self.nodes[key]
+
+    def begin_event(self, thread):
+        if len(self.records) >= self.most_bytes or self.chance(12):
+            self.end_block()
+        number = self.name(self.threads, THREAD_NAME, thread)
+        if number != self.thread or self.chance(9):
+            self.record(THREAD, number)
+            self.thread = number
+        if self.chance(6):
+            self.add_idle()
+        self.events += 1
+
+    def add_idle(self):
+        """A record that no text shows."""
+        kind = self.dice.choice((FAILED_TRY, FAILED_READ_TRY, SENT, SAW, VARIABLE, MEMORY, THREAD_FACTS, LOCK_FACTS, LOST, THREAD_NAME, LOCK_NAME, NODE))
+        if kind in (FAILED_TRY, FAILED_READ_TRY, SENT, SAW):
+            operand = self.name(self.locks, LOCK_NAME, b"tried") if kind in FAILED else self.dice.randrange(ADDRESS_END)
+            self.record(kind, operand)
+            self.events += 1
+        elif kind in (THREAD_NAME, LOCK_NAME):
+            self.name(self.threads if kind == THREAD_NAME else self.locks, kind, b"idle%d" % self.dice.randrange(100))
+        elif kind == NODE:
+            self.node = self.dice.randrange(len(self.nodes) + 1)
+            self.record(NODE, self.node)
+        elif kind == LOST:
+            self.record(LOST, 7)
+        else:
+            content = self.dice.randbytes(self.dice.randrange(40))
+            self.record(kind, len(content), content)
+
+    def at_node(self, node):
+        if node != self.node or self.chance(9):
+            self.record(NODE, node)
+            self.node = node
+
+    def access(self, thread, is_write, address, size, node=0):
+        self.begin_event(thread)
+        slot = self.thread % 256
+        distance = (address - self.last[slot]) % ADDRESS_END
+        distance -= ADDRESS_END if distance >= ADDRESS_END // 2 else 0
+        tag = 64 if is_write else 0
+        size_place = SIZES.index(size) if size in SIZES and not self.chance(4) else 3
+        distance_place = self.length(DISTANCES, lambda length: -1 << 8 * length - 1 <= distance < 1 << 8 * length - 1)
+        node_place = self.length(NODES, lambda length: node < 1 << 8 * length if length else node == self.node)
+        self.add(bytes([tag | size_place << 4 | distance_place << 2 | node_place]) + (bytes([size]) if size_place == 3 else b"")
+            + distance.to_bytes(DISTANCES[distance_place], "little", signed=True) + (node.to_bytes(NODES[node_place], "little") if node_place else b""))
+        self.last[slot], self.node = address, node
+
+    def of_lock(self, thread, kind, lock, node=0):
+        self.begin_event(thread)
+        number = self.name(self.locks, LOCK_NAME, lock)
+        self.at_node(node)
+        self.record(kind, number)
+
+    def of_thread(self, thread, kind, other, node=0):
+        self.begin_event(thread)
+        number = self.name(self.threads, THREAD_NAME, other)
+        self.at_node(node)
+        self.record(kind, number)
+
+    def reuse(self, thread, address, size, node=0):
+        self.begin_event(thread)
+        self.at_node(node)
+        self.record(REUSE, size, address.to_bytes(6, "little"))
+
+    def other(self, thread, kind, operand=0):
+        self.begin_event(thread)
+        self.record(kind, operand)
+
+    def note(self, content):
+        self.record(NOTE, len(content), content)
+
+    def finish(self, lost=0):
+        """The whole trace."""
+        if lost or self.dice is not None:
+            self.record(LOST, lost)
+        self.record(END, self.events)
+        self.end_block()
+        return bytes(self.whole)
+
+
+# ---- Texts
+
+KINDS = {verb: kind for table in (ALONE, OF_THREADS) for kind, verb in table.items()} | {
+    verb: kind for kind, verb in OF_LOCKS.items() if kind not in (TRY, READ_TRY)}
+TRIES = {LOCK: TRY, READ_LOCK: READ_TRY}
+
+
+def note_of(line):
+    """What a note says to be this line of a text, or None."""
+    is_note = line.startswith(b"# ") and len(line) <= 1002 and all(32 <= byte <= 126 for byte in line)
+    return line[2:] if is_note else None
+
+
+def parts_of(text):
+    """The events of a text without a fault, and its notes, in the order of the text."""
+    events = dict(reference.events_of(text))
+    for at, line in enumerate(text.split(b"\n"), 1):
+        if at in events:
+            yield events[at]
+        elif note_of(line) is not None:
+            yield note_of(line)
+
+
+def site_in(words):
+    return words[0] if words and words[0] != b"-" else None
+
+
+def plain(text, events=0, lost=0):
+    """The text 3 that means what a text means, as a trace 4 of so many events can say it: without blank lines, and with every word as in the formats."""
+    lines = [b"eraser trace 3"]
+    for part in parts_of(text):
+        if isinstance(part, bytes):
+            lines.append(b"# " + part)
+            continue
+        thread, verb, operands = part
+        words = list(operands)
+        if verb in (b"read", b"write", b"show", b"reuse"):
+            address = reference.number(words[0])
+            words[0] = b"0x%012x" % (address if verb in (b"show", b"reuse") else address & ~3)
+        if verb in (b"reuse", b"level"):
+            words[-1 if verb == b"level" else 1] = b"%d" % reference.number(words[-1 if verb == b"level" else 1])
+        if words and verb in (b"read", b"write", b"reuse") and words[-1] == b"-":
+            words.pop()
+        lines.append(b" ".join([thread, verb, *words]))
+    lines += [b"# incomplete: %d events, %d lost" % (events, lost)] * (lost > 0) + [b"end"]
+    return b"".join(line + b"\n" for line in lines)
+
+
+def joined(parts, dice):
+    """Accesses of one thread at one place, of words one behind the other, as accesses of several words. With dice only some of them."""
+    run = []
+    for part in [*parts, None]:
+        is_access = isinstance(part, tuple) and part[1] in (b"read", b"write")
+        word = reference.number(part[2][0]) & ~3 if is_access else None
+        key = (part[0], part[1], site_in(part[2][1:])) if is_access else None
+        most = 4 if dice is None else dice.randrange(1, 6)
+        if run and (key != run[0][0] or word != run[-1][1] + 4 or len(run) >= most):
+            yield run
+            run = []
+        if is_access:
+            run.append((key, word))
+        elif part is not None:
+            yield part
+
+
+def encode(text, dice=None, lost=0, **more):
+    """A trace 4 that means `plain` of the text."""
+    writer = Writer(dice, **more)
+    for part in joined(parts_of(text), dice):
+        if isinstance(part, bytes):
+            writer.note(part)
+        elif isinstance(part, list):
+            write_access(writer, part)
+        else:
+            write_event(writer, *part)
+    return writer.finish(lost)
+
+
+def write_access(writer, run):
+    """An access that touches the words of a run, and all its bytes or some."""
+    (thread, verb, site), first = run[0]
+    end = run[-1][1] + 4
+    if writer.chance(2):
+        first += writer.dice.randrange(4)
+        end = writer.dice.randrange(max(first + 1, end - 3), end + 1)
+    if end - first > 16:
+        end = first + 16
+    if end <= run[-1][1]:
+        # 16 bytes touch five words if they don't begin with the first byte of a word.
+        first, end = run[0][1] + 3, run[0][1] + 19
+    writer.access(thread, verb == b"write", first, end - first, writer.node_of(site))
+
+
+def write_event(writer, thread, verb, operands):
+    if verb in (b"start", b"join"):
+        writer.of_thread(thread, KINDS[verb], operands[0])
+    elif verb in (b"show", b"level"):
+        writer.other(thread, SHOW if verb == b"show" else LEVEL, reference.number(operands[0]))
+    elif verb == b"reuse":
+        writer.reuse(thread, *map(reference.number, operands[:2]), writer.node_of(site_in(operands[2:])))
+    elif verb in (b"ignore-on", b"ignore-off"):
+        writer.other(thread, KINDS[verb])
+    else:
+        kind = KINDS[verb]
+        writer.of_lock(thread, TRIES.get(kind, kind) if writer.chance(3) else kind, operands[0])
+
+
+# ---- By itself
+
+def print_sizes(data):
+    trace = Trace(data)
+    print(f"{len(data)} bytes, {trace.blocks} blocks, {len(trace.events)} events, {len(trace.text())} bytes as text")
+    for kind, count in sorted(trace.kinds.items(), key=lambda pair: -trace.bytes[pair[0]]):
+        print(f"{kind}: {count} records, {trace.bytes[kind]} bytes")
+
+
+def main():
+    verb, *rest = sys.argv[1:]
+    if verb == "encode":
+        sys.stdout.buffer.write(encode(sys.stdin.buffer.read(), random.Random(rest[0]) if rest else None))
+        return
+    data = open(rest[0], "rb").read() if rest else sys.stdin.buffer.read()
+    if verb == "sizes":
+        print_sizes(data)
+    else:
+        sys.stdout.buffer.write(text_of(data))
+
+
+if __name__ == "__main__":
+    main()

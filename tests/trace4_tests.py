@@ -1,0 +1,321 @@
+#!/usr/bin/env python3
+"""Compares what the program makes of traces in the binary form with what it makes of the texts that they mean, by the second reading of tests/trace4.py.
+
+`tests/run` calls `tests`. By itself this file runs these tests alone.
+
+- random traces of texts 1 to 3, examples and worked traces, as trace 4 with random lengths, blocks and records that say nothing: `eraser print` gives
+  the text, and replays give the same report, by path and by standard input, with each option of a report and several workers
+- three small traces cut off at each byte, and with a random bit of each byte flipped: the fault of the damage, or the same report
+- records that no trace has, in blocks whose checksum is right: the damage is at their byte, and with --until-fault what stands before it is reported
+- records and blocks of the greatest length, and of one byte more; long traces of several blocks
+- each allocation refused in turn; reads of a few bytes at a time, and each read failed in turn
+- the example of docs/FORMATS.md has the text that stands beside it
+"""
+
+import os
+import pathlib
+import random
+import re
+import sys
+import tempfile
+
+sys.path.insert(0, str(pathlib.Path(__file__).parent))
+sys.dont_write_bytecode = True
+import cases
+import reference
+import trace4
+from alone import each_failed, each_refused, outcome_of, run_alone
+from site_tests import TOP, preloaded, run, run_file
+
+RANDOM_TRACES = 200
+# Options of a replay. Each trace is replayed with some of them.
+FORMS = ([], ["--explain"], ["--by-site"], ["--format", "json"], ["--format", "sarif"], ["--format", "html"], ["--workers", "3"], ["--strict"],
+    ["--strict", "--workers", "3"], ["--until-fault"], ["--workers", "3", "--explain", "--by-site"], ["--analysis", "happens-before"],
+    ["--analysis", "happens-before", "--workers", "3"], ["--analysis", "happens-before", "--explain"], ["--analysis", "both"],
+    ["--analysis", "both", "--by-site"], ["--analysis", "both", "--format", "json", "--workers", "3"], ["--analysis", "both", "--strict", "--until-fault"],
+    ["--max-races", "1"])
+# As many threads, locks and places as need numbers of two bytes; accesses all over memory; events lost.
+WIDE = "".join(f"t{n} write {n * 0x1234567891 % 2**48:#x} place.c:{n}\nt{n} lock m{n}\n" for n in range(300))
+
+
+# ---- Traces
+
+def texts():
+    """Texts without a fault, by names."""
+    found = [(path.stem, path.read_bytes()) for path in sorted((TOP / "examples").glob("*.trace"))]
+    found += [(case.name, case.text) for case in cases.CASES + cases.EXPLAINED if len(case.text) < 20_000]
+    found += [("wide", f"eraser trace 3\n{WIDE}".encode()), ("nothing", b"eraser trace 3\n"), ("comments", b"# one\neraser trace 3\n# two \n#three\n\n# incomplete: 9 events, 2 lost\nend\n")]
+    return [(name, text) for name, text in found if is_sound(text)]
+
+
+def is_sound(text):
+    try:
+        reference.events_of(text)
+    except reference.Fault:
+        return False
+    return True
+
+
+def random_texts():
+    return [(f"random trace {seed}", reference.random_trace(seed)) for seed in range(RANDOM_TRACES) if is_sound(reference.random_trace(seed))]
+
+
+def loss_of(dice):
+    return dice.choice([0, 0, 3, 2**40])
+
+
+def small_traces():
+    """Three small traces with a race each: of one block, of several, and one that lost events."""
+    text = b"eraser trace 3\n# by hand\nt1 lock m\nt1 write 0x1000 a.c:1\nt1 write 0x1004 a.c:1\nt1 unlock m\nt2 write 0x1000 b.c:2\nt1 reuse 0x2000 64 a.c:3\nt1 signal s\n"
+    dice = random.Random(4)
+    return [trace4.encode(text), trace4.encode(text, dice, most_bytes=40), trace4.encode(text + WIDE[:200].rsplit("\n", 1)[0].encode(), lost=5)]
+
+
+# ---- Sound traces
+
+def check(record, name, text, data, options):
+    """A replay of a trace 4 writes what one of its text writes, from standard input and from a file."""
+    for way, found, wanted in (
+        ("standard input", run(["replay", *options, "-"], data), run(["replay", *options, "-"], text)),
+        ("a file", run_file(None, data, *options), run_file(None, text, *options)),
+    ):
+        record(f"trace 4: {name} from {way} {' '.join(options)}", found == wanted and wanted[2] in (0, 1, 2), f"{found}, {wanted}"[:1500])
+
+
+def same_reports(record):
+    worked, drawn = texts(), random_texts()
+    for at, (name, text) in enumerate(worked + drawn):
+        dice = random.Random(at)
+        plain = trace4.plain(text)
+        for how in (None, dice):
+            found = trace4.text_of(trace4.encode(text, how))
+            record(f"trace 4: the second reading of {name} {'at random' if how else ''}", found == plain, f"{found}, {plain}"[:1500])
+        data = trace4.encode(text, dice, loss_of(dice), most_bytes=dice.choice([1, 100, 65536]))
+        plain = trace4.text_of(data)
+        found = run(["print", "-"], data)
+        record(f"trace 4: the text of {name}", found == (plain, b"", 0), f"{found}, {plain}"[:1500])
+        found = run(["print", "-"], text)
+        record(f"trace 4: {name} means itself", found == (text, b"", 0), f"{found}"[:1500])
+        for nth in range(4 if at < len(worked) else 2):
+            check(record, name, plain, data, FORMS[(at + 5 * nth) % len(FORMS)])
+
+
+def long_traces(record):
+    """Several blocks, of which some have the greatest length, and lines that several workers share."""
+    dice = random.Random(11)
+    lines = [f"t{dice.randrange(5)} {dice.choice(['read', 'write'])} {0x10000 + 4 * dice.randrange(4000):#x} f{dice.randrange(400)}.c:{dice.randrange(9)}" for _ in range(60_000)]
+    text = ("eraser trace 3\n" + "\n".join(lines) + "\n").encode()
+    plain = trace4.plain(text)
+    for name, data in (("usual blocks", trace4.encode(text)), ("small blocks", trace4.encode(text, most_bytes=500)), ("one block", trace4.encode(text, most_bytes=trace4.MOST_BYTES - 100))):
+        found = run(["print", "-"], data)
+        record(f"trace 4: the text of a long trace, {name}", found == (plain, b"", 0), f"{len(found[0])} {found[1:]}")
+        for options in ([], ["--workers", "3"], ["--analysis", "both", "--workers", "3", "--by-site"]):
+            found, wanted = run(["replay", *options, "-"], data), run(["replay", *options, "-"], plain)
+            record(f"trace 4: a long trace, {name} {options}", found == wanted and wanted[2] == 1, f"{found[1:]}, {wanted[1:]}")
+
+
+# ---- Damaged traces
+
+def is_fault(trace, errors):
+    """Whether this is the fault of the line that says the damage."""
+    return errors == f"line {len(trace.lines)}: {'after end' if trace.has_ended else 'bad verb'}\n".encode()
+
+
+def check_damaged(record, name, data):
+    """A replay of a damaged trace has the fault and no report, or what stands before it, if that is asked for."""
+    trace = trace4.Trace(data)
+    found = run(["print", "-"], data)
+    record(f"trace 4: the text of {name}", found == (trace.text(), b"", 0), f"{found}, {trace.text()}"[:1500])
+    if not trace.damage:
+        return
+    for options in ([], ["--workers", "3"], ["--strict"], ["--analysis", "both"]):
+        output, errors, status = run(["replay", *options, "-"], data)
+        record(f"trace 4: {name} {' '.join(options)}", (output, status) == (b"", 2) and is_fault(trace, errors), f"{output} {errors} {status}, {trace.damage}")
+    for options in ([], ["--workers", "3"], ["--analysis", "both"]):
+        output, errors, status = run(["replay", "--until-fault", *options, "-"], data)
+        before = b"".join(line + b"\n" for line in trace.lines[:-1])
+        wanted = run(["replay", *options, "-"], before)[0]
+        # A note may stand before it.
+        *notes, last = errors.splitlines(keepends=True) or [b""]
+        is_told = is_fault(trace, last) and all(line.startswith(b"note: ") for line in notes)
+        record(f"trace 4: {name}, up to there {' '.join(options)}", (output, status) == (wanted, 2) and is_told, f"{output} {errors} {status}, {wanted}")
+
+
+def cut_and_flipped(record):
+    """Each byte: the text that is left has a fault, or the report is the same. What no checksum covers is each byte's own."""
+    dice = random.Random(2)
+    for nth, data in enumerate(small_traces()):
+        whole = run(["replay", "-"], data)
+        record(f"trace 4: small trace {nth}", (whole[2], whole[1]) == (1, b""), f"{whole}")
+        for at in range(len(data)):
+            flipped = data[:at] + bytes([data[at] ^ 1 << dice.randrange(8)]) + data[at + 1:]
+            for name, damaged in ((f"cut off at {at}", data[:at]), (f"with a bit of byte {at} flipped", flipped)):
+                found = run(["replay", "-"], damaged)
+                is_told = found[0] == b"" and found[2] == 2 and re.fullmatch(rb"line \d+: (bad verb|after end|not ascii|no header)\n", found[1])
+                record(f"trace 4: small trace {nth} {name}", is_told or found == whole, f"{found}")
+                text, found = trace4.text_of(damaged), run(["print", "-"], damaged)
+                record(f"trace 4: the text of small trace {nth} {name}", found == (text, b"", 0), f"{found}, {text}"[:1500])
+
+
+def record_of(kind, operand, rest=b"", length=None):
+    length = length or next(length for length in trace4.OPERANDS if operand < 1 << 8 * length)
+    return bytes([128 + 4 * kind + trace4.OPERANDS.index(length)]) + operand.to_bytes(length, "little") + rest
+
+
+def of_blocks(*blocks):
+    return trace4.MAGIC + b"".join(trace4.block(number, len(records), b"".join(records)) for number, records in enumerate(blocks))
+
+
+def named(kind, name):
+    return record_of(kind, len(name), name)
+
+
+T = trace4
+# Two threads, a lock, two places and three nodes; then the first thread.
+BEGIN = [named(T.THREAD_NAME, b"a"), named(T.THREAD_NAME, b"b"), named(T.LOCK_NAME, b"m"), named(T.PLACE, b"x.c:1"), named(T.PLACE, b"/usr/include/y.h:2"),
+    record_of(T.NEW_NODE, 0, bytes([0, 0, 0, 0, 0])), record_of(T.NEW_NODE, 1, bytes([1, 0, 0, 0, 1])), record_of(T.NEW_NODE, 0, bytes([1, 0, 0, 0, 3])), record_of(T.THREAD, 0)]
+WRITE = bytes([64 | 16 | 4, 0, 16])
+# An access at each node: the place of a header is that of its caller, if it has one.
+SITES = [bytes([64 | 16 | 4 | 1, 0, 16, node]) for node in (1, 2, 3, 0)]
+EVENTS_OF = [record_of(kind, 0) for kind in (T.LOCK, T.UNLOCK, T.READ_LOCK, T.READ_UNLOCK, T.TRY, T.UNLOCK, T.READ_TRY, T.READ_UNLOCK, T.FAILED_TRY, T.FAILED_READ_TRY, T.SIGNAL, T.AWAIT)]
+OTHERS = [record_of(T.START, 1), record_of(T.JOIN, 1), record_of(T.IGNORE_ON, 7), record_of(T.IGNORE_OFF, 2**64 - 1), record_of(T.REUSE, 8, b"\3\0\0\0\0\0"), record_of(T.REUSE, 8, b"\3\0\0\0\0\0"),
+    record_of(T.SHOW, 2**48 - 1), record_of(T.LEVEL, 31), record_of(T.LEVEL, 0, length=8), record_of(T.SENT, 5), record_of(T.SAW, 5)]
+SOUND = {
+    "every kind of record": ([*BEGIN, *EVENTS_OF, *OTHERS, *(named(kind, b"\0\xff") for kind in (T.VARIABLE, T.MEMORY, T.THREAD_FACTS, T.LOCK_FACTS)), named(T.NOTE, b" a~"),
+        record_of(T.LOST, 9), record_of(T.LOST, 2), record_of(T.END, len(EVENTS_OF) + len(OTHERS))],
+        b"a lock m\na unlock m\na rlock m\na runlock m\na lock m\na unlock m\na rlock m\na runlock m\na signal m\na await m\na start b\na join b\na ignore-on\na ignore-off\n"
+        b"a reuse 0x000000000003 8\na reuse 0x000000000003 8\na show 0xffffffffffff\na level 31\na level 0\n#  a~\n# incomplete: 23 events, 2 lost\nend\n"),
+    "places of nodes": ([*BEGIN, *SITES, record_of(T.NODE, 2), record_of(T.REUSE, 4, b"\0\0\0\0\0\1"), record_of(T.END, 5)],
+        b"a write 0x000000001000 x.c:1\na write 0x000000002000 x.c:1\na write 0x000000003000 /usr/include/y.h:2\na write 0x000000004000\na reuse 0x010000000000 4 x.c:1\nend\n"),
+    "no events": ([record_of(T.END, 0)], b"end\n"),
+    "nothing lost": ([record_of(T.LOST, 4), record_of(T.LOST, 0), record_of(T.END, 0)], b"end\n"),
+    "sizes": ([*BEGIN, bytes([48, 3, 16]), bytes([0, 0]), bytes([32, 1]), bytes([48, 1, 255]), record_of(T.THREAD, 1), bytes([64 | 48 | 12, 16, *(2**48 - 16).to_bytes(6, "little")]), record_of(T.END, 5)],
+        b"".join(b"a read 0x%012x\n" % word for word in (16, 16, 16, 20, 24, 16)) + b"".join(b"b write 0x%012x\n" % word for word in range(2**48 - 16, 2**48, 4)) + b"end\n"),
+    "the longest of all": ([named(T.THREAD_NAME, b"t" * 128), named(T.LOCK_NAME, b"l" * 128), named(T.PLACE, b"~" * 128), named(T.NOTE, b"n" * 1000), record_of(T.END, 0)], b"# " + b"n" * 1000 + b"\nend\n"),
+}
+
+
+def wrong_records():
+    """Records that no trace has, by names. They come behind BEGIN and an access."""
+    yield "an access of no byte", bytes([48 | 0, 0, 0])
+    yield "an access of 17 bytes", bytes([48 | 0, 17, 0])
+    yield "an access past the end of memory", bytes([32 | 4, 0xfc, 0xef])
+    yield "an access at a node that isn't there", bytes([16 | 1, 0, 4])
+    yield "a cut access", bytes([64 | 16 | 12, 0, 0])
+    yield "a tag without an operand", bytes([128 + 4 * T.SHOW + 3, 0, 0])
+    for kind in (T.THREAD, T.START, T.JOIN):
+        yield f"thread 2 in kind {kind}", record_of(kind, 2)
+    for kind in (T.LOCK, T.UNLOCK, T.READ_LOCK, T.READ_UNLOCK, T.TRY, T.READ_TRY, T.FAILED_TRY, T.FAILED_READ_TRY, T.SIGNAL, T.AWAIT):
+        yield f"lock 1 in kind {kind}", record_of(kind, 1)
+    yield "node 4", record_of(T.NODE, 4)
+    yield "a caller that isn't there", record_of(T.NEW_NODE, 4, bytes(5))
+    yield "a place that isn't there", record_of(T.NEW_NODE, 0, bytes([2, 0, 0, 0, 0]))
+    yield "a cut node", record_of(T.NEW_NODE, 0, bytes(4))
+    yield "a show behind memory", record_of(T.SHOW, 2**48)
+    yield "level 32", record_of(T.LEVEL, 32)
+    for kind, names in ((T.THREAD_NAME, (b"", b"a b", b"t" * 129)), (T.LOCK_NAME, (b"", b"none", b"!", b"l" * 129)), (T.PLACE, (b"", b"-", b"a b", b"\x7f", b"p" * 129)), (T.NOTE, (b"\n", b"\x7f", b"n" * 1001))):
+        for name in names:
+            yield f"{name[:9]} in kind {kind}", named(kind, name)
+    yield "a name past the end of the block", record_of(T.NOTE, 5, b"abc")
+    yield "a cut reuse", record_of(T.REUSE, 4, bytes(5))
+    yield "the end with other events", record_of(T.END, 2)
+
+
+def built(record):
+    for name, (records, text) in SOUND.items():
+        data = of_blocks(records)
+        trace = trace4.Trace(data)
+        record(f"trace 4: the second reading of {name}", (trace.damage, trace.text()) == (None, b"eraser trace 3\n" + text), f"{trace.text()}")
+        found = run(["print", "-"], data)
+        record(f"trace 4: the text of {name}", found == (trace.text(), b"", 0), f"{found}, {trace.text()}"[:1500])
+        check(record, name, trace.text(), data, [])
+    race = [*BEGIN, WRITE, record_of(T.THREAD, 1), WRITE]
+    begin = len(of_blocks(race))
+    for name, wrong in wrong_records():
+        # What is cut is the last record of its block.
+        whole = [*race, wrong, *([] if "cut" in name or "past the end of the block" in name or "without an operand" in name else [record_of(T.END, 2)])]
+        data = of_blocks(whole)
+        record(f"trace 4: {name} is damage", trace4.Trace(data).damage == b"damaged at byte %d" % begin, f"{trace4.Trace(data).damage}")
+        check_damaged(record, name, data)
+    for name, data, damage in damaged_blocks(race, begin):
+        found = trace4.Trace(data).damage
+        record(f"trace 4: {name} is damage", found == damage, f"{found}, {damage}")
+        check_damaged(record, name, data)
+
+
+def damaged_blocks(race, begin):
+    """Blocks that no trace has, with the damage."""
+    end, more = [record_of(T.END, 2)], [named(T.NOTE, b"more")]
+    yield "the magic alone", T.MAGIC, b"cut off at byte 8"
+    yield "a block without an end", of_blocks(race), b"cut off at byte %d" % begin
+    yield "an end that isn't the last record", of_blocks([*race, *end, *more]), b"damaged at byte %d" % begin
+    yield "an event in a block without a thread", of_blocks(race, [WRITE, record_of(T.END, 3)]), b"damaged at byte %d" % (begin + 16)
+    yield "a lock in a block without a thread", of_blocks(race, [record_of(T.LOCK, 0), record_of(T.END, 3)]), b"damaged at byte %d" % (begin + 16)
+    yield "bytes behind the end", of_blocks([*race, *end]) + b"\n", b"damaged at byte %d" % len(of_blocks([*race, *end]))
+    yield "a block behind the end", of_blocks([*race, *end], more), b"damaged at byte %d" % len(of_blocks([*race, *end]))
+    whole = b"".join(race)
+    for count in (0, len(race) - 1, len(race) + 1):
+        yield f"a block that says it has {count} records", T.MAGIC + T.block(0, count, whole) + T.block(1, 1, end[0]), b"damaged at byte 8"
+    yield "a block with another number", T.MAGIC + T.block(1, len(race), whole), b"damaged at byte 8"
+    yield "a block without records", T.MAGIC + T.block(0, 0, b"") + T.block(1, 1, record_of(T.END, 0)), b"damaged at byte 8"
+    largest = [named(T.VARIABLE, bytes(T.MOST_BYTES - 2 - 5)), record_of(T.END, 0)]
+    yield "the largest block", of_blocks(largest), None
+    larger = [named(T.VARIABLE, bytes(T.MOST_BYTES - 2 - 4)), record_of(T.END, 0)]
+    yield "a block that is too large", of_blocks(larger), b"damaged at byte 8"
+
+
+# ---- What fails around the program
+
+def refusals(record, preloaded, folder):
+    """Memory that is refused: the line of that, or of a read that failed, and never another report."""
+    library = preloaded(folder, "refuse")
+    data = small_traces()[1]
+    for options in ([], ["--analysis", "both"]):
+        whole, met = run(["replay", *options, "-"], data), set()
+        for nth, found, has_failed in each_refused(library, folder, lambda env: run(["replay", *options, "-"], data, env=env)):
+            outcome = "read fault" if found == (b"", b"read fault\n", 4) else outcome_of(found, whole, lambda text: text.splitlines()[-1:] != whole[0].splitlines()[-1:])
+            record(f"trace 4: allocation {nth} refused {' '.join(options)}", outcome is not None, f"{found}")
+            met.add(outcome)
+        record(f"trace 4: memory is refused {' '.join(options)}", {"whole", "out of memory"} <= met, f"{met}")
+
+
+def pieces(record, preloaded, folder):
+    library = preloaded(folder, "pieces")
+    data = small_traces()[1]
+    whole = run(["replay", "-"], data)
+    for size in ("1", "3", "20"):
+        found = run(["replay", "-"], data, env={**os.environ, "LD_PRELOAD": str(library), "PIECE": size})
+        record(f"trace 4: reads of {size} bytes", found == whole, f"{found}, {whole}")
+    count = 0
+    for nth, found, has_failed in each_failed(library, folder, "FAIL_READ", "FAIL_FOUND", lambda env: run(["replay", "-"], data, env={**env, "PIECE": "20"})):
+        record(f"trace 4: read {nth} failed", found == ((b"", b"read fault\n", 4) if has_failed else whole), f"{found}")
+        count += has_failed
+    record("trace 4: reads that fail", count >= len(data) // 20, f"{count}")
+
+
+# ---- The documents
+
+def example(record):
+    """The bytes of docs/FORMATS.md, and the text below them."""
+    section = (TOP / "docs/FORMATS.md").read_text().split("\n## Trace 4\n", 1)[1].split("\n## ", 1)[0]
+    rows, text = re.findall(r"```text\n(.*?)```", section, re.S)[-2:]
+    data = bytes.fromhex("".join(re.match(r"(?:[0-9a-f]{2}(?: |$))*", row)[0] for row in rows.splitlines()))
+    found = trace4.text_of(data)
+    record("trace 4: the example of the formats", found.decode() == text and trace4.is_binary(data), f"{found}")
+    found = run(["print", "-"], data)
+    record("trace 4: the example of the formats, printed", found == (text.encode(), b"", 0), f"{found}")
+
+
+def tests(record, preloaded):
+    with tempfile.TemporaryDirectory() as folder:
+        example(record)
+        same_reports(record)
+        long_traces(record)
+        cut_and_flipped(record)
+        built(record)
+        refusals(record, preloaded, folder)
+        pieces(record, preloaded, folder)
+
+
+if __name__ == "__main__":
+    run_alone(tests, preloaded)
