@@ -6,7 +6,7 @@ _eraser_record() {
     while ((place < COMP_CWORD)); do
         case ${COMP_WORDS[place]} in
         --) place=$((place + 1)) && break ;;
-        --output | -o | --report | --suppress | --analysis | --format | --exit-status | --runs | --limit | --root)
+        --output | -o | --report | --suppress | --analysis | --format | --exit-status | --runs | --trace | --limit | --root)
             option=${COMP_WORDS[place]}
             [ "${COMP_WORDS[place + 1]}" != = ] || place=$((place + 1))
             place=$((place + 2))
@@ -22,7 +22,7 @@ _eraser_record() {
         return
     elif ((place == COMP_CWORD)); then
         case $word in
-        -*) _eraser_record_words "--output --replay --report --suppress --analysis --explain --by-site --format --strict --until-fault --exit-status --shake --runs --order --limit --root --paths --quiet --help --version -o -q -h -V" ;;
+        -*) _eraser_record_words "--output --replay --report --suppress --analysis --explain --by-site --format --strict --until-fault --exit-status --shake --runs --order --trace --stacks --limit --root --paths --quiet --help --version -o -q -h -V" ;;
         *) _eraser_record_programs ;;
         esac
         return
@@ -34,6 +34,7 @@ _eraser_record() {
     --analysis) _eraser_record_words "lockset happens-before both" ;;
     --format) _eraser_record_words "text json sarif html" ;;
     --exit-status) _eraser_record_words "program report" ;;
+    --trace) _eraser_record_words "3 4" ;;
     esac
 }
 

@@ -6,7 +6,7 @@ function __eraser_record_before_program
     set -e words[1]
     while set -q words[1]
         switch $words[1]
-            case --output -o --report --suppress --analysis --format --exit-status --runs --limit --root
+            case --output -o --report --suppress --analysis --format --exit-status --runs --trace --limit --root
                 set -e words[1]
             case '-*'
             case '*'
@@ -17,7 +17,7 @@ function __eraser_record_before_program
     return 0
 end
 
-complete -c eraser-record -x -a '(__fish_complete_subcommand -- --output -o --report --suppress --analysis --format --exit-status --runs --limit --root)'
+complete -c eraser-record -x -a '(__fish_complete_subcommand -- --output -o --report --suppress --analysis --format --exit-status --runs --trace --limit --root)'
 
 complete -c eraser-record -n __eraser_record_before_program -s o -l output -r -F -d 'Keep the trace in FILE, and replay nothing; a folder takes that of each program'
 complete -c eraser-record -n __eraser_record_before_program -l replay -d 'With -o: replay as well'
@@ -33,7 +33,9 @@ complete -c eraser-record -n __eraser_record_before_program -l exit-status -x -a
 complete -c eraser-record -n __eraser_record_before_program -l shake -d 'Let threads wait for short random times before they acquire, signal or start, so that more of them meet; --shake=SEED repeats them'
 complete -c eraser-record -n __eraser_record_before_program -l runs -x -d 'Run the program N times, and report of each site in how many of the runs it was reported'
 complete -c eraser-record -n __eraser_record_before_program -l order -d 'Record what orders threads as well: starts and joins, semaphores, atomic operations ..'
-complete -c eraser-record -n __eraser_record_before_program -l limit -x -d 'Of a trace that is kept: keep at most BYTES of text; 0: no limit. With -o the default is 268435456'
+complete -c eraser-record -n __eraser_record_before_program -l trace -x -a '3 4' -d 'Write the trace as text 3 (the default), or in the binary form 4, which is shorter; eraser print shows it as text'
+complete -c eraser-record -n __eraser_record_before_program -l stacks -d 'Record the calls in which each event is made, and report accesses in system headers at the line that called them; needs --trace 4'
+complete -c eraser-record -n __eraser_record_before_program -l limit -x -d 'Of a trace that is kept: keep at most BYTES of it; 0: no limit. With -o the default is 268435456'
 complete -c eraser-record -n __eraser_record_before_program -l root -x -a '(__fish_complete_directories)' -d 'Name sites by their paths below DIR. The default is the folder that has all sources of the program'
 complete -c eraser-record -n __eraser_record_before_program -l paths -d 'Name sites by their paths as the compiler has them'
 complete -c eraser-record -n __eraser_record_before_program -s q -l quiet -d 'Say nothing on standard error beside the report, unless something went wrong'
