@@ -225,17 +225,19 @@ def workers(record, preloaded):
             env = {**os.environ, "LD_PRELOAD": str(library), "REFUSE_THREAD": str(nth), "THREADS_NOTED": str(noted)}
             return run(["replay", "--workers", count, "-"], text_of(trace), env=env), noted.read_text()
 
-        # All of them read a batch, and then all of them answer it. It is as long for each number.
+        # Half of them read a batch while the others answer the one before.
         started = []
         for count in range(4, 17):
             found, notes = noting(count, trace, 0)
             record(f"limits: {count} workers", found == (text_of([totals(trace)]), b"", 0), f"{found}")
             started.append(notes.count("s"))
         record("limits: each worker has threads of its own", all(fewer < more for fewer, more in zip(started, started[1:])), f"{started}")
+        # Half of them answer, each of which is made in a thread of its own. A later thread's work is done by the one that asked for it.
         for count in (2, 3, 8, 16):
-            for nth in (1, count):
+            for nth in {1, count // 2, count // 2 + 1}:
                 for lines in (short, trace):
-                    for last, wanted in (([], (b"", b"worker not started\n", 3)), (["t1 hop"], (b"", f"line {len(lines) + 1}: bad verb\n".encode(), 2))):
+                    refused = (b"", b"worker not started\n", 3) if nth <= count // 2 else (text_of([totals(lines)]), b"", 0)
+                    for last, wanted in (([], refused), (["t1 hop"], (b"", f"line {len(lines) + 1}: bad verb\n".encode(), 2))):
                         found, notes = noting(count, [*lines, *last], nth)
                         is_right = found == wanted and "r" in notes and notes.count("s") == notes.count("j")
                         record(f"limits: {count} workers without thread {nth}, {len(lines)} lines {last}", is_right, f"{found}, {notes}"[:1000])

@@ -1163,7 +1163,7 @@ def fresh_copy(folder, findings):
         found = command([copy / "build"], env={**os.environ, "CC": compiler})
         made = sorted(path.name for path in (copy / "out").iterdir())
         clean = (found.returncode, found.stdout, found.stderr) == (0, "", "")
-        findings.check(f"it is built by {compiler} without a warning", clean and made == ["liberaser_record.so", "libtsan.so.2", "lock", "writer"], f"{found} {made}")
+        findings.check(f"it is built by {compiler} without a warning", clean and made == ["liberaser_record.so", "libtsan.so.2", "lock", "stacks", "writer"], f"{found} {made}")
     writer = copy / "out/writer"
     for changed in (None, "ring.h"):
         before = writer.stat().st_ino
