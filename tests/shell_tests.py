@@ -410,7 +410,7 @@ def installed_program_tests(record, prefix, folder):
 
 def tests(record):
     top, commands, options, values = told()
-    record("what --help says is read", {"replay", "explain", "demo", "help"} == set(commands) and len(options["replay"]) > 4 and ("demo", "<NAME>") in values, f"{options}, {values}")
+    record("what --help says is read", {"replay", "explain", "print", "demo", "help"} == set(commands) and len(options["replay"]) > 4 and ("demo", "<NAME>") in values, f"{options}, {values}")
     bash_tests(record, commands, options, values)
     file_tests(record, commands, options, values)
     manual_tests(record, top, commands, options, values)
