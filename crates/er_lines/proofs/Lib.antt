@@ -6,6 +6,7 @@ pub mod WholeLemmas
 pub mod WordLemmas
 pub mod WindowLemmas
 pub mod NumberLemmas
+pub mod DigitLemmas
 pub mod LendingLemmas
 pub mod TurnLemmas
 pub mod SpelledLemmas

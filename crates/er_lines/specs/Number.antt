@@ -1,7 +1,7 @@
--- The number that a word writes.
-use Rattle.std.specs.Prelude.{ℕ, ◌^◌, ◌==◌, ◌&&◌, Bool, List, ◌∷◌, Option, Some, None, nat_lt, unwrap_or, if◌then◌else◌}
+-- The number that a word writes, and the hexadecimal digits of a number.
+use Rattle.std.specs.Prelude.{ℕ, zero, suc, ◌/◌, ◌%◌, ◌^◌, ◌==◌, ◌&&◌, Bool, List, [], ◌∷◌, ◌++◌, Option, Some, None, nat_lt, unwrap_or, if◌then◌else◌}
 use Rattle.std.specs.List.{list_all}
-use Rattle.std.specs.Char.{is_digit}
+use Rattle.std.specs.Char.{digit_char, is_digit}
 use Rattle.std.specs.Str.Parse.{digits_value}
 use Rattle.std.specs.Option.{is_some}
 use Rattle.er_lines.specs.Lines.{has_bytes, word_at}
@@ -23,3 +23,8 @@ number_at i operands = unwrap_or (number_of (word_at i operands)) 0
 
 abbrev pub is_number_at : ℕ → List (List ℕ) → Bool
 is_number_at i operands = is_some (number_of (word_at i operands))
+
+-- so many lower-case hexadecimal digits, of which the last is the lowest
+unfoldable pub hex_digits : ℕ → ℕ → List ℕ
+hex_digits zero n = []
+hex_digits (suc k) n = hex_digits k (n / 16) ++ digit_char (n % 16) ∷ []

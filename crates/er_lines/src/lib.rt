@@ -27,7 +27,7 @@ pub use lines::{FrontLine, LineReader};
 pub use naming::{
     is_lock_name, is_name, is_site_name, lock_name_of, name_of, name_text, site_text,
 };
-pub use numbers::{number_of, value_in};
+pub use numbers::{hex_digit, number_of, put_hex, put_number, value_in};
 pub use words::{Words, number, split_words};
 
 mod bytes;

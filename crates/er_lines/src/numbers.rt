@@ -1,7 +1,10 @@
-//! The numbers that words write.
-ghost use Rattle.std.specs.Prelude.{◌≡◌, ◌<◌, ◌≤◌};
-ghost use Rattle.std.specs.Char.{digit_value};
-ghost use Rattle.er_lines.specs.Number.{number_of, value_in};
+//! The numbers that words write, and the digits that write a number.
+ghost use Rattle.std.specs.Prelude.{◌≡◌, ◌++◌, ◌<◌, ◌≤◌, OnOk, decimal};
+ghost use Rattle.std.specs.Char.{digit_char, digit_value};
+ghost use Rattle.er_lines.specs.Number.{hex_digits, number_of, value_in};
+
+use itoa::Buffer;
+use std::alloc::AllocError;
 
 /// The value of a digit, or 36.
 #[inline(always)]
@@ -44,5 +47,38 @@ pub fn number_of(word: &[u8]) -> Option<u64>
     match word {
         [b'0', b'x', digits @ ..] => value_in(16, digits),
         _ => value_in(10, word),
+    }
+}
+
+/// Puts a number in decimal, without leading zeros.
+#[inline]
+pub fn put_number(out: &mut Vec<u8>, n: u64) -> Result<(), AllocError>
+    ensures { OnOk result (out.new.items ≡ out.old.items ++ decimal n) }
+{
+    let mut digits = Buffer::new();
+    out.extend_from_slice(digits.format(n).as_bytes())
+}
+
+/// Puts the last hexadecimal digits of a number, as many as `count`.
+pub fn put_hex(out: &mut Vec<u8>, count: u32, n: u64) -> Result<(), AllocError>
+    ensures { OnOk result (out.new.items ≡ out.old.items ++ hex_digits count n) }
+{
+    if count == 0 {
+        return Ok(());
+    }
+    put_hex(out, count - 1, n / 16)?;
+    out.push(hex_digit((n % 16) as u8))?;
+    Ok(())
+}
+
+/// The hexadecimal digit of a number below 16, in lower case.
+pub fn hex_digit(digit: u8) -> u8
+    requires { digit < 16 }
+    ensures { result ≡ digit_char digit }
+{
+    if digit < 10 {
+        b'0' + digit
+    } else {
+        b'a' + (digit - 10)
     }
 }
