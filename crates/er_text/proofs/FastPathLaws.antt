@@ -12,7 +12,9 @@ use Rattle.std.proofs.lemmas.List.Folds.{list_all-append}
 use Rattle.std.proofs.lemmas.List.Splits.{slice_split_at, slice_split_none}
 use Rattle.std.proofs.lemmas.List.Sums.{AllPass-from_list_all, list_all-from_AllPass}
 use Rattle.er_event.specs.declared.steps.Kind.{Kind}
+use Rattle.er_event.specs.declared.steps.Kind.TheVariants.{Read, Write}
 use Rattle.er_event.specs.declared.steps.Mode.{Mode}
+use Rattle.er_event.specs.declared.steps.Mode.TheVariants as mode
 use Rattle.er_text.specs.declared.verbs.Version.{Version}
 use Rattle.er_lines.specs.Lines.{is_gap, is_ascii, is_comment, has_bytes, words, word_at}
 use Rattle.er_lines.specs.Number.{number_of}
@@ -27,7 +29,7 @@ use Rattle.er_text.specs.Trace.{acquire_word, release_word, kind_word}
 use Rattle.er_text.specs.Inner.Parsing.{parsed_of}
 use Rattle.er_text.specs.Inner.Idle.{last_actor, without_idle, order_fault, waits_for, is_known_name}
 use Rattle.er_text.specs.Inner.Traces.{Progress, past_event, add_event, add_parsed, closed, read_words, plain_at}
-use Rattle.er_text.specs.Inner.FastPath.{IsLeadingName, AreLeadingDigits, IsLeadingWord, IsFastAccess, IsFastOperation, IsFastLine}
+use Rattle.er_text.specs.Inner.FastPath.{IsLeadingName, AreLeadingDigits, IsLeadingWord, IsFastAccess, IsFastLockEvent, IsFastOperation, IsFastLine, lock_word}
 use Rattle.er_lines.proofs.ByteLemmas.{name_ascii, site_ascii}
 use Rattle.er_text.proofs.SiteLemmas.{site_parts}
 use Rattle.er_text.proofs.ParsingAgain.{says_parsed}
@@ -204,6 +206,19 @@ unlock_tells v m bytes rest operation ascii whole named told =
       alone = refl;
       one = λ line thread r. last_added r.steps _;
     })
+
+-- the verb of an access in front, and a space behind it
+pub access_led : (v : Version) (k : Kind) (bytes rest : List ℕ) (operation : Operation) → bytes ≡ kind_word k ++ 32 ∷ rest → IsFastAccess v k rest operation → IsFastOperation v bytes operation
+access_led v Read bytes rest operation is a = access_tells v Read bytes rest operation (ap (list_all is_ascii) is) (ap words is) a
+access_led v Write bytes rest operation is a = access_tells v Write bytes rest operation (ap (list_all is_ascii) is) (ap words is) a
+
+-- and that of a lock event
+pub lock_event_led : (v : Version) (acquires : Bool) (m : Mode) (bytes rest : List ℕ) (operation : Operation) → bytes ≡ lock_word acquires m ++ 32 ∷ rest
+    → IsFastLockEvent acquires m rest operation → IsFastOperation v bytes operation
+lock_event_led v true mode.Write bytes rest operation is a = lock_tells v mode.Write bytes rest operation (ap (list_all is_ascii) is) (ap words is) a.0 a.1
+lock_event_led v true mode.Read bytes rest operation is a = lock_tells v mode.Read bytes rest operation (ap (list_all is_ascii) is) (ap words is) a.0 a.1
+lock_event_led v false mode.Write bytes rest operation is a = unlock_tells v mode.Write bytes rest operation (ap (list_all is_ascii) is) (ap words is) a.0 a.1
+lock_event_led v false mode.Read bytes rest operation is a = unlock_tells v mode.Read bytes rest operation (ap (list_all is_ascii) is) (ap words is) a.0 a.1
 
 pub missing_site : (v : Version) (site dash : List ℕ) → is_site_word v site ≡ true → true ≡ bytes_eq site dash → dash ≡ codes "-" → IsSiteWord v site None
 missing_site v site dash named same is =

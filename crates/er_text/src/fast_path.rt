@@ -7,7 +7,8 @@ ghost use Rattle.std.specs.Prelude.{◌≡◌, ◌+◌, ◌<◌, ◌≤◌, ◌�
 ghost use Rattle.std.specs.List.{list_all, position_or_len};
 ghost use Rattle.std.specs.Char.{digit_value};
 ghost use Rattle.er_lines.specs.Naming.{is_name_byte};
-ghost use Rattle.er_text.specs.Inner.FastPath.{IsLeadingName, HexSoFar, AreLeadingDigits, IsLeadingWord, IsFastAccess, IsFastAcquire, IsFastRelease, IsFastOperation, IsFastLine, AddsOperation, AddsLine};
+ghost use Rattle.er_text.specs.Inner.FastPath.{IsLeadingName, HexSoFar, AreLeadingDigits, IsLeadingWord, IsFastAccess, IsFastLockEvent, IsFastOperation, IsFastLine, AddsOperation, AddsLine, lock_word};
+ghost use Rattle.er_text.specs.Trace.{kind_word};
 
 use crate::adding::{add_access, add_acquire, add_lone_access, add_release};
 use crate::naming::is_site_word;
@@ -56,68 +57,30 @@ fn after_hex(bytes: &[u8]) -> Option<&[u8]>
     }
 }
 
-/// What follows `read ` in front.
+/// The kind of the access whose verb and a space stand in front, and what follows them.
 #[inline(always)]
-fn after_read(bytes: &[u8]) -> Option<&[u8]>
-    ensures { IfSome result (λ rest. bytes.now ≡ codes "read " ++ rest.now) }
+fn leading_kind(bytes: &[u8]) -> Option<(Kind, &[u8])>
+    ensures { IfSome result (λ parts. bytes.now ≡ kind_word parts.0 ++ 32 ∷ parts.1.now) }
 {
     match bytes {
-        [b'r', b'e', b'a', b'd', b' ', rest @ ..] => Some(rest),
+        [b'r', b'e', b'a', b'd', b' ', rest @ ..] => Some((Kind::Read, rest)),
+        [b'w', b'r', b'i', b't', b'e', b' ', rest @ ..] => Some((Kind::Write, rest)),
         _ => None,
     }
 }
 
-/// What follows `write ` in front.
+/// Whether the lock event whose verb and a space stand in front is an acquire, its mode, and what follows them.
 #[inline(always)]
-fn after_write(bytes: &[u8]) -> Option<&[u8]>
-    ensures { IfSome result (λ rest. bytes.now ≡ codes "write " ++ rest.now) }
+fn leading_lock_verb(bytes: &[u8]) -> Option<(bool, Mode, &[u8])>
+    ensures { IfSome result (λ parts. bytes.now ≡ lock_word parts.0 parts.1 ++ 32 ∷ parts.2.now) }
 {
     match bytes {
-        [b'w', b'r', b'i', b't', b'e', b' ', rest @ ..] => Some(rest),
-        _ => None,
-    }
-}
-
-/// What follows `lock ` in front.
-#[inline(always)]
-fn after_lock(bytes: &[u8]) -> Option<&[u8]>
-    ensures { IfSome result (λ rest. bytes.now ≡ codes "lock " ++ rest.now) }
-{
-    match bytes {
-        [b'l', b'o', b'c', b'k', b' ', rest @ ..] => Some(rest),
-        _ => None,
-    }
-}
-
-/// What follows `unlock ` in front.
-#[inline(always)]
-fn after_unlock(bytes: &[u8]) -> Option<&[u8]>
-    ensures { IfSome result (λ rest. bytes.now ≡ codes "unlock " ++ rest.now) }
-{
-    match bytes {
-        [b'u', b'n', b'l', b'o', b'c', b'k', b' ', rest @ ..] => Some(rest),
-        _ => None,
-    }
-}
-
-/// What follows `rlock ` in front.
-#[inline(always)]
-fn after_rlock(bytes: &[u8]) -> Option<&[u8]>
-    ensures { IfSome result (λ rest. bytes.now ≡ codes "rlock " ++ rest.now) }
-{
-    match bytes {
-        [b'r', b'l', b'o', b'c', b'k', b' ', rest @ ..] => Some(rest),
-        _ => None,
-    }
-}
-
-/// What follows `runlock ` in front.
-#[inline(always)]
-fn after_runlock(bytes: &[u8]) -> Option<&[u8]>
-    ensures { IfSome result (λ rest. bytes.now ≡ codes "runlock " ++ rest.now) }
-{
-    match bytes {
-        [b'r', b'u', b'n', b'l', b'o', b'c', b'k', b' ', rest @ ..] => Some(rest),
+        [b'l', b'o', b'c', b'k', b' ', rest @ ..] => Some((true, Mode::Write, rest)),
+        [b'u', b'n', b'l', b'o', b'c', b'k', b' ', rest @ ..] => Some((false, Mode::Write, rest)),
+        [b'r', b'l', b'o', b'c', b'k', b' ', rest @ ..] => Some((true, Mode::Read, rest)),
+        [b'r', b'u', b'n', b'l', b'o', b'c', b'k', b' ', rest @ ..] => {
+            Some((false, Mode::Read, rest))
+        }
         _ => None,
     }
 }
@@ -259,27 +222,26 @@ fn add_usual_access(
     }
 }
 
-/// Adds the acquire of the lock that stands behind the verb, and says whether it did.
+/// Adds the acquire or the release of the lock that stands behind the verb, and says whether it did.
 #[inline(always)]
-fn add_usual_acquire(trace: &mut Trace, line: u64, thread: &str, mode: Mode, bytes: &[u8]) -> Added
-    ensures { AddsOperation (IsFastAcquire mode bytes.now) line thread.now trace.old trace.new result }
+fn add_usual_lock_event(
+    trace: &mut Trace,
+    line: u64,
+    thread: &str,
+    acquires: bool,
+    mode: Mode,
+    bytes: &[u8],
+) -> Added
+    ensures { AddsOperation (IsFastLockEvent acquires mode bytes.now) line thread.now trace.old trace.new result }
 {
     if !is_lock_name(bytes) {
         return Ok(false);
     }
-    add_acquire(trace, line, thread, name_text(bytes), mode)?;
-    Ok(true)
-}
-
-/// Adds the release of the lock that stands behind the verb, and says whether it did.
-#[inline(always)]
-fn add_usual_release(trace: &mut Trace, line: u64, thread: &str, mode: Mode, bytes: &[u8]) -> Added
-    ensures { AddsOperation (IsFastRelease mode bytes.now) line thread.now trace.old trace.new result }
-{
-    if !is_lock_name(bytes) {
-        return Ok(false);
+    if acquires {
+        add_acquire(trace, line, thread, name_text(bytes), mode)?;
+    } else {
+        add_release(trace, line, thread, name_text(bytes), mode)?;
     }
-    add_release(trace, line, thread, name_text(bytes), mode)?;
     Ok(true)
 }
 
@@ -294,33 +256,15 @@ fn add_usual_operation(
 ) -> Added
     ensures { AddsOperation (IsFastOperation version bytes.now) line thread.now trace.old trace.new result }
 {
-    if let Some(rest) = after_read(bytes) {
-        return add_usual_access(trace, version, line, thread, Kind::Read, rest);
+    if let Some((kind, rest)) = leading_kind(bytes) {
+        return add_usual_access(trace, version, line, thread, kind, rest);
     }
-    if let Some(rest) = after_write(bytes) {
-        return add_usual_access(trace, version, line, thread, Kind::Write, rest);
+    match leading_lock_verb(bytes) {
+        Some((acquires, mode, rest)) => {
+            add_usual_lock_event(trace, line, thread, acquires, mode, rest)
+        }
+        None => Ok(false),
     }
-    if let Some(rest) = after_lock(bytes) {
-        return add_usual_acquire(trace, line, thread, Mode::Write, rest);
-    }
-    if let Some(rest) = after_unlock(bytes) {
-        return add_usual_release(trace, line, thread, Mode::Write, rest);
-    }
-    add_usual_read_lock(trace, line, thread, bytes)
-}
-
-/// Adds the acquire or the release of a lock in read mode, and says whether it did.
-#[inline(always)]
-fn add_usual_read_lock(trace: &mut Trace, line: u64, thread: &str, bytes: &[u8]) -> Added
-    ensures { (version : Version) → AddsOperation (IsFastOperation version bytes.now) line thread.now trace.old trace.new result }
-{
-    if let Some(rest) = after_rlock(bytes) {
-        return add_usual_acquire(trace, line, thread, Mode::Read, rest);
-    }
-    if let Some(rest) = after_runlock(bytes) {
-        return add_usual_release(trace, line, thread, Mode::Read, rest);
-    }
-    Ok(false)
 }
 
 /// Adds the step of a line in its usual form, and says whether it did. A line of another form adds nothing.

@@ -424,29 +424,6 @@ fn read_into<R: Read>(
     read
 }
 
-// Reads a text to its end.
-fn read_all<R: Read>(
-    alloc: Global,
-    reader: &mut Device<R>,
-    byte_limit: u64,
-    keys: NameKeys,
-) -> Result<Trace, ReadFault>
-    requires open { has_failed reader.old ≡ false }
-    requires limit { byte_limit ≤ 2 ^ 62 }
-    ensures outcome { IfSome (R.remaining (inner_of reader.old)) (λ text. IsOutcome (read_text byte_limit text) result) }
-    ensures failed { HasFailedBy (has_failed reader.new) result }
-    ensures taken { taken_of reader.new ≤ taken_of reader.old + byte_limit + bytes_past_limit }
-{
-    let mut trace = Trace::keyed(alloc, keys);
-    match read_into(alloc, reader, byte_limit, &mut trace) {
-        Ok(()) => Ok(trace),
-        Err(why) => {
-            drop(trace);
-            Err(why)
-        }
-    }
-}
-
 /// Reads a trace text to its end, or to its first faulty line, in whatever pieces it comes.
 ///
 /// The text has at most `byte_limit` bytes, and the limit is at most 2^62. What follows a faulty line may or may not have been taken
@@ -482,5 +459,12 @@ pub fn read_trace_keyed<R: Read>(
     ensures failed { HasFailedBy (has_failed reader.new) result }
     ensures taken { taken_of reader.new ≤ taken_of reader.old + byte_limit + bytes_past_limit }
 {
-    read_all(alloc, reader, byte_limit, keys)
+    let mut trace = Trace::keyed(alloc, keys);
+    match read_into(alloc, reader, byte_limit, &mut trace) {
+        Ok(()) => Ok(trace),
+        Err(why) => {
+            drop(trace);
+            Err(why)
+        }
+    }
 }

@@ -1,5 +1,5 @@
 -- What is known of an event line in its usual form. No public clause cites this module.
-use Rattle.std.specs.Prelude.{◌≡◌, ℕ, ◌+◌, ◌*◌, ◌/◌, ◌^◌, ◌<◌, ◌≤◌, Bool, true, false, List, ◌∷◌, ◌++◌, Option, Some, None, Result, Ok, Err, length, take, drop, codes}
+use Rattle.std.specs.Prelude.{◌≡◌, ℕ, ◌+◌, ◌*◌, ◌/◌, ◌^◌, ◌<◌, ◌≤◌, Bool, true, false, List, ◌∷◌, ◌++◌, Option, Some, None, Result, Ok, Err, length, take, drop, codes, if◌then◌else◌}
 use Rattle.std.specs.List.{list_all}
 use Rattle.std.specs.Char.{is_digit}
 use Rattle.std.specs.Str.Parse.{digits_value}
@@ -13,7 +13,7 @@ use Rattle.er_lines.specs.Naming.{is_name, is_lock_name}
 use Rattle.er_trace.specs.Trace.{Recording}
 use Rattle.er_trace.specs.Names.{number_of as place_of}
 use Rattle.er_text.specs.Events.{Operation, Acquires, Releases, Accesses, EventLine, with_operation, with_line}
-use Rattle.er_text.specs.Trace.{IsSite, IsOperation, Says}
+use Rattle.er_text.specs.Trace.{IsSite, IsOperation, Says, acquire_word, release_word}
 use Rattle.er_text.specs.Inner.Idle.{other_thread, last_actor}
 use Rattle.er_text.specs.Inner.Traces.{at_line, plain_at}
 
@@ -59,13 +59,14 @@ pub record IsFastAccess (v : Version) (k : Kind) (bytes : List ℕ) (operation :
   pub names : IsSite v behind site
   pub is : operation ≡ Accesses k (n / 4) site
 
--- behind the verb of an acquire in this mode
-abbrev pub IsFastAcquire : Mode → List ℕ → Operation → Type 0
-IsFastAcquire m bytes operation = (is_lock_name bytes ≡ true) × (operation ≡ Acquires bytes m)
+-- the verb of an acquire in this mode, or of a release
+abbrev pub lock_word : Bool → Mode → List ℕ
+lock_word true m = acquire_word m
+lock_word false m = release_word m
 
--- behind the verb of a release in this mode
-abbrev pub IsFastRelease : Mode → List ℕ → Operation → Type 0
-IsFastRelease m bytes operation = (is_lock_name bytes ≡ true) × (operation ≡ Releases bytes m)
+-- behind such a verb
+abbrev pub IsFastLockEvent : Bool → Mode → List ℕ → Operation → Type 0
+IsFastLockEvent acquires m bytes operation = (is_lock_name bytes ≡ true) × (operation ≡ (if acquires then Acquires bytes m else Releases bytes m))
 
 -- behind a thread
 pub record IsFastOperation (v : Version) (bytes : List ℕ) (operation : Operation) : Type 0 where
