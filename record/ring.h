@@ -9,7 +9,7 @@
 #include <stdatomic.h>
 #include <stdint.h>
 
-#define RING_MAGIC 0x36676e6972617265u /* "eraring6" in memory */
+#define RING_MAGIC 0x37676e6972617265u /* "eraring7" in memory */
 #define RING_BITS 18
 #define RING_SLOTS (1u << RING_BITS)
 #define RING_MASK (RING_SLOTS - 1)
@@ -33,8 +33,8 @@ enum event_kind {
     EVENT_VOID,       /* nothing: the slot of an event that was given up */
     EVENT_READ,       /* first: address, size: bytes, second: program counter */
     EVENT_WRITE,      /* the same */
-    EVENT_LOCK,       /* first: lock, acquired in write mode, size: enum lock_kind, second: program counter, or 0 */
-    EVENT_READ_LOCK,  /* first: lock, acquired in read mode, size: enum lock_kind, second: the same */
+    EVENT_LOCK,       /* first: lock, acquired in write mode, size: enum lock_kind and perhaps LOCK_TRIED, second: program counter, or 0 */
+    EVENT_READ_LOCK,  /* the same in read mode */
     EVENT_UNLOCK,     /* first: lock, released in whichever mode the thread holds it, size: enum lock_kind and perhaps LOCK_FAILED, second: program counter */
     EVENT_LOCK_TWICE, /* first: lock that the thread holds and waits for, which lasts for ever; size: enum lock_kind, second: program counter */
     EVENT_LOCK_BEGIN, /* first: lock that begins a new life */
@@ -43,7 +43,7 @@ enum event_kind {
     EVENT_FREE,       /* the same of a call that ends the lives of locks there */
     EVENT_IGNORE_ON,
     EVENT_IGNORE_OFF,
-    EVENT_THREAD,     /* first: the thread's pthread_t */
+    EVENT_THREAD,     /* first: the thread's pthread_t, second: program counter of the call that created it, or 0, size: the calls around that, as slot_stack() has them */
     EVENT_NAME_WHOM,  /* first: pthread_t of the thread that the next EVENT_NAME of this thread names */
     EVENT_NAME,       /* first and second: 16 bytes of text */
     EVENT_MAPS_BEGIN, /* the text of /proc/self/maps follows */
@@ -59,9 +59,9 @@ enum event_kind {
     EVENT_OBJECT_END, /* first: object whose life ends */
     EVENT_BARRIER,    /* first: barrier whose life begins, second: how many threads it lets go at a time, 0 if others may come to it */
     EVENT_FENCE,      /* size: FENCE_ACQUIRES, FENCE_RELEASES or both, second: program counter, as in the rest */
-    EVENT_STORED,     /* first: atomic, stored by an operation that doesn't release, in a thread that has released by a fence */
+    EVENT_STORED,     /* first: atomic, stored by an operation that doesn't release, in a thread that has released by a fence, or if the ring asks for flow */
     EVENT_LET_GO,     /* first: object that a holder lets go, size: enum object_kind: it signals and awaits it, if anybody has signalled it before */
-    EVENT_LOADED,     /* first: atomic, loaded by an operation that doesn't acquire, in a program that has fences */
+    EVENT_LOADED,     /* first: atomic, loaded by an operation that doesn't acquire, size: LOADS_FOR_FENCES, LOADS_FOR_FLOW or both */
 };
 
 /* Of these events `second` is the program counter of a call, or 0. */
@@ -75,8 +75,10 @@ enum event_kind {
 
 enum lock_kind { LOCK_MUTEX, LOCK_RWLOCK, LOCK_SPIN, LOCK_USER };
 #define LOCK_KINDS 4
-/* The release failed, and whoever held the lock holds it still. */
+/* The call failed: a release, and whoever held the lock holds it still; or an acquire that never waits, if the ring asks for flow. */
 #define LOCK_FAILED 4
+/* An acquire by a call that never waits. */
+#define LOCK_TRIED 8
 
 /* What threads signal and await. */
 enum object_kind { OBJECT_ATOMIC, OBJECT_SEMAPHORE, OBJECT_BARRIER, OBJECT_CONDITION, OBJECT_ONCE, OBJECT_USER, OBJECT_FENCE, OBJECT_EXCEPTION, OBJECT_PIPE, OBJECT_REGION };
@@ -84,6 +86,10 @@ enum object_kind { OBJECT_ATOMIC, OBJECT_SEMAPHORE, OBJECT_BARRIER, OBJECT_CONDI
 
 #define FENCE_ACQUIRES 1
 #define FENCE_RELEASES 2
+
+/* For what loads that don't acquire are recorded. */
+#define LOADS_FOR_FENCES 1
+#define LOADS_FOR_FLOW 2
 
 /* Other files find locks, threads and the like in the C library, and not in the recorder's. Or they find another `free`. */
 #define UNSEEN_LOCKS 1u
@@ -146,6 +152,7 @@ struct ring {
     uint64_t magic;
     uint32_t writer; /* process id */
     uint32_t orders; /* not 0: what orders threads is recorded as well */
+    uint32_t flows;  /* not 0: what threads learn from each other without an order is recorded as well */
     uint32_t shakes; /* not 0: threads wait at random, as `seed` says */
     uint64_t seed;
     _Atomic uint32_t stop;       /* the writer takes no more events */

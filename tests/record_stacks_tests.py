@@ -33,18 +33,19 @@ LEFT_OUT = "calls-left-out"
 MOST_CALLS = 256
 
 
-def build(folder, source, compiler, level):
-    """Builds a program, and its second file as C. Gives its path and what the compilers said."""
-    program = folder / f"{source.stem}-{compiler}{level}"
+def build(folder, findings, source, compiler, level, *more, name=None):
+    """Builds a program, and its second file as C. The compiler must have nothing to say."""
+    program = folder / f"{name or source.stem}-{compiler}{level}"
     settings = {**os.environ, "ERASER_CC": compiler, "ERASER_CXX": {"gcc": "g++", "clang": "clang++"}[compiler]}
-    files, said = [source], ""
+    files, said = [source, *more], ""
     if source.stem in PARTS:
         part = folder / f"{program.name}.o"
         said += command([TOP / "record/cc", level, *record_tests.WARNINGS, "-c", PROGRAMS / PARTS[source.stem], "-o", part], env=settings).stderr
         files.append(part)
     wrapper = TOP / "record" / ("c++" if source.suffix == ".cpp" else "cc")
     said += command([wrapper, level, *record_tests.WARNINGS, *files, "-o", program], env=settings).stderr
-    return program, said
+    findings.check(f"{program.name} is built", said == "", said)
+    return program
 
 
 def lines_of(source):
@@ -94,8 +95,7 @@ def name_of(place, source, marks):
 # ---- The programs
 
 def says_what_it_does(folder, findings, source, compiler, level):
-    program, said = build(folder, source, compiler, level)
-    findings.check(f"{program.name} is built", said == "", said)
+    program = build(folder, findings, source, compiler, level)
     of_events = source.stem == "events"
     recording = Recording(folder, program, *["--order"] * of_events)
     wrong = set(recording.stacks(source, of_events)) ^ expected(source, "EVENT" if of_events else "STACK")
@@ -103,13 +103,17 @@ def says_what_it_does(folder, findings, source, compiler, level):
     findings.check(f"the calls of {program.name}", not fault, fault)
 
 
+def recorded(folder, findings, name, compiler, level):
+    """A program, its recording, and the stacks that this has."""
+    source = PROGRAMS / name
+    program = build(folder, findings, source, compiler, level)
+    recording = Recording(folder, program)
+    return source, program, recording, set(recording.stacks(source))
+
+
 def deep(folder, findings, compiler, level):
     """Deep calls are left out, and counted."""
-    source = PROGRAMS / "deep.c"
-    program, said = build(folder, source, compiler, level)
-    findings.check(f"{program.name} is built", said == "", said)
-    recording = Recording(folder, program)
-    found = set(recording.stacks(source))
+    source, program, recording, found = recorded(folder, findings, "deep.c", compiler, level)
     bottoms = {stack for stack in found if stack[0] == "bottom"}
     ends = [("calls", "main-few"), ("calls", "main-some"), ("calls", "main-many")]
     wanted = {("bottom", *["deeper"] * 20, *ends[0])} | {("bottom", LEFT_OUT, *["deeper"] * (MOST_CALLS - 3), *end) for end in ends[1:]}
@@ -120,11 +124,7 @@ def deep(folder, findings, compiler, level):
 
 
 def interrupted(folder, findings, compiler, level):
-    source = PROGRAMS / "interrupted.c"
-    program, said = build(folder, source, compiler, level)
-    findings.check(f"{program.name} is built", said == "", said)
-    recording = Recording(folder, program)
-    found = set(recording.stacks(source))
+    source, program, recording, found = recorded(folder, findings, "interrupted.c", compiler, level)
     handled = {stack for stack in found if stack[0] == "note"}
     findings.check(f"the handlers of {program.name}", handled and all(stack[1:3] == ("handles", "*") for stack in handled), f"{handled}"[:500])
     wrong = (found - handled) ^ expected(source)
@@ -134,8 +134,7 @@ def interrupted(folder, findings, compiler, level):
 def crowd(folder, findings, compiler, level):
     """Each thread has each stack: those of all ways down a tree."""
     source = PROGRAMS / "crowd.c"
-    program, said = build(folder, source, compiler, level)
-    findings.check(f"{program.name} is built", said == "", said)
+    program = build(folder, findings, source, compiler, level)
     trace, marks, found = Recording(folder, program).traces[0], lines_of(source), collections.defaultdict(set)
     for event in trace.events:
         stack = tuple(name_of(place.decode(), source, marks) for place, _ in trace.stack(event.node))
@@ -148,16 +147,16 @@ def crowd(folder, findings, compiler, level):
 def many(folder, findings):
     """More stacks than there is room for: a tree of calls has 2,097,151, and the one of main comes before them. What a second tree of 15 calls does is in
     main, and nobody knows by which calls."""
-    program, said = build(folder, PROGRAMS / "many.c", "gcc", "-O2")
-    findings.check("many is built", said == "", said)
+    program = build(folder, findings, PROGRAMS / "many.c", "gcc", "-O2")
     done = command([RUN, "-o", "/dev/null", "--limit", "0", "--trace", "4", "--stacks", program])
     findings.check("more stacks than there is room for", "record: 32 events lack their innermost calls: " in done.stderr and ", 0 lost\n" in done.stderr, done.stderr)
 
 
-def options(folder, findings):
-    done = command([RUN, "--stacks", "-o", folder / "text.trace", "true"])
-    wanted = "record: --stacks wants --trace 4: a text has no stacks\n"
-    findings.check("stacks in a text", (done.returncode, done.stdout, done.stderr) == (125, "", wanted) and not (folder / "text.trace").exists(), f"{done}")
+def refused(folder, findings, option, says):
+    """A text can't have what the option asks for, and nothing is recorded."""
+    done = command([RUN, option, "-o", folder / "text.trace", "true"])
+    is_told = (done.returncode, done.stdout, done.stderr) == (125, "", f"record: {option} wants --trace 4: {says}\n")
+    findings.check(f"{option} in a text", is_told and not (folder / "text.trace").exists(), f"{done}")
 
 
 def tests(record):
@@ -169,7 +168,7 @@ def tests(record):
         ways = [(compiler, level) for compiler in ("gcc", "clang") for level in LEVELS]
         done = [pool.submit(says_what_it_does, folder, findings, source, *way) for source in sources for way in ways]
         done += [pool.submit(test, folder, findings, *way) for test in (crowd, deep, interrupted) for way in ways]
-        done += [pool.submit(many, folder, findings), pool.submit(options, folder, findings)]
+        done += [pool.submit(many, folder, findings), pool.submit(refused, folder, findings, "--stacks", "a text has no stacks")]
         for one in done:
             one.result()
 

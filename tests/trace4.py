@@ -51,6 +51,8 @@ def block(number, count, records):
 
 Event = collections.namedtuple("Event", "thread kind is_write address size operand node")
 Node = collections.namedtuple("Node", "caller place flags")
+Variable = collections.namedtuple("Variable", "address size name")
+ThreadFact = collections.namedtuple("ThreadFact", "created_at name")
 
 
 class Damage(Exception):
@@ -66,6 +68,7 @@ class Trace:
     def __init__(self, data):
         self.data, self.lines, self.events, self.damage = data, [b"eraser trace 3"], [], None
         self.threads, self.locks, self.places, self.nodes = [], [], [], [None]
+        self.variables, self.thread_facts, self.lock_addresses = [], {}, {}
         self.kinds, self.bytes, self.blocks = collections.Counter(), collections.Counter(), 0
         self.lost, self.has_ended = 0, False
         try:
@@ -231,6 +234,25 @@ class Trace:
         elif kind == NOTE:
             self.check(len(content) <= 1000 and all(32 <= byte <= 126 for byte in content))
             self.lines.append(b"# " + content)
+        else:
+            self.read_fact(kind, content)
+
+    def read_fact(self, kind, content):
+        """Keeps a fact that has the form of one. Any other says nothing."""
+        numbers = [int.from_bytes(content[begin:end], "little") for begin, end in ((0, 4), (4, 8), (4, 10), (0, 6), (6, 12))]
+        if kind == VARIABLE and reference.is_site(content[12:], b"3") and numbers[4] and sum(numbers[3:]) <= ADDRESS_END:
+            self.variables.append(Variable(*numbers[3:], content[12:]))
+        elif kind == THREAD_FACTS and numbers[0] < len(self.threads) and numbers[1] < len(self.nodes) and (len(content) == 8 or reference.is_site(content[8:], b"3")):
+            self.thread_facts[self.threads[numbers[0]]] = ThreadFact(numbers[1], content[8:])
+        elif kind == LOCK_FACTS and numbers[0] < len(self.locks) and len(content) == 10:
+            self.lock_addresses[self.locks[numbers[0]]] = numbers[2]
+
+    def variable_at(self, address):
+        """What is at an address: the name of a variable, with the byte in it (`table+40`), or None."""
+        for variable in self.variables:
+            if variable.address <= address < variable.address + variable.size:
+                return variable.name + (b"+%d" % (address - variable.address) if address > variable.address else b"")
+        return None
 
     def read_end(self, count):
         self.check(self.at == self.end and count == len(self.events))

@@ -166,7 +166,7 @@ static int look_at(struct dl_phdr_info *file, size_t size, void *is_changed)
     if (asks_for(file, "__tsan_"))
         add_code(file);
     if (is_ordering() && asks_for(file, "__tsan_atomic_thread_fence"))
-        atomic_store(&attached->has_fences, true);
+        atomic_fetch_or(&attached->loads, LOADS_FOR_FENCES);
     return 0;
 }
 

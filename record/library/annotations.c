@@ -14,6 +14,7 @@ HOOK void eraser_unlock(const volatile void *lock) { emit(EVENT_UNLOCK, LOCK_USE
 /* ---- ThreadSanitizer's interface for locks of the program's own ---- */
 
 #define TSAN_READ_LOCK (1u << 3)
+#define TSAN_TRY_LOCK (1u << 4)
 #define TSAN_TRY_LOCK_FAILED (1u << 5)
 
 HOOK void __tsan_mutex_create(void *lock, unsigned how) { (void)how; emit(EVENT_LOCK_BEGIN, 0, (uintptr_t)lock, 0); }
@@ -23,8 +24,11 @@ HOOK void __tsan_mutex_pre_lock(void *lock, unsigned how) { (void)lock; (void)ho
 HOOK void __tsan_mutex_post_lock(void *lock, unsigned how, int depth)
 {
     (void)depth;
-    if (!(how & TSAN_TRY_LOCK_FAILED))
-        emit(how & TSAN_READ_LOCK ? EVENT_READ_LOCK : EVENT_LOCK, LOCK_USER, (uintptr_t)lock, CALLER);
+    enum event_kind acquire = how & TSAN_READ_LOCK ? EVENT_READ_LOCK : EVENT_LOCK;
+    if (how & (TSAN_TRY_LOCK | TSAN_TRY_LOCK_FAILED))
+        emit_try(acquire, LOCK_USER, lock, !(how & TSAN_TRY_LOCK_FAILED), CALLER);
+    else
+        emit(acquire, LOCK_USER, (uintptr_t)lock, CALLER);
 }
 
 HOOK int __tsan_mutex_pre_unlock(void *lock, unsigned how)

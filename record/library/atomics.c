@@ -1,6 +1,6 @@
 /* Atomic operations: always carried out in the strongest order. They don't race, and no access is recorded. If what orders threads is
  * recorded, one that releases by the program's own memory order signals its address, and one that acquires awaits it. The others are
- * recorded where they may mean something to a fence. */
+ * recorded where they may mean something to a fence, or if data flow is recorded. */
 #include "emit.h"
 
 #define ORDER __ATOMIC_SEQ_CST
@@ -38,7 +38,7 @@ static __attribute__((noinline)) void note_store(const volatile void *at, uint64
 
 static __attribute__((noinline)) void note_load(const volatile void *at, uint64_t site)
 {
-    emit(EVENT_LOADED, 0, (uintptr_t)at, site);
+    emit(EVENT_LOADED, uses_of_loads(), (uintptr_t)at, site);
 }
 
 /* Before an operation that stores. */
@@ -48,7 +48,7 @@ static inline void before_store(const volatile void *at, int order, uint64_t sit
         return;
     if (is_release(order))
         signal_address(at, site);
-    else if (self.has_released)
+    else if (self.notes_stores)
         note_store(at, site);
 }
 
@@ -59,14 +59,14 @@ static inline void after_load(const volatile void *at, int order, uint64_t site)
         return;
     if (is_acquire(order))
         await_address(at, site);
-    else if (is_fencing())
+    else if (uses_of_loads())
         note_load(at, site);
 }
 
 /* An operation that stores only if it succeeds has its place among the events before it is known whether it is one of them. */
 static inline __attribute__((always_inline)) bool draw_store(struct draft *draft, int order)
 {
-    if (LIKELY(!attached->notes_atomics) || !(is_release(order) || self.has_released))
+    if (LIKELY(!attached->notes_atomics) || !(is_release(order) || self.notes_stores))
         return false;
     shake();
     return is_ordering() && emit_draw(draft);
@@ -208,7 +208,7 @@ HOOK void __tsan_atomic_thread_fence(int order)
 {
     uint32_t does = (is_acquire(order) ? FENCE_ACQUIRES : 0) | (is_release(order) ? FENCE_RELEASES : 0);
     if (UNLIKELY(is_ordering()) && does) {
-        self.has_released |= does & FENCE_RELEASES;
+        self.notes_stores |= does & FENCE_RELEASES;
         emit(EVENT_FENCE, does, 0, CALLER);
     }
     __atomic_thread_fence(ORDER);

@@ -56,7 +56,7 @@ bool emit_prepare(struct ring *ring, struct self *me, uint64_t outer, void *fram
         return false;
     }
     if (me->number == 0)
-        me->number = atomic_fetch_add_explicit(&ring->threads, 1, memory_order_relaxed) + 1;
+        begin_self(ring, atomic_fetch_add_explicit(&ring->threads, 1, memory_order_relaxed) + 1);
     /* An event is pending. Either this is a signal handler that interrupted it, whose frame is lower; or a handler left the event for
      * good by longjmp. */
     int error = errno;
@@ -274,6 +274,7 @@ static bool own(struct ring *ring, struct attachment *page)
         ring->program[i - begin] = path[i];
     page->ring = ring;
     page->orders = ring->orders;
+    page->loads = ring->flows ? LOADS_FOR_FLOW : 0;
     page->shakes = ring->shakes;
     page->notes_atomics = page->orders || page->shakes;
     page->seed = ring->seed;

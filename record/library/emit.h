@@ -23,7 +23,7 @@
 struct attachment {
     struct ring *ring;
     bool orders; /* what orders threads is recorded as well */
-    _Atomic bool has_fences; /* some file of the program asks for fences */
+    _Atomic uint8_t loads; /* for what loads that don't acquire are recorded: some file of the program asks for fences, or the ring for flow */
     bool was_refused; /* this process asked for a ring, and there is none for it */
     bool shakes; /* threads wait at random, as `seed` says */
     bool notes_atomics; /* it orders or shakes, and atomic operations have a part in it */
@@ -39,7 +39,7 @@ extern struct attachment *attached;
 struct self {
     uint32_t number;  /* 0 before its first event */
     uint32_t reads_ignored, writes_ignored;
-    bool has_released; /* by a fence */
+    bool notes_stores; /* stores that don't release are recorded: it has released by a fence, or the ring asks for flow */
     uint64_t head_seen;
     uint64_t pending; /* the ticket that this thread has drawn and not yet published, stored as its complement */
     void *pending_frame;
@@ -82,10 +82,17 @@ static inline void shake(void)
         shake_thread();
 }
 
-/* A load that doesn't acquire means something to a fence alone, so it is recorded only in a program that has fences. */
-static inline bool is_fencing(void)
+/* For what a load that doesn't acquire is recorded, or 0. */
+static inline uint8_t uses_of_loads(void)
 {
-    return atomic_load_explicit(&attached->has_fences, memory_order_relaxed);
+    return atomic_load_explicit(&attached->loads, memory_order_relaxed);
+}
+
+/* A thread has its number. */
+static inline void begin_self(struct ring *ring, uint32_t number)
+{
+    self.number = number;
+    self.notes_stores = ring->flows;
 }
 
 /* `pending` is kept as a complement so that a thread's zeroed storage says that nothing is pending. */
@@ -256,6 +263,15 @@ static inline void emit_object_end(const volatile void *object)
 {
     if (UNLIKELY(is_ordering()))
         emit(EVENT_OBJECT_END, 0, (uintptr_t)object, 0);
+}
+
+/* After a call that acquires a lock or fails, and never waits. That it failed is recorded only if the ring asks for flow. */
+static inline __attribute__((always_inline)) void emit_try(enum event_kind acquire, enum lock_kind kind, const volatile void *lock, bool is_acquired, uint64_t site)
+{
+    if (is_acquired)
+        emit(acquire, kind | LOCK_TRIED, (uintptr_t)lock, site);
+    else if (UNLIKELY(is_recording()) && attached->ring->flows)
+        emit(acquire, kind | LOCK_TRIED | LOCK_FAILED, (uintptr_t)lock, site);
 }
 
 /* An access of any number of bytes. */

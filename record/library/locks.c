@@ -52,6 +52,16 @@ static void emit_end(volatile void *lock, uint64_t site)
         return result;                                       \
     }
 
+/* The same, of calls that never wait. */
+#define TRY(acquire, kind, name, type)                       \
+    HOOK int name(type *lock)                                \
+    {                                                        \
+        shake();                                             \
+        int result = REAL(name)(lock);                       \
+        emit_try(acquire, kind, lock, is_acquired(result), CALLER); \
+        return result;                                       \
+    }
+
 #define RELEASE(kind, name, type)                            \
     HOOK int name(type *lock)                                \
     {                                                        \
@@ -112,7 +122,7 @@ HOOK int pthread_mutex_lock(pthread_mutex_t *lock)
     return result;
 }
 
-ACQUIRE(emit_lock, LOCK_MUTEX, pthread_mutex_trylock, (pthread_mutex_t *lock), (lock))
+TRY(EVENT_LOCK, LOCK_MUTEX, pthread_mutex_trylock, pthread_mutex_t)
 ACQUIRE(emit_lock, LOCK_MUTEX, pthread_mutex_timedlock, (pthread_mutex_t *restrict lock, until restrict when), (lock, when))
 ACQUIRE(emit_lock, LOCK_MUTEX, pthread_mutex_clocklock, (pthread_mutex_t *restrict lock, clockid_t clock, until restrict when), (lock, clock, when))
 /* Of some kinds of mutexes a release fails if the lock is not held by its thread. Then its place among the events is drawn before it, and what it
@@ -151,11 +161,11 @@ HOOK int __pthread_mutex_unlock(pthread_mutex_t *lock) { return pthread_mutex_un
 INITIALISE(pthread_rwlock_init, (pthread_rwlock_t *restrict lock, const pthread_rwlockattr_t *restrict how), (lock, how))
 DESTROY(pthread_rwlock_destroy, pthread_rwlock_t)
 ACQUIRE(emit_read_lock, LOCK_RWLOCK, pthread_rwlock_rdlock, (pthread_rwlock_t *lock), (lock))
-ACQUIRE(emit_read_lock, LOCK_RWLOCK, pthread_rwlock_tryrdlock, (pthread_rwlock_t *lock), (lock))
+TRY(EVENT_READ_LOCK, LOCK_RWLOCK, pthread_rwlock_tryrdlock, pthread_rwlock_t)
 ACQUIRE(emit_read_lock, LOCK_RWLOCK, pthread_rwlock_timedrdlock, (pthread_rwlock_t *restrict lock, until restrict when), (lock, when))
 ACQUIRE(emit_read_lock, LOCK_RWLOCK, pthread_rwlock_clockrdlock, (pthread_rwlock_t *restrict lock, clockid_t clock, until restrict when), (lock, clock, when))
 ACQUIRE(emit_lock, LOCK_RWLOCK, pthread_rwlock_wrlock, (pthread_rwlock_t *lock), (lock))
-ACQUIRE(emit_lock, LOCK_RWLOCK, pthread_rwlock_trywrlock, (pthread_rwlock_t *lock), (lock))
+TRY(EVENT_LOCK, LOCK_RWLOCK, pthread_rwlock_trywrlock, pthread_rwlock_t)
 ACQUIRE(emit_lock, LOCK_RWLOCK, pthread_rwlock_timedwrlock, (pthread_rwlock_t *restrict lock, until restrict when), (lock, when))
 ACQUIRE(emit_lock, LOCK_RWLOCK, pthread_rwlock_clockwrlock, (pthread_rwlock_t *restrict lock, clockid_t clock, until restrict when), (lock, clock, when))
 RELEASE(LOCK_RWLOCK, pthread_rwlock_unlock, pthread_rwlock_t)
@@ -165,7 +175,7 @@ RELEASE(LOCK_RWLOCK, pthread_rwlock_unlock, pthread_rwlock_t)
 INITIALISE(pthread_spin_init, (pthread_spinlock_t *lock, int is_shared), (lock, is_shared))
 DESTROY(pthread_spin_destroy, pthread_spinlock_t)
 ACQUIRE(emit_lock, LOCK_SPIN, pthread_spin_lock, (pthread_spinlock_t *lock), (lock))
-ACQUIRE(emit_lock, LOCK_SPIN, pthread_spin_trylock, (pthread_spinlock_t *lock), (lock))
+TRY(EVENT_LOCK, LOCK_SPIN, pthread_spin_trylock, pthread_spinlock_t)
 RELEASE(LOCK_SPIN, pthread_spin_unlock, pthread_spinlock_t)
 
 /* ---- Mutexes of C11 ---- */
@@ -183,7 +193,7 @@ HOOK int mtx_lock(mtx_t *lock)
     return result;
 }
 
-ACQUIRE(emit_lock, LOCK_MUTEX, mtx_trylock, (mtx_t *lock), (lock))
+TRY(EVENT_LOCK, LOCK_MUTEX, mtx_trylock, mtx_t)
 ACQUIRE(emit_lock, LOCK_MUTEX, mtx_timedlock, (mtx_t *restrict lock, until restrict when), (lock, when))
 RELEASE_MUTEX(mtx_unlock, mtx_t)
 

@@ -189,8 +189,7 @@ static char omp_critical = 1, omp_atomic = 1;
     {                                                        \
         shake();                                             \
         int result = REAL(name)(lock);                       \
-        if (result)                                          \
-            emit(EVENT_LOCK, LOCK_USER, (uintptr_t)lock, CALLER); \
+        emit_try(EVENT_LOCK, LOCK_USER, lock, result, CALLER); \
         return result;                                       \
     }
 

@@ -52,13 +52,13 @@ static void make_ends(void)
         ends = (pthread_key_t)-1;
 }
 
-/* A new thread may have the stack of an old one. */
-static void begin_thread(void)
+/* A new thread may have the stack of an old one. `place` is that of the call that created it, in these calls. */
+static void begin_thread(uint32_t calls, uint64_t place)
 {
     pthread_attr_t found;
     if (!is_recording())
         return;
-    emit(EVENT_THREAD, 0, (uint64_t)pthread_self(), 0);
+    emit(EVENT_THREAD, calls, (uint64_t)pthread_self(), place);
     if (pthread_getattr_np(pthread_self(), &found) != 0)
         return;
     if (pthread_attr_getstack(&found, &stack.begin, &stack.size) == 0) {
@@ -86,14 +86,17 @@ struct start {
     _Atomic uint32_t is_named;
     _Atomic uint32_t users;
     uint32_t number;
+    /* Where the call is that creates the thread, and the calls around it, as in a slot. */
+    uint32_t calls;
+    uint64_t place;
 };
 
-static struct start *make_start(struct task task)
+static struct start *make_start(struct task task, uint32_t calls, uint64_t place)
 {
     struct start *start = malloc(sizeof *start);
     REAL(pthread_once)(&made_ends, make_ends);
     if (start)
-        *start = (struct start){task, is_ordering(), 0, 2, 0};
+        *start = (struct start){task, is_ordering(), 0, 2, 0, calls, place};
     return start;
 }
 
@@ -101,6 +104,12 @@ static void leave_start(struct start *start)
 {
     if (atomic_fetch_sub(&start->users, 1) == 1)
         free(start);
+}
+
+/* The calls in which a thread is created. */
+static inline __attribute__((always_inline)) uint32_t calls_around(uint64_t place)
+{
+    return KEEPS_STACKS ? stack_look_from((uintptr_t)__builtin_dwarf_cfa(), place) : 0;
 }
 
 /* The start of a thread is recorded when it is there, and before it does anything. */
@@ -135,10 +144,12 @@ static struct task take_start(void *given)
     while (start->is_ordered && !atomic_load(&start->is_named))
         syscall(SYS_futex, &start->is_named, FUTEX_WAIT_PRIVATE, 0, NULL, NULL, 0);
     struct task task = start->task;
-    if (start->number)
-        self.number = start->number;
+    uint32_t calls = start->calls;
+    uint64_t place = start->place;
+    if (start->number && is_recording())
+        begin_self(attached->ring, start->number);
     leave_start(start);
-    begin_thread();
+    begin_thread(calls, place);
     shake();
     return task;
 }
@@ -173,7 +184,7 @@ HOOK int pthread_create(pthread_t *restrict thread, const pthread_attr_t *restri
 {
     if (!is_recording() && !attach_child())
         return REAL(pthread_create)(thread, how, body, argument);
-    struct start *start = make_start((struct task){body, NULL, argument});
+    struct start *start = make_start((struct task){body, NULL, argument}, calls_around(CALLER), CALLER);
     if (!start)
         return EAGAIN;
     shake();
@@ -186,7 +197,7 @@ HOOK int thrd_create(thrd_t *thread, thrd_start_t body, void *argument)
 {
     if (!is_recording() && !attach_child())
         return REAL(thrd_create)(thread, body, argument);
-    struct start *start = make_start((struct task){NULL, body, argument});
+    struct start *start = make_start((struct task){NULL, body, argument}, calls_around(CALLER), CALLER);
     if (!start)
         return thrd_nomem;
     shake();

@@ -10,6 +10,7 @@
 #include "output.h"
 #include "stacks.h"
 #include "trace.h"
+#include "variables.h"
 
 static const char magic[8] = "\xe5" "eraser\x04";
 
@@ -22,10 +23,10 @@ static const char magic[8] = "\xe5" "eraser\x04";
 
 /* Kinds of records. */
 enum kind {
-    KIND_THREAD = 0, KIND_NODE = 1, KIND_REUSE = 16, KIND_THREAD_NAME = 21, KIND_LOCK_NAME = 22, KIND_PLACE = 23, KIND_NEW_NODE = 24, KIND_NOTE = 25,
-    KIND_LOST = 30, KIND_END = 31,
+    KIND_THREAD = 0, KIND_NODE = 1, KIND_REUSE = 16, KIND_STORE = 19, KIND_LOAD = 20, KIND_THREAD_NAME = 21, KIND_LOCK_NAME = 22, KIND_PLACE = 23,
+    KIND_NEW_NODE = 24, KIND_NOTE = 25, KIND_VARIABLE_FACT = 26, KIND_THREAD_FACT = 28, KIND_LOCK_FACT = 29, KIND_LOST = 30, KIND_END = 31,
 };
-static const uint8_t kinds[VERBS] = {2, 3, 4, 5, 10, 11, 12, 13, 14, 15};
+static const uint8_t kinds[VERBS] = {2, 3, 4, 5, 10, 11, 12, 13, 14, 15, 6, 7, 8, 9};
 
 /* The block that is being written. */
 static struct block {
@@ -131,9 +132,21 @@ static char *put_thread_name(char *at, struct thread *thread)
     return put_text(at, KIND_THREAD_NAME, thread->text, thread->bytes - 1u);
 }
 
+/* With the fact where it lies, unless it is no place in the program's memory. */
+static char *put_lock_name(char *at, struct label *lock)
+{
+    if (lock->number)
+        return at;
+    uint32_t number = lock_names++;
+    lock->number = lock_names;
+    at = put_text(at, KIND_LOCK_NAME, lock->name, strlen(lock->name));
+    if (lock->address >= ADDRESS_END)
+        return at;
+    return put(put(put_operand(at, KIND_LOCK_FACT, 10), &number, 4), &lock->address, 6);
+}
+
 static inline char *put_thread(char *at, struct thread *thread)
 {
-    thread->lines++;
     if (__builtin_expect(block.thread == thread->number && block.thread, 1))
         return at;
     at = put_thread_name(at, thread);
@@ -155,11 +168,18 @@ static inline uint32_t node_at(uint64_t place)
     return place ? node_of(place, caller_of_event) : 0;
 }
 
-/* The end of an event's records. */
-static inline void end_event(const char *at)
+/* The end of the records of an event that no text shows. */
+static inline void end_hidden_event(const char *at)
 {
     output_use(at);
     trace_events++;
+}
+
+/* The end of another event's records. */
+static inline void end_event(struct thread *thread, const char *at)
+{
+    thread->events++;
+    end_hidden_event(at);
 }
 
 /* Room for an event, or NULL. Then it is lost. */
@@ -231,7 +251,7 @@ static void write_access(struct thread *thread, bool is_write, uint64_t address,
         next = end - address <= ACCESS_BYTES ? end : (address | (ACCESS_BYTES - 1)) + 1;
         char *at = begin_event(thread);
         if (at)
-            end_event(put_access(at, is_write, address, next - address, node));
+            end_event(thread, put_access(at, is_write, address, next - address, node));
     }
 }
 
@@ -240,7 +260,7 @@ static void write_reuse(struct thread *thread, uint64_t address, uint64_t bytes,
     uint32_t node = node_at(place);
     char *at = begin_event(thread);
     if (at)
-        end_event(put(put_operand(put_node(at, node), KIND_REUSE, bytes), &address, 6));
+        end_event(thread, put(put_operand(put_node(at, node), KIND_REUSE, bytes), &address, 6));
 }
 
 static void write_of_lock(struct thread *thread, enum verb verb, struct label *lock, uint64_t place)
@@ -249,11 +269,12 @@ static void write_of_lock(struct thread *thread, enum verb verb, struct label *l
     char *at = begin_event(thread);
     if (!at)
         return;
-    if (!lock->number) {
-        lock->number = ++lock_names;
-        at = put_text(at, KIND_LOCK_NAME, lock->name, strlen(lock->name));
-    }
-    end_event(put_operand(put_node(at, node), (enum kind)kinds[verb], lock->number - 1));
+    at = put_node(put_lock_name(at, lock), node);
+    at = put_operand(at, (enum kind)kinds[verb], lock->number - 1);
+    if (verb == VERB_FAILED_TRY || verb == VERB_FAILED_READ_TRY)
+        end_hidden_event(at);
+    else
+        end_event(thread, at);
 }
 
 static void write_of_thread(struct thread *thread, enum verb verb, struct thread *other, uint64_t place)
@@ -263,23 +284,70 @@ static void write_of_thread(struct thread *thread, enum verb verb, struct thread
     if (!at)
         return;
     at = put_thread_name(at, other);
-    end_event(put_operand(put_node(at, node), (enum kind)kinds[verb], other->number - 1));
+    end_event(thread, put_operand(put_node(at, node), (enum kind)kinds[verb], other->number - 1));
 }
 
 static void write_alone(struct thread *thread, enum verb verb)
 {
     char *at = begin_event(thread);
     if (at)
-        end_event(put_operand(at, (enum kind)kinds[verb], 0));
+        end_event(thread, put_operand(at, (enum kind)kinds[verb], 0));
+}
+
+static void write_of_atomic(struct thread *thread, bool stores, uint64_t address, uint64_t place)
+{
+    uint32_t node = node_at(place);
+    char *at = begin_event(thread);
+    if (at)
+        end_hidden_event(put_operand(put_node(at, node), stores ? KIND_STORE : KIND_LOAD, address));
+}
+
+/* ---- Facts ---- */
+
+/* A record of so many bytes, unless the limit is reached. */
+static void write_bytes(enum kind kind, const void *bytes, size_t count)
+{
+    char *at = output_is_beyond_limit(OUTPUT_ROOM) ? NULL : room();
+    if (at)
+        output_use(put_text(at, kind, bytes, count));
+}
+
+static void keep_creation(struct thread *thread, uint64_t place)
+{
+    thread->created_at = node_at(place);
+}
+
+static void write_thread_fact(const struct thread *thread)
+{
+    char fact[8 + sizeof thread->name];
+    uint32_t number = thread->number - 1;
+    size_t bytes = strlen(thread->name);
+    if (!thread->number || (!bytes && !thread->created_at))
+        return;
+    put(put(put(fact, &number, 4), &thread->created_at, 4), thread->name, bytes);
+    write_bytes(KIND_THREAD_FACT, fact, 8 + bytes);
+}
+
+static void write_variable_fact(const struct variable *variable)
+{
+    char fact[12 + NAME_BYTES + 1];
+    size_t bytes = legal_site(fact + 12, variable->name);
+    put(put(fact, &variable->address, 6), &variable->size, 6);
+    write_bytes(KIND_VARIABLE_FACT, fact, 12 + bytes);
+}
+
+static void write_facts(void)
+{
+    trace_each_thread(write_thread_fact);
+    if (trace_events)
+        variables_each(write_variable_fact);
 }
 
 /* ---- The other records ---- */
 
 static void write_comment(const char *text, size_t bytes)
 {
-    char *at = output_is_beyond_limit(OUTPUT_ROOM) ? NULL : room();
-    if (at)
-        output_use(put_text(at, KIND_NOTE, text, bytes));
+    write_bytes(KIND_NOTE, text, bytes);
 }
 
 static void begin(void)
@@ -292,6 +360,7 @@ static void begin(void)
 /* They have room even if the limit is reached. If events are lost, the end says so itself. */
 static void end(uint64_t lost)
 {
+    write_facts();
     char text[64], *at = output_last_room();
     if (!block.is_open)
         at = open_block();
@@ -301,4 +370,7 @@ static void end(uint64_t lost)
     end_block();
 }
 
-const struct form binary_form = {begin, write_access, write_reuse, write_of_lock, write_of_thread, write_alone, write_comment, end, end_block};
+const struct form binary_form = {
+    .begin = begin, .access = write_access, .reuse = write_reuse, .of_lock = write_of_lock, .of_thread = write_of_thread, .alone = write_alone,
+    .of_atomic = write_of_atomic, .created = keep_creation, .comment = write_comment, .end = end, .end_part = end_block,
+};

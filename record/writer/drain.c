@@ -6,6 +6,7 @@
 
 #include "barriers.h"
 #include "fences.h"
+#include "flow.h"
 #include "locks.h"
 #include "nodes.h"
 #include "objects.h"
@@ -30,7 +31,7 @@ struct text {
 };
 static struct text *texts;
 
-/* What is known of a thread beside its lines: its pthread_t (0: none), whom it is about to name, and whom it is about to join. */
+/* What is known of a thread beside its events: its pthread_t (0: none), whom it is about to name, and whom it is about to join. */
 struct identity {
     uint64_t self, named, joining;
     uint32_t joined; /* the number of `joining`, 0 if it has none */
@@ -47,8 +48,7 @@ static struct identity *get_identity(uint32_t number)
 {
     if (number >= identity_room) {
         uint32_t room = number < 1024 ? 2048 : 2 * number;
-        identities = get_memory(identities, room * sizeof *identities);
-        memset(identities + identity_room, 0, (room - identity_room) * sizeof *identities);
+        identities = get_zeroed(identities, identity_room * sizeof *identities, room * sizeof *identities);
         identity_room = room;
     }
     return &identities[number];
@@ -114,7 +114,15 @@ static void name_thread(const struct slot *slot)
         trace_thread_name(trace_thread(number), name);
 }
 
-/* ---- Starts and joins of threads ---- */
+/* ---- Begins, starts and joins of threads ---- */
+
+/* Who begins is in no calls yet: those of the event are its creator's. */
+static void begin_thread(const struct slot *slot)
+{
+    set_self(slot->thread, slot->first);
+    stacks_set(slot->size);
+    trace_created(slot->thread, slot->second);
+}
 
 static void start_thread(const struct slot *slot)
 {
@@ -152,12 +160,42 @@ static void end_join(const struct slot *slot)
 static void signal_object(const struct slot *slot, enum object_kind kind)
 {
     uint64_t address = kind == OBJECT_BARRIER ? barriers_arrive(slot->thread, slot->first) : slot->first;
-    objects_signal(slot->thread, address, kind, slot->second);
+    bool is_written = objects_signal(slot->thread, address, kind, slot->second);
+    if (kind == OBJECT_ATOMIC)
+        flow_store(slot->thread, address, slot->second, is_written);
 }
 
 static void await_object(const struct slot *slot, enum object_kind kind)
 {
-    objects_await(slot->thread, kind == OBJECT_BARRIER ? barriers_leave(slot->thread, slot->first) : slot->first, slot->second);
+    uint64_t address = kind == OBJECT_BARRIER ? barriers_leave(slot->thread, slot->first) : slot->first;
+    bool is_written = objects_await(slot->thread, address, slot->second);
+    if (kind == OBJECT_ATOMIC && !is_written)
+        flow_load(slot->thread, address, slot->second);
+}
+
+/* Atomic operations that release nothing, or acquire nothing, but for what fences make of them. */
+static void store_atomic(const struct slot *slot)
+{
+    fences_store(slot->thread, slot->first);
+    flow_store(slot->thread, slot->first, slot->second, false);
+}
+
+static void load_atomic(const struct slot *slot)
+{
+    if (slot->size & LOADS_FOR_FENCES)
+        fences_load(slot->thread, slot->first);
+    flow_load(slot->thread, slot->first, slot->second);
+}
+
+/* ---- Acquires ---- */
+
+static void acquire(const struct slot *slot)
+{
+    struct acquire acquire = {(enum lock_kind)(slot->size % LOCK_KINDS), slot_kind(slot) == EVENT_READ_LOCK, slot->size & LOCK_TRIED, slot->second};
+    if (slot->size & LOCK_FAILED)
+        locks_fail(slot->thread, slot->first, acquire);
+    else
+        locks_acquire(slot->thread, slot->first, acquire);
 }
 
 static void end_object(uint64_t address)
@@ -237,10 +275,7 @@ static void take_rare(const struct slot *slot)
     case EVENT_LOCK_END: locks_end(slot->thread, slot->first, slot->second); break;
     case EVENT_IGNORE_ON: change_ignoring(slot->thread, true); break;
     case EVENT_IGNORE_OFF: change_ignoring(slot->thread, false); break;
-    case EVENT_THREAD:
-        set_self(slot->thread, slot->first);
-        trace_thread(slot->thread);
-        break;
+    case EVENT_THREAD: begin_thread(slot); break;
     case EVENT_NAME_WHOM: get_identity(slot->thread)->named = slot->first; break;
     case EVENT_NAME: name_thread(slot); break;
     case EVENT_MAPS_BEGIN: begin_text(slot->thread); break;
@@ -254,8 +289,8 @@ static void take_rare(const struct slot *slot)
     case EVENT_BARRIER: barriers_begin(slot->first, slot->second); break;
     case EVENT_LET_GO: objects_let_go(slot->thread, slot->first, (enum object_kind)(slot->size % OBJECT_KINDS), slot->second); break;
     case EVENT_FENCE: fences_pass(slot->thread, slot->size); break;
-    case EVENT_STORED: fences_store(slot->thread, slot->first); break;
-    case EVENT_LOADED: fences_load(slot->thread, slot->first); break;
+    case EVENT_STORED: store_atomic(slot); break;
+    case EVENT_LOADED: load_atomic(slot); break;
     default: break;
     }
 }
@@ -264,6 +299,7 @@ static void reuse(const struct slot *slot)
 {
     struct reuse reuse = {slot->thread, slot->second, slot_kind(slot) == EVENT_FREE};
     drain_has_frees |= slot_kind(slot) == EVENT_FREE;
+    flow_forget();
     pages_reuse(&reuse, slot->first & REUSE_MASK, reuse_size(slot));
 }
 
@@ -278,9 +314,7 @@ static void take(const struct slot *slot)
         trace_access(trace_thread(slot->thread), kind == EVENT_WRITE, slot->first, slot->size, slot->second);
         break;
     case EVENT_LOCK:
-    case EVENT_READ_LOCK:
-        locks_acquire(slot->thread, slot->first, (struct acquire){(enum lock_kind)(slot->size & 3), kind == EVENT_READ_LOCK, slot->second});
-        break;
+    case EVENT_READ_LOCK: acquire(slot); break;
     case EVENT_UNLOCK:
         locks_release(slot->thread, slot->first, (struct release){(enum lock_kind)(slot->size % LOCK_KINDS), slot->size & LOCK_FAILED, slot->second});
         break;

@@ -11,8 +11,10 @@ enum verb {
     VERB_LOCK, VERB_UNLOCK, VERB_READ_LOCK, VERB_READ_UNLOCK, VERB_SIGNAL, VERB_AWAIT, /* a lock, or an object */
     VERB_START, VERB_JOIN, /* a thread */
     VERB_IGNORE_ON, VERB_IGNORE_OFF,
+    VERB_TRY_LOCK, VERB_TRY_READ_LOCK, /* acquires by a call that never waits */
+    VERB_FAILED_TRY, VERB_FAILED_READ_TRY, /* the same, of which the call failed: nothing in a text */
 };
-#define VERBS 10
+#define VERBS 14
 
 struct thread {
     char text[16];       /* "t12 " */
@@ -20,13 +22,17 @@ struct thread {
     uint32_t number;     /* in the binary form, from 1 on; 0: it is not there yet */
     uint32_t held;       /* locks that the trace says it holds */
     uint32_t ignoring;   /* depth of its ignore brackets */
-    uint64_t lines;      /* how many events it has: lines of a text, or records of a trace 4 */
+    uint64_t events;     /* how many events it has that a text shows: lines of a text, or records of a trace 4 */
+    uint64_t failed_try, events_then; /* the lock that it tried last in vain and how, and how many events it had then */
     bool is_odd_round;   /* of the barrier that it waits at */
+    uint32_t created_at; /* the node of the call that created it, 0 if it is not known or in a text */
+    char name[16];       /* what the program calls it, or nothing */
 };
 
 /* What a lock or an object is called. */
 struct label {
     char *name;
+    uint64_t address;
     uint32_t number; /* in the binary form, from 1 on; 0: it is not there yet */
 };
 
@@ -38,6 +44,9 @@ struct form {
     void (*of_lock)(struct thread *thread, enum verb verb, struct label *lock, uint64_t place);
     void (*of_thread)(struct thread *thread, enum verb verb, struct thread *other, uint64_t place);
     void (*alone)(struct thread *thread, enum verb verb);
+    /* An atomic operation that orders nothing, and the call that created a thread: NULL of a text, which has neither. */
+    void (*of_atomic)(struct thread *thread, bool stores, uint64_t address, uint64_t place);
+    void (*created)(struct thread *thread, uint64_t place);
     void (*comment)(const char *text, size_t bytes);
     void (*end)(uint64_t lost);
     /* Before the buffer is written. */

@@ -99,18 +99,25 @@ static struct unit *get_unit(Dwarf_Die *die)
     return unit;
 }
 
-const struct inlined *inlined_at(Dwarf_Die *die, Dwarf_Addr place)
+size_t count_begun(const void *ranges, size_t count, size_t bytes, Dwarf_Addr place)
 {
-    const struct unit *unit = get_unit(die);
-    size_t low = 0, high = unit->count; /* all before `low` begin at or below the place, all from `high` on above it */
+    size_t low = 0, high = count; /* all before `low` begin at or below the place, all from `high` on above it */
     while (low < high) {
         size_t middle = low + (high - low) / 2;
-        if (unit->all[middle].begin <= place)
+        const Dwarf_Addr *begin = (const void *)((const char *)ranges + middle * bytes);
+        if (*begin <= place)
             low = middle + 1;
         else
             high = middle;
     }
-    const struct inlined *found = low ? &unit->all[low - 1] : NULL;
+    return low;
+}
+
+const struct inlined *inlined_at(Dwarf_Die *die, Dwarf_Addr place)
+{
+    const struct unit *unit = get_unit(die);
+    size_t begun = count_begun(unit->all, unit->count, sizeof *unit->all, place);
+    const struct inlined *found = begun ? &unit->all[begun - 1] : NULL;
     while (found && found->end <= place)
         found = found->outer;
     return found;

@@ -13,6 +13,8 @@ struct inlined {
     const struct inlined *outer; /* where the caller has been inlined in turn, or NULL */
 };
 
+/* How many of these structs, of so many bytes each, begin at or below a place. Each is a range, whose first member is its begin, and they rise. */
+size_t count_begun(const void *ranges, size_t count, size_t bytes, Dwarf_Addr place);
 /* The innermost one that has this place of the unit. */
 const struct inlined *inlined_at(Dwarf_Die *unit, Dwarf_Addr place);
 /* The debug information goes, and all of these with it. */

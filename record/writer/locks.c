@@ -58,7 +58,7 @@ static struct lock *get_lock(uint64_t address, enum lock_kind kind)
     static unsigned counts[4];
     lock = get_memory(NULL, sizeof *lock);
     struct lock **bucket = bucket_of(address);
-    *lock = (struct lock){*bucket, address, kind, {make_name(address, kinds[kind], &counts[kind]), 0}, NULL, 0, 0};
+    *lock = (struct lock){*bucket, address, kind, {make_name(address, kinds[kind], &counts[kind]), address, 0}, NULL, 0, 0};
     *bucket = lock;
     pages_mark_lock(address);
     return lock;
@@ -72,7 +72,15 @@ static struct holder *find_holder(struct lock *lock, uint32_t thread)
     return NULL;
 }
 
-static void add_holder(struct lock *lock, uint32_t number, bool reads, uint64_t place)
+/* What an acquire is in a trace: the reader must know whether it may have waited. */
+static enum verb verb_of(struct acquire acquire)
+{
+    if (acquire.never_waits)
+        return acquire.reads ? VERB_TRY_READ_LOCK : VERB_TRY_LOCK;
+    return acquire.reads ? VERB_READ_LOCK : VERB_LOCK;
+}
+
+static void add_holder(struct lock *lock, uint32_t number, struct acquire acquire)
 {
     if (lock->holder_count == lock->holder_room) {
         lock->holder_room = lock->holder_room ? 2 * lock->holder_room : 1;
@@ -80,10 +88,10 @@ static void add_holder(struct lock *lock, uint32_t number, bool reads, uint64_t 
     }
     struct thread *thread = trace_thread(number);
     bool is_written = thread->held < MOST_HELD;
-    lock->holders[lock->holder_count++] = (struct holder){number, 1, reads, is_written};
+    lock->holders[lock->holder_count++] = (struct holder){number, 1, acquire.reads, is_written};
     if (is_written) {
         thread->held++;
-        trace_lock(thread, reads ? VERB_READ_LOCK : VERB_LOCK, &lock->label, place);
+        trace_lock(thread, verb_of(acquire), &lock->label, acquire.place);
     } else
         trace_lost++;
 }
@@ -231,7 +239,19 @@ void locks_acquire(uint32_t thread, uint64_t address, struct acquire acquire)
     }
     if (!acquire.reads || is_held_to_write(lock))
         drop_holders(lock);
-    add_holder(lock, thread, acquire.reads, acquire.place);
+    add_holder(lock, thread, acquire);
+}
+
+/* A thread that tries again and again, and does nothing else that a trace has, is written once. */
+void locks_fail(uint32_t number, uint64_t address, struct acquire acquire)
+{
+    struct thread *thread = trace_thread(number);
+    uint64_t try = address << 1 | acquire.reads;
+    if (thread->failed_try == try && thread->events_then == thread->events)
+        return;
+    trace_lock(thread, acquire.reads ? VERB_FAILED_READ_TRY : VERB_FAILED_TRY, &get_lock(address, acquire.kind)->label, acquire.place);
+    thread->failed_try = try;
+    thread->events_then = thread->events;
 }
 
 void locks_release(uint32_t thread, uint64_t address, struct release release)

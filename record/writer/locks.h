@@ -10,10 +10,13 @@
 struct acquire {
     enum lock_kind kind;
     bool reads;
+    bool never_waits; /* by a call that gives up in place of waiting */
     uint64_t place; /* program counter of the call, or 0 */
 };
 /* A thread acquired a lock. Only the outermost acquire is written. */
 void locks_acquire(uint32_t thread, uint64_t address, struct acquire acquire);
+/* A call that never waits didn't acquire it. */
+void locks_fail(uint32_t thread, uint64_t address, struct acquire acquire);
 struct release {
     enum lock_kind kind;
     bool has_failed; /* whoever holds it holds it still */

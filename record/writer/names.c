@@ -4,8 +4,8 @@
 #include <stdio.h>
 #include <string.h>
 
-#include "sites.h"
 #include "trace.h"
+#include "variables.h"
 
 /* How often each variable's name was given. */
 struct use {

@@ -47,8 +47,7 @@ static void grow(struct table *table)
 {
     struct table old = *table;
     table->room = old.room ? 2 * old.room : 1024;
-    table->all = get_memory(NULL, table->room * sizeof *table->all);
-    memset(table->all, 0, table->room * sizeof *table->all);
+    table->all = get_zeroed(NULL, 0, table->room * sizeof *table->all);
     for (size_t i = 0; i < old.room; i++)
         if (old.all[i].number)
             *find(table, old.all[i].key, old.all[i].caller, old.all[i].text) = old.all[i];

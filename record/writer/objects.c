@@ -14,9 +14,9 @@ struct object {
     struct object *next;
     uint64_t address;
     struct label label;
-    /* The last signal that was written: its thread, and how many lines that thread had then. */
+    /* The last signal that was written: its thread, and how many events that thread had then. */
     uint32_t signaller;
-    uint64_t lines;
+    uint64_t events;
     bool has_ended;
     /* The threads that all signals so far are ordered before: a hash table, of which the entries of this round count. So it is emptied
      * by another number. */
@@ -51,7 +51,7 @@ static struct object *add_object(uint64_t address, enum object_kind kind)
     static unsigned counts[OBJECT_KINDS];
     struct object *object = get_memory(NULL, sizeof *object);
     struct object **bucket = bucket_of(address);
-    *object = (struct object){*bucket, address, {make_name(address, kinds[kind], &counts[kind]), 0}, 0, 0, false, NULL, 0, 0, 1};
+    *object = (struct object){*bucket, address, {make_name(address, kinds[kind], &counts[kind]), address, 0}, 0, 0, false, NULL, 0, 0, 1};
     *bucket = object;
     pages_mark_lock(address);
     return object;
@@ -86,8 +86,7 @@ static void grow_aware(struct object *object)
 {
     struct object before = *object;
     object->aware_room = before.aware_room ? 2 * before.aware_room : 4;
-    object->aware = get_memory(NULL, object->aware_room * sizeof *object->aware);
-    memset(object->aware, 0, object->aware_room * sizeof *object->aware);
+    object->aware = get_zeroed(NULL, 0, object->aware_room * sizeof *object->aware);
     for (uint32_t i = 0; i < before.aware_room; i++)
         if (before.aware[i].round == object->aware_round)
             *find_aware(object, before.aware[i].thread) = before.aware[i];
@@ -116,7 +115,7 @@ static void make_none_aware(struct object *object)
 
 /* A second signal of a thread that has written nothing since says nothing new. Whoever knew all signals before knows all but this one,
  * and its own thread knows this one as well. */
-void objects_signal(uint32_t number, uint64_t address, enum object_kind kind, uint64_t place)
+bool objects_signal(uint32_t number, uint64_t address, enum object_kind kind, uint64_t place)
 {
     struct thread *thread = trace_thread(number);
     struct object *object = find_object(address);
@@ -127,14 +126,15 @@ void objects_signal(uint32_t number, uint64_t address, enum object_kind kind, ui
     bool knows_all = !object || is_aware(object, number);
     if (!object)
         object = add_object(address, kind);
-    else if (object->signaller == number && object->lines == thread->lines)
-        return;
+    else if (object->signaller == number && object->events == thread->events)
+        return false;
     trace_lock(thread, VERB_SIGNAL, &object->label, place);
     object->signaller = number;
-    object->lines = thread->lines;
+    object->events = thread->events;
     make_none_aware(object);
     if (knows_all)
         make_aware(object, number);
+    return true;
 }
 
 bool objects_have_news(uint32_t number, uint64_t address)
@@ -144,13 +144,14 @@ bool objects_have_news(uint32_t number, uint64_t address)
 }
 
 /* An await of a thread that knows all signals orders nothing: one that looks at a flag again and again, for example. */
-void objects_await(uint32_t number, uint64_t address, uint64_t place)
+bool objects_await(uint32_t number, uint64_t address, uint64_t place)
 {
     if (!objects_have_news(number, address))
-        return;
+        return false;
     struct object *object = find_object(address);
     trace_lock(trace_thread(number), VERB_AWAIT, &object->label, place);
     make_aware(object, number);
+    return true;
 }
 
 void objects_let_go(uint32_t number, uint64_t address, enum object_kind kind, uint64_t place)

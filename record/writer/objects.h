@@ -7,10 +7,10 @@
 
 #include "../ring.h"
 
-/* A thread signals an object, by a call that returns to this place (0: not known). */
-void objects_signal(uint32_t thread, uint64_t address, enum object_kind kind, uint64_t place);
-/* It awaits one. Only an await that may order something is written. */
-void objects_await(uint32_t thread, uint64_t address, uint64_t place);
+/* A thread signals an object, by a call that returns to this place (0: not known). Whether the signal was written: one that says nothing new isn't. */
+bool objects_signal(uint32_t thread, uint64_t address, enum object_kind kind, uint64_t place);
+/* It awaits one. Whether the await was written: only one that may order something is. */
+bool objects_await(uint32_t thread, uint64_t address, uint64_t place);
 /* Whether it would be written. */
 bool objects_have_news(uint32_t thread, uint64_t address);
 /* It lets go an object that it held: a signal and an await, if the object was signalled before. */

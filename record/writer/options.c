@@ -43,6 +43,8 @@ static const char usage[] =
     "      --order             record what orders threads as well: starts and joins, semaphores, atomic operations ..\n"
     "      --trace FORM        write the trace as text `3` (the default), or in the binary form `4`, which is shorter; `eraser print` shows it as text\n"
     "      --stacks            record the calls in which each event is made, and report accesses in system headers at the line that called them; needs --trace 4\n"
+    "      --flow              record as well what threads learn from each other without an order: from atomics, and from tries of locks that fail; needs\n"
+    "                          --trace 4, and records with --order\n"
     "      --limit BYTES       of a trace that is kept: keep at most BYTES of it; 0: no limit. With -o the default is 268435456\n"
     "      --root DIR          name sites by their paths below DIR. The default is the folder that has all sources of the program\n"
     "      --paths             name sites by their paths as the compiler has them\n"
@@ -206,6 +208,8 @@ static void check_together(void)
 {
     if (options.has_stacks && trace_form != &binary_form)
         refuse("--stacks wants --trace 4: a text has no stacks");
+    if (options.has_flow && trace_form != &binary_form)
+        refuse("--flow wants --trace 4: a text has no data flow");
     if (options.format && options.by_site)
         refuse("--by-site and --format are not given together");
     if (options.runs > 1 && options.format && strcmp(options.format, "text") != 0)
@@ -216,7 +220,7 @@ static void check_together(void)
 
 void read_options(int count, char **words)
 {
-    enum { REPLAY = 256, REPORT, SUPPRESS, EXPLAIN, BY_SITE, STRICT, UNTIL_FAULT, FORMAT, ANALYSIS, EXIT_STATUS, ORDER, TRACE, STACKS, LIMIT, ROOT, PATHS, SHAKE, REPEAT };
+    enum { REPLAY = 256, REPORT, SUPPRESS, EXPLAIN, BY_SITE, STRICT, UNTIL_FAULT, FORMAT, ANALYSIS, EXIT_STATUS, ORDER, TRACE, STACKS, FLOW, LIMIT, ROOT, PATHS, SHAKE, REPEAT };
     static const struct option names[] = {
         {"output", 1, NULL, 'o'},         {"replay", 0, NULL, REPLAY}, {"report", 1, NULL, REPORT}, {"suppress", 1, NULL, SUPPRESS},
         {"exit-status", 1, NULL, EXIT_STATUS}, {"limit", 1, NULL, LIMIT},   {"paths", 0, NULL, PATHS},   {"quiet", 0, NULL, 'q'},
@@ -224,6 +228,7 @@ void read_options(int count, char **words)
         {"explain", 0, NULL, EXPLAIN},    {"by-site", 0, NULL, BY_SITE}, {"format", 1, NULL, FORMAT}, {"help", 0, NULL, 'h'},
         {"order", 0, NULL, ORDER},        {"analysis", 1, NULL, ANALYSIS}, {"strict", 0, NULL, STRICT},
         {"until-fault", 0, NULL, UNTIL_FAULT}, {"version", 0, NULL, 'V'}, {"trace", 1, NULL, TRACE}, {"stacks", 0, NULL, STACKS},
+        {"flow", 0, NULL, FLOW},
         {NULL, 0, NULL, 0},
     };
     for (int got; (got = getopt_long(count, words, "+o:qhV", names, NULL)) != -1;)
@@ -242,6 +247,7 @@ void read_options(int count, char **words)
         case ORDER: options.orders = true; break;
         case TRACE: trace_form = read_trace(optarg); break;
         case STACKS: options.has_stacks = sites_have_callers = true; break;
+        case FLOW: options.has_flow = options.orders = true; break;
         case LIMIT: options.limit = read_number(optarg, 0, UINT64_MAX, "--limit wants a number of bytes"); options.has_limit = true; break;
         case ROOT: sites_set_root(read_folder(optarg)); break;
         case SHAKE: set_shaking(optarg); break;

@@ -24,6 +24,7 @@ struct options {
     bool ends_as_report;
     bool orders; /* what orders threads is recorded as well */
     bool has_stacks; /* events are recorded with the calls in which they are made */
+    bool has_flow;   /* what threads tell each other without an order is recorded as well */
     bool is_quiet;
     unsigned runs; /* how often the command is run */
     bool shakes;   /* threads wait at random */

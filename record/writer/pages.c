@@ -27,8 +27,7 @@ static struct region *get_region(uint64_t address)
 {
     struct region **place = &regions[address >> REGION_BITS];
     if (!*place) {
-        *place = get_memory(NULL, sizeof **place);
-        memset(*place, 0, sizeof **place);
+        *place = get_zeroed(NULL, 0, sizeof **place);
     }
     return *place;
 }

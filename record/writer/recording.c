@@ -65,6 +65,7 @@ void recording_make_ring(unsigned number)
         fail("cannot map the ring", NULL);
     recording.ring->writer = (uint32_t)getpid();
     recording.ring->orders = options.orders;
+    recording.ring->flows = options.has_flow;
     recording.ring->magic = RING_MAGIC;
 }
 

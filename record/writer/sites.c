@@ -1,7 +1,6 @@
 #define _GNU_SOURCE
 #include "sites.h"
 
-#include <ctype.h>
 #include <dwarf.h>
 #include <elfutils/libdwfl.h>
 #include <stdio.h>
@@ -102,7 +101,7 @@ bool sites_set_maps(const char *text, size_t bytes)
 }
 
 /* The files are opened at the first look-up, and not at all by a program that has nothing to look up. */
-static Dwfl *get_files(void)
+Dwfl *sites_files(void)
 {
     if (files || !maps_bytes)
         return files;
@@ -266,13 +265,12 @@ static struct facts *get_facts(Dwfl_Module *file)
     void **place;
     dwfl_module_info(file, &place, NULL, NULL, NULL, NULL, NULL, NULL);
     if (!*place) {
-        *place = get_memory(NULL, sizeof(struct facts));
-        memset(*place, 0, sizeof(struct facts));
+        *place = get_zeroed(NULL, 0, sizeof(struct facts));
     }
     return *place;
 }
 
-static bool is_instrumented(Dwfl_Module *file)
+bool sites_is_instrumented(Dwfl_Module *file)
 {
     struct facts *facts = get_facts(file);
     if (!facts->is_instrumented)
@@ -326,18 +324,11 @@ static Dwarf_Die *unit_of(Dwfl_Module *file, uint64_t place, Dwarf_Addr *bias)
     if (unit)
         return unit;
     const struct ranges *ranges = get_ranges(file);
-    size_t low = 0, high = ranges->count; /* all before `low` begin at or below the place, all from `high` on above it */
-    while (low < high) {
-        size_t middle = low + (high - low) / 2;
-        if (ranges->all[middle].begin <= place)
-            low = middle + 1;
-        else
-            high = middle;
-    }
-    if (low == 0 || place >= ranges->all[low - 1].end)
+    size_t begun = count_begun(ranges->all, ranges->count, sizeof *ranges->all, place);
+    if (begun == 0 || place >= ranges->all[begun - 1].end)
         return NULL;
-    *bias = ranges->all[low - 1].bias;
-    return ranges->all[low - 1].unit;
+    *bias = ranges->all[begun - 1].bias;
+    return ranges->all[begun - 1].unit;
 }
 
 /* Code that a compiler merged from several lines has line 0. Then the line before serves, which is that of the same function nearly
@@ -370,14 +361,14 @@ static bool describe_line(const char *name, const char *folder, int number, char
     char path[PATH_BYTES];
     whole_path(path, folder, name);
     if (!is_root_known)
-        find_root(get_files());
+        find_root(sites_files());
     snprintf(text, room, "%s:%d", sites_have_paths ? name : behind_root(path), number);
     return is_below(path, "/usr/include") || is_below(path, "/usr/lib");
 }
 
 static bool describe(uint64_t place, char *text, size_t room)
 {
-    Dwfl *all = get_files();
+    Dwfl *all = sites_files();
     Dwfl_Module *file = all ? dwfl_addrmodule(all, place) : NULL;
     int number = 0;
     /* The call stands before the place that it returns to. */
@@ -421,8 +412,7 @@ static void grow(void)
     struct site *old = table;
     size_t count = table_room;
     table_room = count ? 2 * count : 4096;
-    table = get_memory(NULL, table_room * sizeof *table);
-    memset(table, 0, table_room * sizeof *table);
+    table = get_zeroed(NULL, 0, table_room * sizeof *table);
     for (size_t i = 0; i < count; i++)
         if (old[i].text)
             *find(old[i].place) = old[i];
@@ -431,9 +421,9 @@ static void grow(void)
 
 static bool is_in_instrumented(uint64_t place)
 {
-    Dwfl *all = get_files();
+    Dwfl *all = sites_files();
     Dwfl_Module *file = all ? dwfl_addrmodule(all, place) : NULL;
-    return file && is_instrumented(file);
+    return file && sites_is_instrumented(file);
 }
 
 static struct site new_site(const char *text, bool is_in_header)
@@ -460,9 +450,9 @@ static const struct site *callers_of(const struct inlined *inlined, const char *
 static const struct site *find_callers(uint64_t place)
 {
     Dwarf_Addr bias = 0;
-    Dwfl *all = sites_have_callers ? get_files() : NULL;
+    Dwfl *all = sites_have_callers ? sites_files() : NULL;
     Dwfl_Module *file = all ? dwfl_addrmodule(all, place) : NULL;
-    Dwarf_Die *unit = file && is_instrumented(file) ? unit_of(file, place, &bias) : NULL;
+    Dwarf_Die *unit = file && sites_is_instrumented(file) ? unit_of(file, place, &bias) : NULL;
     return unit ? callers_of(inlined_at(unit, place - bias), folder_of(unit)) : NULL;
 }
 
@@ -481,53 +471,4 @@ const struct site *site_of(uint64_t place)
         table_count++;
     }
     return site;
-}
-
-/* ---- Names of variables ---- */
-
-/* One part of a mangled name: a number and as many bytes. Returns what stands behind it, or NULL. */
-static const char *put_part(const char *from, char *to, size_t *used, size_t room)
-{
-    char *text;
-    unsigned long bytes = isdigit((unsigned char)*from) ? strtoul(from, &text, 10) : 0;
-    if (!bytes || bytes > strlen(text) || *used + bytes + 3 > room)
-        return NULL;
-    *used += (size_t)snprintf(to + *used, room - *used, "%s%.*s", *used ? "::" : "", (int)bytes, text);
-    return text + bytes;
-}
-
-/* The plain cases of C++: `_ZL4lock` is lock, `_ZN4pool4lockE` is pool::lock. Anything else keeps the linker's name. */
-static void demangle(const char *symbol, char *name, size_t room)
-{
-    const char *from = symbol;
-    size_t used = 0;
-    bool is_nested = strncmp(symbol, "_ZN", 3) == 0;
-    if (strncmp(symbol, "_ZL", 3) == 0 || is_nested)
-        from += 3;
-    else
-        from = NULL;
-    do {
-        if (from && *from == 'L')
-            from++;
-        from = from ? put_part(from, name, &used, room) : NULL;
-    } while (from && is_nested && *from != 'E');
-    if (!from || strcmp(from, is_nested ? "E" : "") != 0)
-        snprintf(name, room, "%s", symbol);
-}
-
-bool symbol_of(uint64_t address, char *name, size_t room)
-{
-    Dwfl *all = get_files();
-    Dwfl_Module *file = all ? dwfl_addrmodule(all, address) : NULL;
-    GElf_Off offset;
-    GElf_Sym symbol;
-    const char *found = file ? dwfl_module_addrinfo(file, address, &offset, &symbol, NULL, NULL, NULL) : NULL;
-    if (!found || GELF_ST_TYPE(symbol.st_info) != STT_OBJECT || offset >= symbol.st_size)
-        return false;
-    demangle(found, name, room);
-    if (offset) {
-        size_t used = strlen(name);
-        snprintf(name + used, room - used, "_%llu", (unsigned long long)offset);
-    }
-    return true;
 }

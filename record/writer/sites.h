@@ -1,7 +1,8 @@
-/* Source lines of program counters and names of variables, from the debug information of the program's files. */
+/* Source lines of program counters, from the debug information of the program's files. */
 #ifndef ERASER_SITES_H
 #define ERASER_SITES_H
 
+#include <elfutils/libdwfl.h>
 #include <stdbool.h>
 #include <stddef.h>
 #include <stdint.h>
@@ -29,7 +30,8 @@ void sites_set_root(const char *folder);
 bool sites_set_maps(const char *text, size_t bytes);
 /* The site of the call that returns to this place. It holds until the next call. */
 const struct site *site_of(uint64_t place);
-/* The name of the variable at an address, with an offset if the address lies inside it. False if it is none of a file's. */
-bool symbol_of(uint64_t address, char *name, size_t room);
+/* The program's files, opened when they are asked for first, or NULL if none can be read. */
+Dwfl *sites_files(void);
+bool sites_is_instrumented(Dwfl_Module *file);
 
 #endif

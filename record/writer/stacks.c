@@ -35,8 +35,7 @@ static void make_room(uint32_t number)
     if (number < known_room)
         return;
     uint32_t room = number < 1024 ? 2048 : 2 * number;
-    known = get_memory(known, room * sizeof *known);
-    memset(known + known_room, 0, (room - known_room) * sizeof *known);
+    known = get_zeroed(known, known_room * sizeof *known, room * sizeof *known);
     known_room = room;
 }
 

@@ -11,7 +11,7 @@
 /* One line has at most 16 bytes of a thread, a verb, an address and a name. */
 #define LINE_BYTES 256
 
-static const char *const verbs[VERBS] = {"lock", "unlock", "rlock", "runlock", "signal", "await", "start", "join", "ignore-on", "ignore-off"};
+static const char *const verbs[VERBS] = {"lock", "unlock", "rlock", "runlock", "signal", "await", "start", "join", "ignore-on", "ignore-off", "lock", "rlock"};
 
 /* ---- Parts of a line. Each returns where the next part begins. ---- */
 
@@ -23,7 +23,7 @@ static inline char *put(char *at, const char *text, size_t bytes)
 
 static inline char *put_thread(char *at, struct thread *thread)
 {
-    thread->lines++;
+    thread->events++;
     memcpy(at, thread->text, sizeof thread->text);
     return at + thread->bytes;
 }
@@ -91,9 +91,10 @@ static void write_reuse(struct thread *thread, uint64_t address, uint64_t bytes,
     end_line(site ? put(at, site->text, site->bytes) : at);
 }
 
+/* A try that failed has no line. */
 static void write_verb(struct thread *thread, enum verb verb, const char *name, size_t bytes)
 {
-    char *at = line();
+    char *at = verbs[verb] ? line() : NULL;
     if (!at)
         return;
     at = put(put_thread(at, thread), verbs[verb], strlen(verbs[verb]));
@@ -153,4 +154,7 @@ static void end_part(void)
 {
 }
 
-const struct form text_form = {begin, write_access, write_reuse, write_of_lock, write_of_thread, write_alone, write_comment, end, end_part};
+const struct form text_form = {
+    .begin = begin, .access = write_access, .reuse = write_reuse, .of_lock = write_of_lock, .of_thread = write_of_thread, .alone = write_alone,
+    .comment = write_comment, .end = end, .end_part = end_part,
+};

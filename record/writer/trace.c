@@ -28,6 +28,13 @@ void *get_memory(void *old, size_t bytes)
     return got;
 }
 
+void *get_zeroed(void *old, size_t kept, size_t bytes)
+{
+    char *got = get_memory(old, bytes);
+    memset(got + kept, 0, bytes - kept);
+    return got;
+}
+
 static bool is_name_byte(char c)
 {
     return (c >= 'a' && c <= 'z') || (c >= 'A' && c <= 'Z') || (c >= '0' && c <= '9') || (c && strchr("_.:/-", c));
@@ -91,8 +98,7 @@ static struct thread *place_of(uint32_t number)
     uint32_t at = number % PASSES_ON;
     if (at >= table->room) {
         uint32_t room = at < 1024 ? 2048 : 2 * at;
-        table->all = get_memory(table->all, room * sizeof *table->all);
-        memset(table->all + table->room, 0, (room - table->room) * sizeof *table->all);
+        table->all = get_zeroed(table->all, table->room * sizeof *table->all, room * sizeof *table->all);
         table->room = room;
     }
     return &table->all[at];
@@ -114,6 +120,13 @@ struct thread *trace_thread(uint32_t number)
     const struct threads *table = table_of(number);
     uint32_t at = number % PASSES_ON;
     return at < table->room && table->all[at].bytes ? &table->all[at] : new_thread(number);
+}
+
+void trace_each_thread(void (*visit)(const struct thread *thread))
+{
+    for (const struct thread *thread = tables[0].all; thread < tables[0].all + tables[0].room; thread++)
+        if (thread->bytes)
+            visit(thread);
 }
 
 /* ---- Events ---- */
@@ -163,6 +176,19 @@ void trace_ignore(struct thread *thread, enum verb verb)
     trace_form->alone(thread, verb);
 }
 
+void trace_atomic(uint32_t number, bool stores, uint64_t address, uint64_t place)
+{
+    if (trace_form->of_atomic)
+        trace_form->of_atomic(trace_thread(number), stores, address, place);
+}
+
+void trace_created(uint32_t number, uint64_t place)
+{
+    struct thread *thread = trace_thread(number);
+    if (place && trace_form->created)
+        trace_form->created(thread, place);
+}
+
 /* ---- Comments ---- */
 
 void trace_comment(const char *text)
@@ -174,6 +200,7 @@ void trace_thread_name(struct thread *thread, const char *name)
 {
     char legal[NAME_BYTES + 1], text[NAME_BYTES + 32];
     legal_name(legal, name);
+    snprintf(thread->name, sizeof thread->name, "%.15s", legal);
     snprintf(text, sizeof text, "%.*s is named %s", thread->bytes - 1, thread->text, legal);
     trace_comment(text);
 }

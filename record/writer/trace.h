@@ -32,13 +32,21 @@ void trace_reuse(struct thread *thread, uint64_t address, uint64_t bytes, uint64
 void trace_lock(struct thread *thread, enum verb verb, struct label *lock, uint64_t place);
 void trace_other_thread(uint32_t number, enum verb verb, uint32_t other, uint64_t place);
 void trace_ignore(struct thread *thread, enum verb verb);
+/* An atomic operation that orders nothing. A text has none of them. */
+void trace_atomic(uint32_t number, bool stores, uint64_t address, uint64_t place);
+/* A thread begins, which the call at this place has created. */
+void trace_created(uint32_t number, uint64_t place);
+/* Each thread of the program that has an event, or one that names it. */
+void trace_each_thread(void (*visit)(const struct thread *thread));
 void trace_thread_name(struct thread *thread, const char *name);
 void trace_comment(const char *text);
 
 /* The digits of a number. Returns where they end. */
 char *put_number(char *at, uint64_t number);
-/* Ends the writer: it has no memory. */
+/* More bytes in place of old ones, or of none. The writer ends if there is no memory. */
 void *get_memory(void *old, size_t bytes);
+/* The same, with zeros behind the first ones, which are kept. */
+void *get_zeroed(void *old, size_t kept, size_t bytes);
 /* Copies text into a legal name, whose end is kept if it is too long. Returns its length. */
 size_t legal_name(char *to, const char *text);
 /* The same for a site, which may have any printable byte. */

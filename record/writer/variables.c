@@ -1,0 +1,124 @@
+#define _GNU_SOURCE
+#include "variables.h"
+
+#include <ctype.h>
+#include <gelf.h>
+#include <stdio.h>
+#include <stdlib.h>
+#include <string.h>
+
+#include "sites.h"
+#include "trace.h"
+
+/* One part of a mangled name: a number and as many bytes. Returns what stands behind it, or NULL. */
+static const char *put_part(const char *from, char *to, size_t *used, size_t room)
+{
+    char *text;
+    unsigned long bytes = isdigit((unsigned char)*from) ? strtoul(from, &text, 10) : 0;
+    if (!bytes || bytes > strlen(text) || *used + bytes + 3 > room)
+        return NULL;
+    *used += (size_t)snprintf(to + *used, room - *used, "%s%.*s", *used ? "::" : "", (int)bytes, text);
+    return text + bytes;
+}
+
+/* The plain cases of C++: `_ZL4lock` is lock, `_ZN4pool4lockE` is pool::lock. Anything else keeps the linker's name. */
+static void demangle(const char *symbol, char *name, size_t room)
+{
+    const char *from = symbol;
+    size_t used = 0;
+    bool is_nested = strncmp(symbol, "_ZN", 3) == 0;
+    if (strncmp(symbol, "_ZL", 3) == 0 || is_nested)
+        from += 3;
+    else
+        from = NULL;
+    do {
+        if (from && *from == 'L')
+            from++;
+        from = from ? put_part(from, name, &used, room) : NULL;
+    } while (from && is_nested && *from != 'E');
+    if (!from || strcmp(from, is_nested ? "E" : "") != 0)
+        snprintf(name, room, "%s", symbol);
+}
+
+bool symbol_of(uint64_t address, char *name, size_t room)
+{
+    Dwfl *all = sites_files();
+    Dwfl_Module *file = all ? dwfl_addrmodule(all, address) : NULL;
+    GElf_Off offset;
+    GElf_Sym symbol;
+    const char *found = file ? dwfl_module_addrinfo(file, address, &offset, &symbol, NULL, NULL, NULL) : NULL;
+    if (!found || GELF_ST_TYPE(symbol.st_info) != STT_OBJECT || offset >= symbol.st_size)
+        return false;
+    demangle(found, name, room);
+    if (offset) {
+        size_t used = strlen(name);
+        snprintf(name + used, room - used, "_%llu", (unsigned long long)offset);
+    }
+    return true;
+}
+
+/* ---- All variables ---- */
+
+struct variables {
+    size_t count, room;
+    struct variable *all;
+};
+
+static bool is_writable(Elf *file, GElf_Word section)
+{
+    GElf_Shdr header;
+    Elf_Scn *found = elf_getscn(file, section);
+    return found && gelf_getshdr(found, &header) && header.sh_flags & SHF_WRITE;
+}
+
+static void add(struct variables *variables, struct variable variable)
+{
+    if (variables->count == variables->room) {
+        variables->room = variables->room ? 2 * variables->room : 256;
+        variables->all = get_memory(variables->all, variables->room * sizeof *variables->all);
+    }
+    variables->all[variables->count++] = variable;
+}
+
+static int add_variables(Dwfl_Module *file, void **place, const char *name, Dwarf_Addr begin, void *variables)
+{
+    (void)place, (void)name, (void)begin;
+    int count = sites_is_instrumented(file) ? dwfl_module_getsymtab(file) : 0;
+    for (int i = 1; i < count; i++) {
+        GElf_Sym symbol;
+        GElf_Addr address;
+        GElf_Word section;
+        Elf *elf;
+        const char *found = dwfl_module_getsym_info(file, i, &symbol, &address, &section, &elf, NULL);
+        if (found && GELF_ST_TYPE(symbol.st_info) == STT_OBJECT && symbol.st_size && is_writable(elf, section))
+            add(variables, (struct variable){address, symbol.st_size, found});
+    }
+    return DWARF_CB_OK;
+}
+
+static int compare(const void *one, const void *other)
+{
+    const struct variable *first = one, *second = other;
+    if (first->address != second->address)
+        return first->address < second->address ? -1 : 1;
+    return strcmp(first->name, second->name);
+}
+
+void variables_each(void (*visit)(const struct variable *variable))
+{
+    char name[4096];
+    struct variables variables = {0};
+    Dwfl *all = sites_files();
+    if (all)
+        dwfl_getmodules(all, add_variables, &variables, 0);
+    if (variables.count)
+        qsort(variables.all, variables.count, sizeof *variables.all, compare);
+    for (size_t i = 0; i < variables.count; i++) {
+        const struct variable *found = &variables.all[i];
+        if (i && found->address == found[-1].address)
+            continue;
+        demangle(found->name, name, sizeof name);
+        visit(&(struct variable){found->address, found->size, name});
+    }
+    free(variables.all);
+}
