@@ -35,6 +35,7 @@ complete -c eraser-record -n __eraser_record_before_program -l runs -x -d 'Run t
 complete -c eraser-record -n __eraser_record_before_program -l order -d 'Record what orders threads as well: starts and joins, semaphores, atomic operations ..'
 complete -c eraser-record -n __eraser_record_before_program -l trace -x -a '3 4' -d 'Write the trace as text 3 (the default), or in the binary form 4, which is shorter; eraser print shows it as text'
 complete -c eraser-record -n __eraser_record_before_program -l stacks -d 'Record the calls in which each event is made, and report accesses in system headers at the line that called them; needs --trace 4'
+complete -c eraser-record -n __eraser_record_before_program -l flow -d 'Record what threads learn from each other without an order: relaxed atomics, and tries of locks that fail; needs --trace 4, and records with --order'
 complete -c eraser-record -n __eraser_record_before_program -l limit -x -d 'Of a trace that is kept: keep at most BYTES of it; 0: no limit. With -o the default is 268435456'
 complete -c eraser-record -n __eraser_record_before_program -l root -x -a '(__fish_complete_directories)' -d 'Name sites by their paths below DIR. The default is the folder that has all sources of the program'
 complete -c eraser-record -n __eraser_record_before_program -l paths -d 'Name sites by their paths as the compiler has them'

@@ -43,8 +43,7 @@ static const char usage[] =
     "      --order             record what orders threads as well: starts and joins, semaphores, atomic operations ..\n"
     "      --trace FORM        write the trace as text `3` (the default), or in the binary form `4`, which is shorter; `eraser print` shows it as text\n"
     "      --stacks            record the calls in which each event is made, and report accesses in system headers at the line that called them; needs --trace 4\n"
-    "      --flow              record as well what threads learn from each other without an order: from atomics, and from tries of locks that fail; needs\n"
-    "                          --trace 4, and records with --order\n"
+    "      --flow              record what threads learn from each other without an order: relaxed atomics, and tries of locks that fail; needs --trace 4, and records with --order\n"
     "      --limit BYTES       of a trace that is kept: keep at most BYTES of it; 0: no limit. With -o the default is 268435456\n"
     "      --root DIR          name sites by their paths below DIR. The default is the folder that has all sources of the program\n"
     "      --paths             name sites by their paths as the compiler has them\n"
@@ -53,7 +52,7 @@ static const char usage[] =
     "  -V, --version           print the version\n"
     "\n"
     "On a terminal the report is by both analyses, by site and explained, unless an option says how to report: then the trace is kept in a\n"
-    "temporary file until it has been replayed. If the command starts several programs that can be recorded, the report of each goes to a\n"
+    "temporary file until it has been replayed, as by --trace 4 --stacks unless --trace is given. If the command starts several programs that can be recorded, the report of each goes to a\n"
     "file of its own, below the folder eraser.out.\n"
     "\n"
     "It ends with the program's exit status, or 128 and the number of the signal that ended it; 125 if the recorder failed, 126 or 127\n"
@@ -161,13 +160,22 @@ static bool says_how_to_report(void)
     return options.explains || options.by_site || options.is_strict || options.until_fault || options.format || options.analysis;
 }
 
-/* Somebody who looks at a terminal gets what explains most. */
+static void keep_stacks(void)
+{
+    options.has_stacks = sites_have_callers = true;
+}
+
+/* Somebody who looks at a terminal gets what explains most. A trace that is kept for that alone has what a text can't have, unless --trace says otherwise. */
 static void report_for_people(void)
 {
     if (!options.replays || options.report || says_how_to_report() || !isatty(STDERR_FILENO))
         return;
     options.is_for_people = options.by_site = options.explains = true;
     options.analysis = "both";
+    if (options.trace || options.has_form)
+        return;
+    trace_form = &binary_form;
+    keep_stacks();
 }
 
 /* Whether a trace that is kept gives the report more than one that passes by. */
@@ -245,8 +253,8 @@ void read_options(int count, char **words)
         case FORMAT: options.format = read_format(optarg); break;
         case EXIT_STATUS: options.ends_as_report = is_report(optarg); break;
         case ORDER: options.orders = true; break;
-        case TRACE: trace_form = read_trace(optarg); break;
-        case STACKS: options.has_stacks = sites_have_callers = true; break;
+        case TRACE: trace_form = read_trace(optarg); options.has_form = true; break;
+        case STACKS: keep_stacks(); break;
         case FLOW: options.has_flow = options.orders = true; break;
         case LIMIT: options.limit = read_number(optarg, 0, UINT64_MAX, "--limit wants a number of bytes"); options.has_limit = true; break;
         case ROOT: sites_set_root(read_folder(optarg)); break;

@@ -23,6 +23,7 @@ struct options {
     const char *analysis;
     bool ends_as_report;
     bool orders; /* what orders threads is recorded as well */
+    bool has_form;   /* --trace says which form the trace has */
     bool has_stacks; /* events are recorded with the calls in which they are made */
     bool has_flow;   /* what threads tell each other without an order is recorded as well */
     bool is_quiet;

@@ -419,7 +419,7 @@ static void grow(void)
     free(old);
 }
 
-static bool is_in_instrumented(uint64_t place)
+bool sites_has_instrumented(uint64_t place)
 {
     Dwfl *all = sites_files();
     Dwfl_Module *file = all ? dwfl_addrmodule(all, place) : NULL;
@@ -465,7 +465,7 @@ const struct site *site_of(uint64_t place)
         char text[8192];
         struct site new = new_site(text, describe(place, text, sizeof text));
         new.place = place;
-        new.is_instrumented = is_in_instrumented(place);
+        new.is_instrumented = sites_has_instrumented(place);
         new.caller = find_callers(place - 1);
         *site = new;
         table_count++;

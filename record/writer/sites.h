@@ -33,5 +33,7 @@ const struct site *site_of(uint64_t place);
 /* The program's files, opened when they are asked for first, or NULL if none can be read. */
 Dwfl *sites_files(void);
 bool sites_is_instrumented(Dwfl_Module *file);
+/* Whether a place is in a file that is instrumented, without a look at its debug information. */
+bool sites_has_instrumented(uint64_t place);
 
 #endif

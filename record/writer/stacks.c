@@ -45,10 +45,11 @@ void stacks_forget_places(void)
     stack_of_event = NO_STACK;
 }
 
-/* Calls before the first function of the program's own have no node: they are the C library's or the recorder's. */
+/* Calls before the first function of the program's own have no node: they are the C library's or the recorder's. Nobody needs their lines, and to unpack
+ * the C library's debug information takes longer than to record a short program. */
 static uint32_t new_node(uint64_t call, uint32_t caller)
 {
-    return caller || site_of(call)->is_instrumented ? node_of(call, caller) : 0;
+    return caller || sites_has_instrumented(call) ? node_of(call, caller) : 0;
 }
 
 /* The trace's node of a node of the ring. The program may have written anything into the ring: a caller is a node that was there before. */
