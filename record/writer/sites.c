@@ -3,6 +3,7 @@
 
 #include <dwarf.h>
 #include <elfutils/libdwfl.h>
+#include <gelf.h>
 #include <stdio.h>
 #include <stdlib.h>
 #include <string.h>
@@ -174,16 +175,28 @@ static const char *folder_of(Dwarf_Die *unit)
     return dwarf_formstring(dwarf_attr(unit, DW_AT_comp_dir, &found));
 }
 
-/* Whether a file asks for names that begin with __tsan_. */
-static bool asks_for_hooks(Dwfl_Module *file)
+static bool has_hook(Elf *file, Elf_Scn *symbols, GElf_Word names)
 {
     GElf_Sym symbol;
-    int count = dwfl_module_getsymtab(file);
-    for (int i = 1; i < count; i++) {
-        const char *name = dwfl_module_getsym(file, i, &symbol, NULL);
+    Elf_Data *all = elf_getdata(symbols, NULL);
+    for (int i = 1; all && gelf_getsym(all, i, &symbol); i++) {
+        const char *name = elf_strptr(file, names, symbol.st_name);
         if (name && symbol.st_shndx == SHN_UNDEF && strncmp(name, "__tsan_", 7) == 0)
             return true;
     }
+    return false;
+}
+
+/* Whether a file asks the dynamic loader for names that begin with __tsan_. (libdw's look at its symbols would search for debug information of files
+ * without any, which takes longer than to record a short program.) */
+static bool asks_for_hooks(Dwfl_Module *file)
+{
+    GElf_Addr bias;
+    GElf_Shdr header;
+    Elf *elf = dwfl_module_getelf(file, &bias);
+    for (Elf_Scn *section = NULL; elf && (section = elf_nextscn(elf, section)) != NULL;)
+        if (gelf_getshdr(section, &header) && header.sh_type == SHT_DYNSYM && has_hook(elf, section, header.sh_link))
+            return true;
     return false;
 }
 
