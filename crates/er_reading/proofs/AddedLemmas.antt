@@ -17,7 +17,7 @@ use Rattle.er_text.specs.declared.verbs.Version.{Version}
 use Rattle.er_lines.specs.Lines.{AreWhole}
 use Rattle.er_text.specs.Pieces.{IsPieceOf, ReadPiece, CanBeNumbered, IsEntered, IsNumbered, IsReady, MayBeAdded, StandsInFront}
 use Rattle.er_text.specs.Places.{Reached, no_tail}
-use Rattle.er_reading.specs.Inner.Adding.{StandInFront, IsWhole, FitBehind, names_behind, AreEntered, AreNumbered, AreReady, MayAllBeAdded}
+use Rattle.er_reading.specs.Inner.Adding.{StandInFront, IsWhole, FitBehind, first_len, names_behind, AreEntered, AreNumbered, AreReady, MayAllBeAdded}
 use Rattle.er_reading.specs.Pieces.{ArePiecesOf}
 use Rattle.er_reading.proofs.PieceLemmas.{first_in_front, others_in_front}
 
@@ -206,6 +206,24 @@ steps_grow t u steps lines sites is = subst (λ (r : Recording). Grows t r) (sym
   lines = refl;
   sites = refl;
 })
+
+-- the first piece has as many bytes as when it was read
+entered_first : (before : ℕ) (names : NameTable) (ps qs : List ReadPiece) → AreEntered before names ps qs → first_len qs ≡ first_len ps
+entered_first before names [] [] entered = refl
+entered_first before names [] (q ∷ qs) entered = absurd entered
+entered_first before names (p ∷ ps) [] entered = absurd entered
+entered_first before names (p ∷ ps) (q ∷ qs) entered = entered.0.len
+
+numbered_first : (ps qs : List ReadPiece) → AreNumbered ps qs → first_len qs ≡ first_len ps
+numbered_first [] [] numbered = refl
+numbered_first [] (q ∷ qs) numbered = absurd numbered
+numbered_first (p ∷ ps) [] numbered = absurd numbered
+numbered_first (p ∷ ps) (q ∷ qs) numbered = numbered.0.len
+
+pub same_first : (all some qs zs : List ReadPiece) (n before : ℕ) (names : NameTable) → some ≡ take n all → n ≡ length all → AreEntered before names some qs → AreNumbered qs zs
+    → first_len zs ≡ first_len all
+same_first all some qs zs n before names is whole entered numbered =
+    numbered_first qs zs numbered ∙ entered_first before names some qs entered ∙ ap first_len (is ∙ take_all n all (omega (arith, whole)))
 
 -- the first pieces in front of a reader
 front_pieces : (v : Version) (front : List ℕ) (ps : List ReadPiece) (n : ℕ) → ArePiecesOf v front ps

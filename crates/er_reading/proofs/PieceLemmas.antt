@@ -1,5 +1,5 @@
 -- Pieces behind others.
-use Rattle.std.proofs.Common.{◌≡◌, ℕ, ◌+◌, List, [], ◌∷◌, ◌++◌, length, take, drop, sym, ap, ◌∙◌, subst, arith}
+use Rattle.std.proofs.Common.{◌≡◌, ℕ, ◌+◌, ◌≤◌, List, [], ◌∷◌, ◌++◌, length, take, drop, refl, sym, ap, ◌∙◌, subst, arith}
 use Rattle.std.proofs.lemmas.List.{take-append-le, drop-append-le, length-append, length-drop}
 use Rattle.std.specs.Prelude.{Result, Ok, Err, OnOk}
 use Rattle.er_trace.specs.Trace.{Recording}
@@ -9,7 +9,7 @@ use Rattle.er_text.specs.declared.verbs.Version.{Version}
 use Rattle.er_lines.specs.Lines.{AreWhole}
 use Rattle.er_text.specs.Pieces.{ReadPiece, IsPieceOf, StandsInFront}
 use Rattle.er_text.specs.Places.{Reached}
-use Rattle.er_reading.specs.Inner.Adding.{StandInFront}
+use Rattle.er_reading.specs.Inner.Adding.{StandInFront, first_len}
 use Rattle.er_reading.specs.Pieces.{ArePiecesOf}
 
 pub pieces_append : (v : Version) (a b : List ℕ) (ps qs : List ReadPiece) → ArePiecesOf v a ps → ArePiecesOf v b qs → ArePiecesOf v (a ++ b) (ps ++ qs)
@@ -22,6 +22,11 @@ pieces_append v a b (p ∷ ps) qs first second =
       subst (λ (c : List ℕ). IsPieceOf v c p) (sym front) first.2,
       subst (λ (c : List ℕ). ArePiecesOf v c (ps ++ qs)) (sym back) (pieces_append v (drop p.len a) b ps qs first.3 second),
     )
+
+-- if the first piece has bytes, it is the first of all
+pub first_append : (ps qs : List ReadPiece) → 1 ≤ first_len ps → 1 ≤ first_len (ps ++ qs)
+first_append [] qs some = absurd (omega (arith, some))
+first_append (p ∷ ps) qs some = some
 
 -- the first of the pieces in front of a reader
 pub first_in_front : (reader : Reached) (p : ReadPiece) (ps : List ReadPiece) → StandInFront reader (p ∷ ps) → StandsInFront reader p

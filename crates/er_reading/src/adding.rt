@@ -1,7 +1,7 @@
 //! Pieces added to a trace, in their order.
-ghost use Rattle.std.specs.Prelude.{◌≡◌, ◌+◌, ◌≤◌, ◌<◌, ◌^◌, ℕ, All, List, Option, OnOk, length, take, true};
+ghost use Rattle.std.specs.Prelude.{◌≡◌, ◌+◌, ◌≤◌, ◌<◌, ◌^◌, ℕ, All, List, Option, IfOk, OnOk, length, take, true};
 ghost use Rattle.er_event.specs.declared.steps.Step.{Step};
-ghost use Rattle.er_reading.specs.Inner.Adding.{AreEntered, AreReady, FitBehind, IsWhole, MayAllBeAdded, StandInFront, names_behind};
+ghost use Rattle.er_reading.specs.Inner.Adding.{AreEntered, AreReady, FitBehind, IsWhole, MayAllBeAdded, StandInFront, first_len, names_behind};
 ghost use Rattle.er_text.specs.Batches.{HasRead};
 ghost use Rattle.er_lines.specs.Lending.{taken_by};
 ghost use Rattle.er_lines.specs.Lines.{bytes_past_limit};
@@ -46,22 +46,22 @@ fn enter_pieces(trace: &mut Trace, before: u64, pieces: &mut [Piece]) -> Put
 }
 
 /// Adds the steps of pieces that were numbered, and passes over their lines.
-fn add_numbered(lines: &mut TraceReader, trace: &mut Trace, pieces: &[Piece]) -> Put
-    requires front { MayAllBeAdded lines.old trace.old pieces.now }
+fn add_numbered(lines: &mut TraceReader, trace: &mut Trace, pieces: &mut [Piece]) -> Put
+    requires front { MayAllBeAdded lines.old trace.old pieces.old }
     requires within { lines.old.place.start ≤ lines.old.place.limit }
     requires most { taken_by lines.old.place ≤ lines.old.place.limit + bytes_past_limit }
     ensures told { (text : List ℕ) (steps : List Step) (numbers sites : List ℕ) (known : Option (List ℕ)) (names : NameTable) (read : List ReadPiece)
-        → StandInFront lines.old read → All IsWhole read → AreReady lines.old.place.number names read pieces.now → trace.old.names ≡ names_behind names read
+        → StandInFront lines.old read → All IsWhole read → AreReady lines.old.place.number names read pieces.old → trace.old.names ≡ names_behind names read
         → HasRead text steps numbers sites lines.old known (record trace.old { names = names })
         → OnOk result (HasRead text steps numbers sites lines.new known trace.new) }
     ensures grows { OnOk result (Grows trace.old trace.new) }
     ensures limit { lines.new.place.limit ≡ lines.old.place.limit }
-    ensures start { OnOk result (lines.old.place.start ≤ lines.new.place.start) }
+    ensures start { OnOk result (lines.old.place.start + first_len pieces.old ≤ lines.new.place.start) }
     ensures within { lines.new.place.start ≤ lines.new.place.limit }
     ensures taken { taken_by lines.new.place ≡ taken_by lines.old.place }
     ensures most { taken_by lines.new.place ≤ lines.new.place.limit + bytes_past_limit }
 {
-    let Some((first, others)) = pieces.split_first() else {
+    let Some((first, others)) = pieces.split_first_mut() else {
         return Ok(());
     };
     lines.add_piece(trace, first)?;
@@ -85,6 +85,7 @@ pub(crate) fn add_pieces<R: Threads + Sync>(
     ensures grows { OnOk result (Grows trace.old trace.new) }
     ensures limit { lines.new.place.limit ≡ lines.old.place.limit }
     ensures start { OnOk result (lines.old.place.start ≤ lines.new.place.start) }
+    ensures first { IfOk result (λ all. all ≡ true → lines.old.place.start + first_len pieces.old ≤ lines.new.place.start) }
     ensures within { lines.new.place.start ≤ lines.new.place.limit }
     ensures taken { taken_by lines.new.place ≡ taken_by lines.old.place }
     ensures most { taken_by lines.new.place ≤ lines.new.place.limit + bytes_past_limit }

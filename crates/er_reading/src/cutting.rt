@@ -1,7 +1,7 @@
 //! Lines cut into pieces, and each piece read and numbered in a thread of its own.
 ghost use Rattle.std.specs.Prelude.{◌≡◌, ◌+◌, ◌<◌, ◌≤◌, All, length, take, drop};
 ghost use Rattle.std.specs.Thread.{IsSync};
-ghost use Rattle.er_reading.specs.Inner.Adding.{AreNumbered};
+ghost use Rattle.er_reading.specs.Inner.Adding.{AreNumbered, first_len};
 ghost use Rattle.er_reading.specs.Pieces.{ArePiecesOf};
 ghost use Rattle.er_lines.specs.Lines.{AreWhole};
 ghost use Rattle.er_text.specs.Pieces.{CanBeNumbered};
@@ -15,6 +15,7 @@ fn front_len(bytes: &[u8], least: usize) -> usize
     requires within { least ≤ length bytes.now }
     requires whole { AreWhole bytes.now }
     ensures bound { (least ≤ result) × (result ≤ length bytes.now) }
+    ensures some { 1 ≤ length bytes.now → 1 ≤ result }
     ensures front { AreWhole (take result bytes.now) }
     ensures back { AreWhole (drop result bytes.now) }
 {
@@ -33,7 +34,8 @@ pub(crate) fn read_pieces<R: Threads + Sync>(
 )
     requires some { (1 ≤ length pieces.old) × (length pieces.old ≤ 16) }
     requires whole { AreWhole bytes.now }
-    ensures { ArePiecesOf version bytes.now pieces.new }
+    ensures pieces { ArePiecesOf version bytes.now pieces.new }
+    ensures first { 1 ≤ length bytes.now → 1 ≤ first_len pieces.new }
 {
     let count = pieces.len();
     if count == 1 {
@@ -47,7 +49,8 @@ pub(crate) fn read_pieces<R: Threads + Sync>(
         rt,
         &mut ||
             requires { IsSync R.row × (1 ≤ length first.now) × (length first.now ≤ 16) × AreWhole front.now }
-            ensures { ArePiecesOf version front.entry.now first.exit.now }
+            ensures pieces { ArePiecesOf version front.entry.now first.exit.now }
+            ensures first { 1 ≤ length front.entry.now → 1 ≤ first_len first.exit.now }
         { read_pieces(rt, version, front, first) },
         &mut ||
             requires { IsSync R.row × (1 ≤ length second.now) × (length second.now ≤ 16) × AreWhole back.now }

@@ -1,5 +1,5 @@
 //! A reader of a trace by several threads, batch by batch.
-ghost use Rattle.std.specs.Prelude.{◌≡◌, ◌+◌, ◌<◌, ◌≤◌, ◌^◌, ℕ, List, [], Option, Some, OnOk, IfOk, length, false};
+ghost use Rattle.std.specs.Prelude.{◌≡◌, ◌+◌, ◌<◌, ◌≤◌, ◌^◌, ℕ, List, [], Option, Some, OnOk, IfOk, length, false, true};
 ghost use Rattle.er_device.specs.Device.{inner_of, has_failed, taken_of};
 ghost use Rattle.er_event.specs.declared.steps.Step.{Step};
 ghost use Rattle.er_text.specs.Batches.{HasRead, GivesBatch};
@@ -30,7 +30,7 @@ const LINE_WINDOW_BYTES: usize = 65_536;
 /// The least bytes of a piece: fewer aren't worth a thread.
 const PIECE_BYTES: usize = 65_536;
 
-/// How many lines are read before those that are cut into pieces. The header is mostly among them.
+/// How many lines the first batch has, before those that are cut into pieces. The header is mostly among them.
 const FIRST_LINES: u32 = 64;
 
 /// How many lines a batch has if one thread reads and answers.
@@ -112,6 +112,7 @@ impl PieceReader {
         ensures grows { OnOk result (Grows trace.old trace.new) }
         ensures limit { self.new.place.limit ≡ self.old.place.limit }
         ensures start { OnOk result (self.old.place.start ≤ self.new.place.start) }
+        ensures more { IfOk result (λ all. all ≡ true → self.old.place.start < self.new.place.start) }
         ensures within { self.new.place.start ≤ self.new.place.limit }
         ensures taken { taken_by self.new.place ≡ taken_by self.old.place }
         ensures most { taken_by self.new.place ≤ self.new.place.limit + bytes_past_limit }
@@ -170,15 +171,16 @@ impl PieceReader {
             };
             return self.lines.next_batch(reader, trace, most_lines);
         }
-        match self.lines.next_batch(reader, trace, FIRST_LINES)? {
-            Batch::End => return Ok(Batch::End),
-            Batch::More => {}
-        }
         self.lines.fill(reader)?;
         if self.add_ahead(rt, trace)? {
             return Ok(Batch::More);
         }
-        self.lines.next_batch(reader, trace, BATCH_LINES)
+        let most_lines = if self.lines.lines_before() == 1 {
+            FIRST_LINES
+        } else {
+            BATCH_LINES
+        };
+        self.lines.next_batch(reader, trace, most_lines)
     }
 
     /// How the text ended, once a batch was the last.

@@ -1,5 +1,5 @@
 //! Pieces of a text: lines that are read apart from those before them, over names of their own.
-ghost use Rattle.std.specs.Prelude.{◌≡◌, ◌+◌, ◌-◌, ◌<◌, ◌≤◌, ◌^◌, ◌&&◌, nat_eq, ℕ, List, Option, take, drop, length, OnOk, IfSome, IsTrue, [], true};
+ghost use Rattle.std.specs.Prelude.{◌≡◌, ◌+◌, ◌-◌, ◌<◌, ◌≤◌, ◌^◌, ◌&&◌, nat_eq, ℕ, All, List, Option, take, drop, length, OnOk, IfSome, IsTrue, [], true};
 ghost use Rattle.er_event.specs.declared.steps.Step.{Step as Steps};
 ghost use Rattle.er_text.specs.Batches.{HasRead};
 ghost use Rattle.er_lines.specs.Lending.{taken_by};
@@ -9,7 +9,7 @@ ghost use Rattle.er_lines.specs.Lines.{bytes_past_limit, lines_of, placed_from};
 ghost use Rattle.er_text.specs.Pieces.{ReadPiece, CanBeNumbered, IsEntered, IsNumbered, IsPieceOf, IsReady, MayBeAdded, StandsInFront};
 ghost use Rattle.er_trace.specs.Appended.{with_table};
 ghost use Rattle.er_trace.specs.Names.{NameTable};
-ghost use Rattle.er_trace.specs.Trace.{with_steps};
+ghost use Rattle.er_trace.specs.Trace.{IsNamed, HasSiteName, with_steps};
 
 use crate::endings::Lost;
 use crate::reading::{Header, TraceReader};
@@ -134,6 +134,22 @@ impl Piece {
             &mut self.sites,
         );
     }
+
+    /// Adds its numbered steps to a trace. One without steps takes the lists for its own, so that nothing is copied.
+    fn give_steps(&mut self, trace: &mut Trace) -> Result<(), AllocError>
+        requires level { length self.old.places ≡ length self.old.steps }
+        requires level_sites { length self.old.sites ≡ length self.old.steps }
+        requires named { All (IsNamed trace.old.names) self.old.steps }
+        requires named_sites { All (HasSiteName trace.old.names) self.old.sites }
+        ensures { OnOk result (trace.new ≡ with_steps trace.old self.old.steps self.old.places self.old.sites) }
+    {
+        if trace.steps().is_empty() {
+            trace.swap_steps(&mut self.steps, &mut self.places, &mut self.sites);
+            return Ok(());
+        }
+        let (steps, places) = (self.steps.as_slice(), self.places.as_slice());
+        trace.add_steps(steps, places, self.sites.as_slice())
+    }
 }
 
 /// Reads lines behind a header, and says how many they are. None if one of them can't be read apart, they have more than a step for each
@@ -227,22 +243,23 @@ impl TraceReader {
         self.lines.number()
     }
 
-    /// Adds the steps of a piece that was read of the lines in front and numbered, and passes over these lines.
+    /// Adds the steps of a piece that was read of the lines in front and numbered, and passes over these lines. A trace without steps takes the piece's
+    /// lists for its own, so that nothing is copied: the piece is then to be read anew.
     ///
     /// `AllocError`: memory was refused, and the trace is as it was.
-    pub fn add_piece(&mut self, trace: &mut Trace, piece: &Piece) -> Result<(), AllocError>
-        requires { MayBeAdded self.old trace.old piece.now }
+    pub fn add_piece(&mut self, trace: &mut Trace, piece: &mut Piece) -> Result<(), AllocError>
+        requires { MayBeAdded self.old trace.old piece.old }
 
         // Of a text that was read so far under some names it gives the steps of the piece behind the others, under its names too.
         ensures told { (text : List ℕ) (steps : List Steps) (lines sites : List ℕ) (known : Option (List ℕ)) (names : NameTable) (read : ReadPiece)
-            → StandsInFront self.old read → read.whole ≡ true → IsReady self.old.place.number (with_table names read.told.names) read piece.now
+            → StandsInFront self.old read → read.whole ≡ true → IsReady self.old.place.number (with_table names read.told.names) read piece.old
             → HasRead text steps lines sites self.old known (record trace.old { names = names })
             → OnOk result (HasRead text steps lines sites self.new known (record trace.new { names = with_table names read.told.names })) }
 
-        ensures trace { OnOk result (trace.new ≡ with_steps trace.old piece.now.steps piece.now.places piece.now.sites) }
-        ensures number { OnOk result (self.new.place.number ≡ self.old.place.number + piece.now.lines) }
-        ensures start { OnOk result (self.new.place.start ≡ self.old.place.start + piece.now.len) }
-        ensures ahead { OnOk result (self.new.place.ahead ≡ drop piece.now.len self.old.place.ahead) }
+        ensures trace { OnOk result (trace.new ≡ with_steps trace.old piece.old.steps piece.old.places piece.old.sites) }
+        ensures number { OnOk result (self.new.place.number ≡ self.old.place.number + piece.old.lines) }
+        ensures start { OnOk result (self.new.place.start ≡ self.old.place.start + piece.old.len) }
+        ensures ahead { OnOk result (self.new.place.ahead ≡ drop piece.old.len self.old.place.ahead) }
         ensures stage { (self.new.stage ≡ self.old.stage) × (self.new.idle ≡ self.old.idle) }
         ensures limit { self.new.place.limit ≡ self.old.place.limit }
         ensures within { self.new.place.start ≤ self.new.place.limit }
@@ -250,14 +267,11 @@ impl TraceReader {
         ensures most { taken_by self.new.place ≤ self.new.place.limit + bytes_past_limit }
     {
         let line = self.lines.number();
-        trace.add_steps(
-            piece.steps.as_slice(),
-            piece.places.as_slice(),
-            piece.sites.as_slice(),
-        )?;
-        self.lines.pass_lines(piece.lines, piece.len);
-        self.cut = cut_behind(self.cut, piece.len);
-        self.header.comment = comment_behind(line, self.header.comment, piece.comment);
+        let (lines, len, comment) = (piece.lines, piece.len, piece.comment);
+        piece.give_steps(trace)?;
+        self.lines.pass_lines(lines, len);
+        self.cut = cut_behind(self.cut, len);
+        self.header.comment = comment_behind(line, self.header.comment, comment);
         Ok(())
     }
 }

@@ -25,6 +25,11 @@ pub record StandInFront (reader : Reached) (pieces : List ReadPiece) : Type 0 wh
 abbrev pub IsWhole : ReadPiece → Type 0
 IsWhole p = p.whole ≡ true
 
+-- how many bytes the first piece has
+abbrev pub first_len : List ReadPiece → ℕ
+first_len [] = 0
+first_len (p ∷ ps) = p.len
+
 -- the numbers of the pieces' lines fit, each counted from behind so many lines and those of the pieces before it
 abbrev pub FitBehind : ℕ → List ReadPiece → Type 0
 FitBehind before [] = Unit {0}

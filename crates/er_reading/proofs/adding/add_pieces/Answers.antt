@@ -1,7 +1,9 @@
 -- The pieces up to the first broken one: their names, their numbers, their steps.
+use Rattle.std.proofs.Common.{length, arith}
+use Rattle.std.proofs.lemmas.Bool.{eqb-true}
 use Rattle.er_text.proofs.GrowthLemmas.{grows_on}
 use Rattle.er_text.specs.Batches.{HasRead}
-use Rattle.er_reading.proofs.AddedLemmas.{all_can, may_add, names_grow, some_fit, told_some}
+use Rattle.er_reading.proofs.AddedLemmas.{all_can, may_add, names_grow, same_first, some_fit, told_some}
 use Rattle.er_reading.proofs.adding.add_pieces.Goals as goal
 
 pub enter_pieces-requires : goal.enter_pieces-requires
@@ -33,3 +35,10 @@ pub returns-clause-grows : goal.returns-clause-grows
 returns-clause-grows g c =
     grows_on c.args.trace.now c.enter_pieces.new.trace c.add_numbered.new.trace
     (names_grow c.args.trace.now c.enter_pieces.new.trace c.split_at_mut-whole.result.0.now c.in_ok-enter_pieces.ensures.names) c.in_ok-add_numbered.ensures.grows
+
+pub returns-clause-first : goal.returns-clause-first
+returns-clause-first g c = λ whole.
+    let same = same_first c.args.pieces.now c.split_at_mut-whole.result.0.now c.enter_pieces.new.pieces c.number_pieces.new.pieces c.whole_count-count.result c.lines_before-before.result
+    c.args.trace.now.names c.split_at_mut-whole.ensures.front (eqb-true c.whole_count-count.result (length c.args.pieces.now) whole)
+    c.in_ok-enter_pieces.ensures.entered c.number_pieces.ensures in
+    omega (arith, c.in_ok-add_numbered.ensures.start, same)

@@ -31,29 +31,19 @@ pub returns-clause-told : goal.returns-clause-told
 returns-clause-told c = λ text steps lines sites known names read front whole ready had.
     let inside : Reached = record { place = c.self.inside.lines; stage = c.self.inside.header.stage; idle = c.self.inside.header.idle; tail = record { cut = c.self.inside.cut; comment = c.self.inside.header.comment } } in
     let t : Recording = record c.args.trace.now { names = names } in
-    let u : Recording = record c.add_steps.new.self { names = with_table names read.told.names } in
-    let piece : ReadPiece = record {
-      told = c.piece.inside.trace;
-      lines = c.piece.inside.lines;
-      len = c.piece.inside.len;
-      whole = c.piece.inside.whole;
-      comment = c.piece.inside.comment;
-      numbers = c.piece.inside.numbers;
-      before = c.piece.inside.before;
-      steps = c.piece.inside.steps.items;
-      places = c.piece.inside.places.items;
-      sites = c.piece.inside.sites.items;
-    } in
+    let u : Recording = record c.give_steps.new.trace { names = with_table names read.told.names } in
+    let piece : ReadPiece = c.args.piece.now in
     let known_ready : IsReady inside.place.number (with_table names read.told.names) read piece =
-    subst (λ (r : Reached). IsReady r.place.number (with_table names read.told.names) read piece) (sym c.self.view_is)
-    (subst (λ (p : ReadPiece). IsReady c.args.self.now.place.number (with_table names read.told.names) read p) (sym c.piece.view_is) ready) in
-    let told = ready_appended inside.place.number c.args.trace.now c.add_steps.new.self names read piece c.as_slice.result.now c.as_slice-2.result.now c.as_slice-3.result.now
-    c.in_ok-add_steps.ensures.ok c.as_slice.ensures.value c.as_slice-2.ensures.value c.as_slice-3.ensures.value known_ready in
+    subst (λ (r : Reached). IsReady r.place.number (with_table names read.told.names) read piece) (sym c.self.view_is) ready in
+    let told = ready_appended inside.place.number c.args.trace.now c.give_steps.new.trace names read piece piece.steps piece.places piece.sites
+    c.in_ok-give_steps.ensures refl refl refl known_ready in
     let passed : c.pass_lines.new.self ≡ past_lines inside.place read.lines read.len =
-    c.pass_lines.ensures ∙ ap (λ (n : ℕ). past_lines inside.place n piece.len) known_ready.lines ∙ ap (λ (n : ℕ). past_lines inside.place read.lines n) known_ready.len in
-    let cut : c.cut_behind-self-inside.result ≡ (inside.tail.cut && nat_eq read.len 0) = c.cut_behind-self-inside.ensures ∙ ap (λ (n : ℕ). inside.tail.cut && nat_eq n 0) known_ready.len in
+    c.pass_lines.ensures ∙ ap (λ (p : ReadPiece). past_lines inside.place p.lines p.len) c.piece.view_is
+    ∙ ap (λ (n : ℕ). past_lines inside.place n piece.len) known_ready.lines ∙ ap (λ (n : ℕ). past_lines inside.place read.lines n) known_ready.len in
+    let cut : c.cut_behind-self-inside.result ≡ (inside.tail.cut && nat_eq read.len 0) = c.cut_behind-self-inside.ensures ∙ ap (λ (p : ReadPiece). inside.tail.cut && nat_eq p.len 0) c.piece.view_is ∙ ap (λ (n : ℕ). inside.tail.cut && nat_eq n 0) known_ready.len in
     let comment : c.comment_behind-self-inside.result ≡ comment_behind inside.place.number inside.tail.comment read.comment =
     c.comment_behind-self-inside.ensures
+    ∙ ap (λ (p : ReadPiece). comment_behind c.number-line.result inside.tail.comment p.comment) c.piece.view_is
     ∙ ap (λ (n : ℕ). comment_behind n inside.tail.comment piece.comment) c.number-line.ensures.value
     ∙ ap (λ (l : Option Lost). comment_behind inside.place.number inside.tail.comment l) known_ready.comment in
     let tail : Tail = record { cut = c.cut_behind-self-inside.result; comment = c.comment_behind-self-inside.result } in
