@@ -212,7 +212,7 @@ fn add_items(
     let mut next = 0;
     let mut plain = 0;
     for (k, step) in steps.iter().enumerate() {
-        if says_nothing(explains, step.event, items, next, k) {
+        if says_nothing(explains, step, items, next, k) {
             plain += 1;
         } else {
             next = add_next(builder, plain, trace, items, next, k, &none)?;
@@ -224,16 +224,16 @@ fn add_items(
 }
 
 // Whether the report says nothing of the step at position k: its answer is the usual one, and if reasons are wanted it is an access that
-// isn't noted as one that changed its word.
+// isn't noted as one that changed its word. Else the step itself isn't looked at, so that a batch that has left the cache isn't loaded again.
 #[inline(always)]
-fn says_nothing(explains: bool, event: Event, items: &[Unusual], next: usize, k: usize) -> bool
+fn says_nothing(explains: bool, step: &Step, items: &[Unusual], next: usize, k: usize) -> bool
     ensures place { IsTrue result → Rise items.now → IsNext items.now next k → IsNext items.now next (k + 1) }
-    ensures access { IsTrue result → explains ≡ true → is_access event ≡ true }
+    ensures access { IsTrue result → explains ≡ true → is_access step.now.event ≡ true }
 {
     if item_at(items, next, k).is_some() {
         return false;
     }
-    !explains || matches!(event, Event::Access(..))
+    !explains || matches!(step.event, Event::Access(..))
 }
 
 // Adds `plain` steps at once that the report has no line for, and then the step at position k of a batch, with its item's answer or the
