@@ -1,11 +1,12 @@
 #!/usr/bin/env python3
 """Texts that were made to take long, or to take much memory: those of `bench/hostile`.
 
-`tests/run` calls `answers`, `costs`, `turns` and `second_looks`. By itself this file runs these tests alone.
+`tests/run` calls `answers`, `costs`, `barriers`, `turns` and `second_looks`. By itself this file runs these tests alone.
 
 - each kind is answered as the references answer it: by locks and by happens-before, with reasons, by several workers, and also if the system gives no
   random bytes to hash by
-- clocks that really differ take no more memory than other texts: the replay ends with a fault
+- clocks that really differ take no more memory than other texts, and no more time: the replay ends with a fault
+- 2,000 threads that meet at 32 barriers, and signal unequally often, end with no fault
 - threads that meet at barriers over and over, and signal equally often, compare no counts but those of their own block
 - no text takes more than 400 bytes of memory for each of its own, beside 32 MiB, and by happens-before alone no more than 200. The dearest line takes a
   page: 4,096 bytes by locks, and 2,048 by happens-before
@@ -56,6 +57,7 @@ COSTS = {
     "locksets": (2000, [[], EXPLAIN]),
     "meets": (2000, [[]]),
     "threads": (4000, [[]]),
+    "objects": (8000, [[], HAPPENS_BEFORE]),
     "lines": (2000, [["--by-site", *EXPLAIN]]),
     "readers": (2000, [[], EXPLAIN, HAPPENS_BEFORE, [*HAPPENS_BEFORE, *EXPLAIN]]),
     "handed-on": (2000, [[], HAPPENS_BEFORE]),
@@ -66,10 +68,14 @@ COSTS = {
     "two-signals": (4000, [[], HAPPENS_BEFORE]),
     "some-signals": (4000, [[], HAPPENS_BEFORE]),
     "barriers": (2000, [[], HAPPENS_BEFORE]),
+    "unequal": (4000, [[], HAPPENS_BEFORE]),
+    "in-turn": (8000, [[], HAPPENS_BEFORE]),
     "freed": (2000, [[], HAPPENS_BEFORE]),
 }
-# The clocks of these have each other counts than all others: the longer text ends with a fault.
-TOO_LARGE = ["two-signals", "some-signals"]
+# The clocks of these differ from one another, or are compared count by count at each step: the longer text ends with a fault.
+TOO_LARGE = ["two-signals", "some-signals", "unequal", "in-turn"]
+# How often what an honest program of many threads does at four barriers is done again: in all it is more work than there may be before any step.
+THREADS, AGAIN = 2000, 8
 # The same of a kind whose second options want a shorter text: by happens-before only 65,536 threads may take locks, and a text has eight times as many threads as
 # its number.
 COSTS_BESIDE = [("threads", (1000, [HAPPENS_BEFORE]))]
@@ -162,6 +168,14 @@ def costs(record):
                     record(f"{name}: instructions", many <= MOST_TIMES * longer * few, f"{few} and {many}, {many / few / longer:.2f} times as many")
 
 
+def barriers(record):
+    """What is more work than there may be before any step is none too much for so many steps."""
+    header, _, body = made("unequal", THREADS).partition(b"\n")
+    found = run([*HAPPENS_BEFORE, "-"], header + b"\n" + AGAIN * body)
+    wanted = b"steps %d, unordered 0, suppressed 0, refused 0\n" % (AGAIN * body.count(b"\n"))
+    record(f"hostile: {THREADS} threads at {4 * AGAIN} barriers", found == (wanted, NO_END, 0), f"{found}"[:300])
+
+
 def rules(record):
     """Each reuse is a race, and is looked up among as many rules of words as there are words."""
     counts, sizes = [], []
@@ -221,6 +235,7 @@ def second_looks(record):
 def tests(record, preloaded):
     answers(record, preloaded)
     costs(record)
+    barriers(record)
     rules(record)
     turns(record)
     long_reuses(record)

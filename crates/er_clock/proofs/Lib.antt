@@ -1,6 +1,5 @@
 pub mod ClockLemmas
 pub mod Parts
-pub mod Maps
 pub mod TableLemmas
 pub mod Counts
 pub mod Outcomes

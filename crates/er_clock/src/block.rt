@@ -193,6 +193,11 @@ impl Shared {
         &self.block.as_ref().0
     }
 
+    // The greatest of its counts.
+    fn greatest(&self) -> u32 {
+        self.block.as_ref().2
+    }
+
     // Whether the least count is as great as the other's greatest. So blocks whose counts are all the same are compared at once.
     #[inline(always)]
     fn exceeds(&self, other: &Shared) -> bool
@@ -221,8 +226,15 @@ impl Part for Shared {
         self.block().count(place)
     }
 
-    fn covers(&self, other: &Self) -> bool {
-        self.exceeds(other) || self.block().covers(other.block())
+    fn covers(&self, other: &Self, room: &Room) -> bool {
+        if self.exceeds(other) {
+            return true;
+        }
+        if other.greatest() > self.greatest() {
+            return false;
+        }
+        room.count_work();
+        self.block().covers(other.block())
     }
 
     fn again(&self) -> Result<Self, AllocError> {
@@ -232,19 +244,13 @@ impl Part for Shared {
 
     fn joined(&self, other: &Self, room: &Room) -> Result<Self, AllocError> {
         // Of two equal blocks the other one stays, so that threads which learn the same come to share one.
-        if other.exceeds(self) {
+        if other.covers(self, room) {
             return other.again();
         }
-        if self.exceeds(other) {
+        if self.covers(other, room) {
             return self.again();
         }
         let (one, two) = (self.block(), other.block());
-        if two.covers(one) {
-            return other.again();
-        }
-        if one.covers(two) {
-            return self.again();
-        }
         let mut block = one.copy()?;
         block.join(two)?;
         Shared::new(room, block)

@@ -46,7 +46,7 @@ pub enum Limit {
     Count,
     /// A thread whose number is 65,536 or more takes part in the order of threads.
     Threads,
-    /// The clocks together take as much memory as there is room for after so many steps. With at most 128 threads they never do.
+    /// The clocks together take more memory, or were more work, than is allowed after so many steps. With at most 128 threads they never do.
     Clocks,
 }
 

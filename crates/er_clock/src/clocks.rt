@@ -13,6 +13,7 @@ use crate::table::ClockTable;
 use crate::takers::Takers;
 use crate::threads::{ThreadClock, ThreadClocks};
 use er_event::{Event, LockId, Mode, Step, Sync, ThreadId};
+use er_keys::HashKeys;
 use std::alloc::{AllocError, Global};
 use std::marker::Model;
 
@@ -42,15 +43,22 @@ impl Model for Clocks {
 impl Clocks {
     ghost use Rattle.er_clock.specs.Standing.{counts, SameCounts, Moves, act_if, StandsForClocksOf, is_accepted};
 
-    /// The clocks before any step: each thread knows its own count alone, which begins at 1.
+    /// The clocks before any step, found by keys that everybody knows: for lists that weren't made to be slow.
     pub fn new(alloc: Global) -> Self
         ensures { StandsForClocksOf result [] }
     {
+        Clocks::keyed(alloc, HashKeys::KNOWN)
+    }
+
+    /// The clocks before any step: each thread knows its own count alone, which begins at 1. They are found by these keys.
+    pub fn keyed(alloc: Global, keys: HashKeys) -> Self
+        ensures { StandsForClocksOf result [] }
+    {
         Clocks {
-            threads: ThreadClocks::new(alloc),
-            written: ClockTable::new(alloc),
-            read: ClockTable::new(alloc),
-            objects: ClockTable::new(alloc),
+            threads: ThreadClocks::new(alloc, keys),
+            written: ClockTable::new(alloc, keys),
+            read: ClockTable::new(alloc, keys),
+            objects: ClockTable::new(alloc, keys),
             takers: Takers::new(alloc),
         }
     }
@@ -68,7 +76,7 @@ impl Clocks {
     ///
     /// # Errors
     /// `Limit::Threads`: an accepted step that orders threads is by a thread whose number is 65,536 or more, or starts or joins one. Else
-    /// `Limit::Clocks`: the clocks are too large, and its thread knows a step of a thread after the first 128, be it its own. Else `Limit::Count`: a thread's
+    /// `Limit::Clocks`: the clocks are too large, or were too much work, and its thread knows a step of a thread after the first 128, be it its own. Else `Limit::Count`: a thread's
     /// own count would rise, and is the greatest. `OutOfMemory`: memory was refused.
     pub fn follow(&mut self, step: &Step, accepted: bool) -> Result<(), NoTick>
         ensures goes_on { (steps : List Steps) → StandsForClocksOf self.old steps → accepted ≡ is_accepted steps step.now

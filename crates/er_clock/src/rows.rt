@@ -25,7 +25,7 @@ pub(crate) trait Part: Drop {
         ensures { result ≡ counts self.now place };
 
     /// Whether each count is as great as the other's. `false` may be wrong.
-    fn covers(&self, other: &Self) -> bool
+    fn covers(&self, other: &Self, room: &Room) -> bool
         ensures { IsTrue result → (place : ℕ) → counts other.now place ≤ counts self.now place };
 
     /// The same counts for one clock more.
@@ -116,8 +116,9 @@ impl<P: Part> Part for Row<P> {
         }
     }
 
-    fn covers(&self, other: &Self) -> bool {
-        cover(self.parts(), other.parts())
+    fn covers(&self, other: &Self, room: &Room) -> bool {
+        room.count_work();
+        cover(self.parts(), other.parts(), room)
     }
 
     fn again(&self) -> Result<Self, AllocError> {
@@ -129,10 +130,10 @@ impl<P: Part> Part for Row<P> {
     }
 
     fn joined(&self, other: &Self, room: &Room) -> Result<Self, AllocError> {
-        if other.covers(self) {
+        if other.covers(self, room) {
             return other.again();
         }
-        if self.covers(other) {
+        if self.covers(other, room) {
             return self.again();
         }
         let parts = joined_parts(room, self.parts(), other.parts(), 0)?;
@@ -151,14 +152,14 @@ impl<P: Part> Part for Row<P> {
 }
 
 // Whether each of the parts covers the other at its place.
-fn cover<P: Part>(parts: &[P], others: &[P]) -> bool
+fn cover<P: Part>(parts: &[P], others: &[P], room: &Room) -> bool
     ensures { IsTrue result → (part place : ℕ) → count_in_part P.counts others.now part place ≤ count_in_part P.counts parts.now part place }
 {
     if parts.len() < others.len() {
         return false;
     }
     for at in 0..others.len() {
-        if !parts[at].covers(&others[at]) {
+        if !parts[at].covers(&others[at], room) {
             return false;
         }
     }

@@ -1,13 +1,12 @@
 //! Clocks by number.
-ghost use Rattle.std.specs.Prelude.{◌≡◌, ◌↔◌, ◌≤◌, ◌<◌, ◌^◌, ◌-◌, ◌+◌, ◌==◌, ℕ, nat_eq, max, cond, slice_get, Some, None, IfSome, IfNone, IsTrue, OnOk, OnErr, IsErrOf};
-ghost use Rattle.indexmap.specs.IndexMap.{get, keys, index_map_len, IsUnique};
+ghost use Rattle.std.specs.Prelude.{◌≡◌, ◌↔◌, ◌≤◌, ◌<◌, ◌^◌, ◌-◌, ◌+◌, ◌==◌, ℕ, max, cond, IsTrue, OnOk, OnErr, IsErrOf};
 ghost use Rattle.er_clock.specs.Clock.{count_in, Joins, Stays};
 ghost use Rattle.er_clock.specs.Table.{known_by};
 
 use crate::clock::{Clock, Limit, NoTick};
 use crate::room::Room;
 use er_event::ThreadId;
-use er_keys::Hints;
+use er_keys::{HashKeys, Hints, NumberHasher, index_of};
 use indexmap::IndexMap;
 use std::alloc::{AllocError, Global};
 use std::marker::Model;
@@ -16,7 +15,7 @@ use std::mem;
 /// The clocks of what is in use (threads, locks or objects), by its number. Any other clock is empty and takes no memory.
 #[derive(Drop)]
 pub(crate) struct ClockTable {
-    clocks: IndexMap<u32, Clock>,
+    clocks: IndexMap<u64, Clock, NumberHasher>,
     // Where the clock of a number stands.
     places: Hints,
     empty: Clock,
@@ -36,12 +35,12 @@ impl Model for ClockTable {
 impl ClockTable {
     ghost use Rattle.er_clock.specs.declared.clock.Limit.{Limit as Limits};
 
-    /// All are empty.
-    pub(crate) fn new(alloc: Global) -> Self
+    /// All are empty. Numbers are hashed by these keys.
+    pub(crate) fn new(alloc: Global, keys: HashKeys) -> Self
         ensures { (n u : ℕ) → known_by result n u ≡ 0 }
     {
         ClockTable {
-            clocks: IndexMap::new(alloc),
+            clocks: IndexMap::with_hasher(alloc, NumberHasher::new(keys)),
             places: Hints::new(alloc),
             empty: Clock::new(alloc),
         }
@@ -52,7 +51,8 @@ impl ClockTable {
     pub(crate) fn get(&self, number: u32) -> &Clock
         ensures { (u : ℕ) → count_in result.now u ≡ known_by self.now number u }
     {
-        match index_of(&self.clocks, self.places.hint(number as u64), number) {
+        let key = number as u64;
+        match index_of(&self.clocks, self.places.hint(key), key) {
             Some(index) => &self.clocks[index],
             None => &self.empty,
         }
@@ -71,17 +71,18 @@ impl ClockTable {
         ensures ok { OnOk result ((n u : ℕ) → known_by self.new n u ≡ cond (number == n) (max (known_by self.old n u) (count_in other.now u)) (known_by self.old n u)) }
         ensures err { OnErr result ((n u : ℕ) → known_by self.new n u ≡ known_by self.old n u) }
     {
-        match index_of(&self.clocks, self.places.hint(number as u64), number) {
+        let key = number as u64;
+        match index_of(&self.clocks, self.places.hint(key), key) {
             Some(index) => {
-                self.places.note(number as u64, index);
+                self.places.note(key, index);
                 let clock = &mut self.clocks[index];
                 take(clock, other, is_covered, room)
             }
             None => {
                 let mut clock = Clock::new(room.alloc);
                 clock.join(other, room)?;
-                self.places.note(number as u64, self.clocks.len());
-                self.clocks.insert(number, clock)?;
+                self.places.note(key, self.clocks.len());
+                self.clocks.insert(key, clock)?;
                 Ok(())
             }
         }
@@ -95,17 +96,18 @@ impl ClockTable {
         ensures full { IsErrOf result (NoTick.Beyond Limit.Count) → known_by self.old number thread ≡ 2 ^ 32 - 1 }
         ensures others { (limit : Limits) → IsErrOf result (NoTick.Beyond limit) → limit ≡ Limit.Count }
     {
-        match index_of(&self.clocks, self.places.hint(number as u64), number) {
+        let key = number as u64;
+        match index_of(&self.clocks, self.places.hint(key), key) {
             Some(index) => {
-                self.places.note(number as u64, index);
+                self.places.note(key, index);
                 let known = &mut self.clocks[index];
                 known.tick(thread, room)
             }
             None => {
                 let mut clock = Clock::new(room.alloc);
                 clock.tick(thread, room)?;
-                self.places.note(number as u64, self.clocks.len());
-                match self.clocks.insert(number, clock) {
+                self.places.note(key, self.clocks.len());
+                match self.clocks.insert(key, clock) {
                     Ok(_) => Ok(()),
                     Err(_) => Err(NoTick::OutOfMemory),
                 }
@@ -118,7 +120,8 @@ impl ClockTable {
         requires { (u : ℕ) × (0 < known_by self.old number u) }
         ensures { (n u : ℕ) → known_by self.new n u ≡ cond (number == n) (count_in other.old u) (known_by self.old n u) }
     {
-        match index_of(&self.clocks, self.places.hint(number as u64), number) {
+        let key = number as u64;
+        match index_of(&self.clocks, self.places.hint(key), key) {
             Some(index) => mem::swap(&mut self.clocks[index], other),
             None => {}
         }
@@ -135,20 +138,5 @@ fn take(clock: &mut Clock, other: &Clock, is_covered: bool, room: &Room) -> Resu
         clock.catch_up(other)
     } else {
         clock.join(other, room)
-    }
-}
-
-// Where the clock of this number stands. It looks at the one at `hint` first, and needs no hash if that is the one, or if there is none.
-#[inline]
-fn index_of<V>(map: &IndexMap<u32, V>, hint: usize, number: u32) -> Option<usize>
-    ensures key { IfSome result (λ index. slice_get (keys map.now) index ≡ Some number) }
-    ensures within { IfSome result (λ index. index < index_map_len map.now) }
-    ensures none { IfNone result (get nat_eq map.now number ≡ None) }
-    ensures unique { IsUnique nat_eq map.now }
-{
-    match map.as_slice().get_index(hint) {
-        Some((key, _)) if *key == number => Some(hint),
-        _ if map.is_empty() => None,
-        _ => map.get_index_of(&number),
     }
 }

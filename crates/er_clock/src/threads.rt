@@ -10,6 +10,7 @@ use crate::clock::{Clock, Epoch, Limit, NoTick};
 use crate::room::Room;
 use crate::table::ClockTable;
 use er_event::ThreadId;
+use er_keys::HashKeys;
 use std::alloc::{AllocError, Global};
 use std::marker::Model;
 
@@ -83,11 +84,11 @@ impl Model for ThreadClocks {
 
 impl ThreadClocks {
     /// No thread knows another's steps.
-    pub(crate) fn new(alloc: Global) -> Self
+    pub(crate) fn new(alloc: Global, keys: HashKeys) -> Self
         ensures { (t u : ℕ) → known_to result t u ≡ own_begun t u }
     {
         ThreadClocks {
-            table: ClockTable::new(alloc),
+            table: ClockTable::new(alloc, keys),
             carried: Clock::new(alloc),
             next: Clock::new(alloc),
             room: Room::new(alloc),
@@ -102,7 +103,7 @@ impl ThreadClocks {
         self.room.grow()
     }
 
-    /// Whether there is no room, and the thread knows a step of one after the first 128. A thread that knows none adds little.
+    /// Whether the clocks are too large, or were too much work, and the thread knows a step of one after the first 128. A thread that knows none adds little.
     #[inline(always)]
     pub(crate) fn is_large(&self, thread: ThreadId) -> bool
         ensures { IsTrue result → (u : ℕ) × (128 ≤ u) × (0 < known_to self.now thread u) }

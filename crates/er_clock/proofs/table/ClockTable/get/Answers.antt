@@ -1,7 +1,7 @@
 use Rattle.std.proofs.Common.{ap, sym, ◌∙◌}
 use Rattle.er_clock.specs.Clock.{count_in}
 use Rattle.er_clock.specs.Table.{known_by}
-use Rattle.er_clock.proofs.Maps.{entry_found}
+use Rattle.er_keys.proofs.MapLemmas.{entry_found}
 use Rattle.er_clock.proofs.TableLemmas.{clock_found, count_absent}
 use Rattle.er_clock.proofs.table.ClockTable.get.Goals as goal
 

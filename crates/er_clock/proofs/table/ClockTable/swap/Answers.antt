@@ -1,7 +1,7 @@
 use Rattle.std.proofs.Common.{◌≡◌, ◌∙◌, ap, sym, arith}
 use Rattle.er_clock.specs.Clock.{count_in}
 use Rattle.er_clock.specs.Table.{known_by}
-use Rattle.er_clock.proofs.Maps.{entry_put}
+use Rattle.er_keys.proofs.MapLemmas.{entry_put}
 use Rattle.er_clock.proofs.TableLemmas.{count_absent, count_written}
 use Rattle.er_clock.proofs.table.ClockTable.swap.Goals as goal
 

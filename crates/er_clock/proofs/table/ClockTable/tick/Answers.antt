@@ -4,7 +4,7 @@ use Rattle.indexmap.specs.IndexMap.{values, with_value_at}
 use Rattle.er_event.proofs.Results.{on_ok, on_err}
 use Rattle.er_clock.specs.Clock.{Counts, count_in}
 use Rattle.er_clock.specs.Table.{clock_at, known_by}
-use Rattle.er_clock.proofs.Maps.{entry_found, entry_put}
+use Rattle.er_keys.proofs.MapLemmas.{entry_found, entry_put}
 use Rattle.er_clock.proofs.TableLemmas.{clock_found, count_absent, count_written, count_rewritten}
 use Rattle.er_clock.proofs.table.ClockTable.tick.Goals as goal
 use Rattle.er_clock.proofs.table.ClockTable.tick.Goals.{In-Some}

@@ -1,6 +1,6 @@
 use Rattle.er_event.specs.declared.steps.Mode.TheVariants.{Read, Write}
 use Rattle.er_order.specs.Clocks.{OfThread, OfReleases, OfObject, clocks_at}
-use Rattle.er_clock.proofs.clocks.Clocks.new.Goals as goal
+use Rattle.er_clock.proofs.clocks.Clocks.keyed.Goals as goal
 
 pub returns : goal.returns
 unfolding clocks_at
