@@ -1,3 +1,4 @@
+pub mod CallLemmas
 pub mod DecodedLaws
 pub mod LineLemmas
 pub mod DecoderLaws

@@ -14,8 +14,10 @@
 //! ```
 #![tactic(auto)]
 
+pub use calls::Calls;
 pub use decoded::Decoded;
 
+mod calls;
 mod decoded;
 mod decoder;
 mod names;
