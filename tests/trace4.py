@@ -19,6 +19,7 @@ import reference
 MAGIC = b"\xe5eraser\x04"
 BLOCK = struct.Struct("<IIQ")
 MOST_BYTES = 1 << 20
+MOST_NAMES, MOST_NODES = 1 << 20, 1 << 24
 USUAL_BYTES = 1 << 16
 ADDRESS_END = 1 << 48
 # By the bits of a tag.
@@ -202,7 +203,7 @@ class Trace:
             self.read_bytes(kind, self.take(operand))
         elif kind == NEW_NODE:
             place, flags = self.number(4), self.number(1)
-            self.check(operand < len(self.nodes) and place < len(self.places) and flags <= IN_HEADER | INLINED)
+            self.check(operand < len(self.nodes) and place < len(self.places) and flags <= IN_HEADER | INLINED and len(self.nodes) <= MOST_NODES)
             self.nodes.append(Node(operand, place, flags))
         elif kind == LOST:
             self.lost = operand
@@ -221,16 +222,17 @@ class Trace:
         elif kind == LEVEL:
             self.line(b"level", b"%d" % operand)
 
+    def add_name(self, table, is_right, name):
+        self.check(is_right and len(table) < MOST_NAMES)
+        table.append(name)
+
     def read_bytes(self, kind, content):
         if kind == THREAD_NAME:
-            self.check(reference.is_name(content))
-            self.threads.append(content)
+            self.add_name(self.threads, reference.is_name(content), content)
         elif kind == LOCK_NAME:
-            self.check(reference.is_name(content, of_lock=True))
-            self.locks.append(content)
+            self.add_name(self.locks, reference.is_name(content, of_lock=True), content)
         elif kind == PLACE:
-            self.check(reference.is_site(content, b"3") and content != b"-")
-            self.places.append(content)
+            self.add_name(self.places, reference.is_site(content, b"3") and content != b"-", content)
         elif kind == NOTE:
             self.check(len(content) <= 1000 and all(32 <= byte <= 126 for byte in content))
             self.lines.append(b"# " + content)

@@ -7,7 +7,7 @@
   the text, and replays give the same report, by path and by standard input, with each option of a report and several workers
 - three small traces cut off at each byte, and with a random bit of each byte flipped: the fault of the damage, or the same report
 - records that no trace has, in blocks whose checksum is right: the damage is at their byte, and with --until-fault what stands before it is reported
-- records and blocks of the greatest length, and of one byte more; long traces of several blocks
+- one name or place more than a trace may have; records and blocks of the greatest length, and of one byte more; long traces of several blocks
 - each allocation refused in turn; reads of a few bytes at a time, and each read failed in turn
 - the example of docs/FORMATS.md has the text that stands beside it
 """
@@ -264,6 +264,19 @@ def damaged_blocks(race, begin):
     yield "a block that is too large", of_blocks(larger), b"damaged at byte 8"
 
 
+def full_tables(record):
+    """One name or place more than a trace may have. So many nodes would take too long."""
+    for kind in (T.THREAD_NAME, T.LOCK_NAME, T.PLACE):
+        name = named(kind, b"n")
+        full = [[name] * (T.MOST_NAMES // 4)] * 4
+        data = of_blocks(*full, [name, record_of(T.END, 0)])
+        damage = b"damaged at byte %d" % (len(of_blocks(*full)) + 16)
+        found = trace4.Trace(data).damage
+        record(f"trace 4: the second reading of too many names of kind {kind}", found == damage, f"{found}, {damage}")
+        found = run(["print", "-"], data)
+        record(f"trace 4: too many names of kind {kind}", found == (b"eraser trace 3\n" + damage + b"\n", b"", 0), f"{found}"[:1500])
+
+
 # ---- What fails around the program
 
 def refusals(record, preloaded, folder):
@@ -313,6 +326,7 @@ def tests(record, preloaded):
         long_traces(record)
         cut_and_flipped(record)
         built(record)
+        full_tables(record)
         refusals(record, preloaded, folder)
         pieces(record, preloaded, folder)
 

@@ -1,5 +1,8 @@
 pub mod CallLemmas
+pub mod NodeLemmas
+pub mod NoteLemmas
 pub mod DecodedLaws
+pub mod HexLemmas
 pub mod LineLemmas
 pub mod DecoderLaws
 pub mod FillLemmas

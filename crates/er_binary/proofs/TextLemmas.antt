@@ -1,17 +1,5 @@
--- Digits of a number, and texts that are put one behind another.
-use Rattle.std.proofs.Common.{◌≡◌, ◌≢◌, ℕ, zero, suc, ◌-◌, ◌/◌, ◌%◌, List, ◌∷◌, [], ◌++◌, refl, ap, ◌∙◌, append_assoc, arith, Result, Ok, Err, OnOk, OnErr}
-use Rattle.std.specs.Char.{digit_char}
-use Rattle.er_binary.specs.Numbers.{hex_digits}
-
-pub hex_none : (count n : ℕ) → count ≡ 0 → hex_digits count n ≡ []
-unfolding hex_digits
-hex_none zero n e = refl
-hex_none (suc k) n e = absurd (omega arith)
-
-pub hex_more : (count n : ℕ) → count ≢ 0 → hex_digits count n ≡ hex_digits (count - 1) (n / 16) ++ digit_char (n % 16) ∷ []
-unfolding hex_digits
-hex_more zero n some = absurd (some refl)
-hex_more (suc k) n some = let e : suc k - 1 ≡ k = omega arith in rw e refl
+-- Texts that are put one behind another.
+use Rattle.std.proofs.Common.{◌≡◌, ℕ, List, ◌++◌, ap, ◌∙◌, append_assoc, Result, Ok, Err, OnOk, OnErr}
 
 -- two texts put one behind the other
 pub put_two : (old front new first second : List ℕ) → front ≡ old ++ first → new ≡ front ++ second → new ≡ old ++ (first ++ second)

@@ -1,8 +1,8 @@
 -- The calls that led to the events on lines of a trace.
-use Rattle.std.specs.Prelude.{ℕ, List, [], map, vec_items, unwrap_or}
+use Rattle.std.specs.Prelude.{ℕ, List, [], map, option_map, vec_items, unwrap_or}
 use Rattle.std.specs.Global.{Vec}
 use Rattle.std.specs.Map.{lookup}
-use Rattle.std.specs.BTreeMap.{BTreeMap, is_at}
+use Rattle.std.specs.BTreeMap.{BTreeMap, get, is_at}
 use Rattle.std.specs.Ordering.{nat_cmp}
 use Rattle.er_binary.specs.Numbers.{name_at}
 
@@ -19,6 +19,10 @@ numbers_of c line = unwrap_or (lookup (is_at (nat_cmp line)) c.lines) []
 abbrev pub calls_of : CallTable → ℕ → List (List ℕ)
 calls_of c line = map (λ n. name_at c.names n) (numbers_of c line)
 
--- what a map keeps
+-- the numbers that a map keeps for a line
+abbrev pub numbers_in : BTreeMap ℕ (Vec ℕ) → ℕ → List ℕ
+numbers_in by_line line = unwrap_or (option_map vec_items (get nat_cmp by_line line)) []
+
+-- all that it keeps
 abbrev pub kept : BTreeMap ℕ (Vec ℕ) → List (ℕ × List ℕ)
 kept by_line = map (λ e. (e.0, vec_items e.1)) by_line.entries

@@ -1,6 +1,6 @@
--- What a reader of a trace of any form still gives.
-use Rattle.std.specs.Prelude.{◌≡◌, ℕ, List, ◌++◌, drop, take}
-use Rattle.er_binary.specs.Inner.Decoders.{still}
+-- What a reader of a trace of any form still gives, and what it noted.
+use Rattle.std.specs.Prelude.{◌≡◌, ℕ, List, [], ◌++◌, drop, take}
+use Rattle.er_binary.specs.Inner.Decoders.{still, told_of}
 use Rattle.er_binary.specs.Meaning.{meant}
 use Rattle.er_binary.specs.declared.decoded.Decoded.{Decoded}
 use Rattle.er_binary.specs.declared.decoded.Form.{Form}
@@ -23,3 +23,11 @@ to_come decoded bytes = let first = take decoded.held decoded.first in to_come_b
 -- it has given nothing yet
 abbrev pub IsFresh : {R : Type 0} → Decoded R → Type 0
 IsFresh decoded = (bytes : List ℕ) → to_come decoded bytes ≡ meant bytes
+
+-- the names of the places of the calls that it has noted for a line, from the one next to its event outward
+abbrev pub told_by : Form → ℕ → List (List ℕ)
+told_by (form.Binary decoder) line = told_of decoder line
+told_by f line = []
+
+abbrev pub calls_noted : {R : Type 0} → Decoded R → ℕ → List (List ℕ)
+calls_noted decoded line = told_by decoded.form line

@@ -1,4 +1,5 @@
 -- What stands inside the decoder.
 pub mod Decoders
+pub mod Notes
 pub mod Spans
 pub mod Taking

@@ -1,4 +1,5 @@
 pub mod Calls
+pub mod Nodes
 pub mod Numbers
 pub mod Records
 pub mod Decoded

@@ -1,6 +1,6 @@
 -- Numbers in bytes and as text, and lists of names.
-use Rattle.std.specs.Prelude.{ℕ, zero, suc, ◌+◌, ◌*◌, ◌/◌, ◌%◌, ◌^◌, List, [], ◌∷◌, ◌++◌, codes, slice_range, slice_index_or}
-use Rattle.std.specs.Char.{digit_char}
+use Rattle.std.specs.Prelude.{ℕ, ◌+◌, ◌*◌, ◌%◌, ◌^◌, List, [], ◌∷◌, ◌++◌, codes, slice_range, slice_index_or}
+use Rattle.er_lines.specs.Number.{hex_digits}
 
 -- the number that bytes write, the lowest first
 abbrev pub number : List ℕ → ℕ
@@ -14,11 +14,6 @@ number_in bytes from to = number (slice_range bytes from to)
 -- a sum in 64 bits
 abbrev pub plus : ℕ → ℕ → ℕ
 plus a b = (a + b) % 2 ^ 64
-
--- so many lower-case hexadecimal digits, of which the last is the lowest
-unfoldable pub hex_digits : ℕ → ℕ → List ℕ
-hex_digits zero n = []
-hex_digits (suc k) n = hex_digits k (n / 16) ++ digit_char (n % 16) ∷ []
 
 -- a space and an address
 abbrev pub address_word : ℕ → List ℕ

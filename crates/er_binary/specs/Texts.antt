@@ -1,5 +1,6 @@
 -- The text of a record.
-use Rattle.std.specs.Prelude.{ℕ, zero, suc, ◌+◌, ◌-◌, ◌*◌, ◌/◌, ◌==◌, List, [], ◌∷◌, ◌++◌, unwrap_or, slice_index, codes, decimal, if◌then◌else◌}
+use Rattle.std.specs.Prelude.{ℕ, zero, suc, ◌+◌, ◌-◌, ◌*◌, ◌/◌, ◌==◌, List, [], ◌∷◌, ◌++◌, unwrap_or, codes, decimal, if◌then◌else◌}
+use Rattle.er_binary.specs.Nodes.{node_at}
 use Rattle.er_binary.specs.Numbers.{number, address_word, name_at}
 use Rattle.er_binary.specs.States.{address_of, node_of}
 use Rattle.er_binary.specs.declared.records.Access.{Access}
@@ -20,7 +21,7 @@ thread_does s verb = name_at s.threads (unwrap_or s.thread 0) ++ word verb
 
 -- the site of a node, if there is one
 abbrev pub site : State → ℕ → List ℕ
-site s node = if node == 0 then [] else word (name_at s.places (slice_index s.shown (node - 1)))
+site s node = if node == 0 then [] else word (name_at s.places (node_at s.nodes (node_at s.nodes node).shown).place)
 
 abbrev pub access_verb : Access → List ℕ
 access_verb a = if a.writes then codes "write" else codes "read"

@@ -1,12 +1,13 @@
 //! A reader of the text that a trace of any form means.
-ghost use Rattle.std.specs.Prelude.{◌≡◌, ◌≢◌, ◌≤◌, OnOk, option_map};
+ghost use Rattle.std.specs.Prelude.{◌≡◌, ◌≢◌, ◌≤◌, ℕ, IfOk, OnOk, option_map};
 ghost use Rattle.std.specs.Io.{ReadsAtMost};
 ghost use Rattle.std.specs.Io.KnownBytes.{Keeps, ReadConsumes};
 ghost use Rattle.std.specs.Str.{bytes_eq};
 ghost use Rattle.er_binary.specs.Meaning.{magic};
 
+use crate::calls::Calls;
 use crate::decoder::{Decoder, copy_front, fill};
-use std::alloc::Global;
+use std::alloc::{AllocError, Global};
 use std::io;
 use std::io::Read;
 
@@ -28,6 +29,7 @@ enum Form {
 pub struct Decoded<R> {
     inner: R,
     alloc: Global,
+    wanted: Vec<u64>,
     form: Form,
     // The first bytes, of which there are `held`. Of these `given` were given.
     first: [u8; 8],
@@ -45,9 +47,18 @@ impl<R> Decoded<R> {
         ensures source { source_of result ≡ inner }
         ensures fresh { IsFresh result }
     {
+        Decoded::noting(alloc, inner, Vec::new(alloc))
+    }
+
+    /// The same, which also notes the calls that led to the events on these lines of the text. The lines rise.
+    pub fn noting(alloc: Global, inner: R, lines: Vec<u64>) -> Decoded<R>
+        ensures source { source_of result ≡ inner }
+        ensures fresh { IsFresh result }
+    {
         Decoded {
             inner,
             alloc,
+            wanted: lines,
             form: Form::Unknown,
             first: [0; 8],
             held: 0,
@@ -58,6 +69,22 @@ impl<R> Decoded<R> {
     /// Whether it has read the beginning of a binary trace.
     pub fn is_binary(&self) -> bool {
         matches!(self.form, Form::Binary(_))
+    }
+}
+
+impl<R: Drop> Decoded<R> {
+    ghost use Rattle.er_binary.specs.Calls.{calls_of};
+    ghost use Rattle.er_binary.specs.Decoded.{calls_noted};
+
+    /// The calls that led to the events on the wanted lines, as far as these were read. Of a text none are known.
+    pub fn into_calls(self) -> Result<Calls, AllocError>
+        ensures { IfOk result (λ c. (line : ℕ) → calls_of c line ≡ calls_noted self line) }
+    {
+        let Decoded { alloc, form, .. } = self;
+        match form {
+            Form::Binary(decoder) => decoder.into_calls(alloc),
+            _ => Ok(Calls::none(alloc)),
+        }
     }
 }
 
@@ -79,7 +106,7 @@ impl<R: Read> Decoded<R> {
             self.form = Form::Text;
             return Ok(());
         }
-        self.form = Form::Binary(Decoder::new(self.alloc)?);
+        self.form = Form::Binary(Decoder::new(self.alloc, &self.wanted)?);
         Ok(())
     }
 

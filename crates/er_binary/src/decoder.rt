@@ -5,8 +5,11 @@ ghost use Rattle.er_binary.specs.Meaning.{checksum, is_bad_len, last_line, mixed
 ghost use Rattle.er_binary.specs.Numbers.{number};
 ghost use Rattle.std.specs.Io.KnownBytes.{IsAtEnd, Keeps, ReadConsumes, prepend_known};
 
-use crate::names::{Put, number, put_number};
+use crate::calls::Calls;
+use crate::names::{Put, number};
+use crate::notes::Notes;
 use crate::state::State;
+use er_lines::put_number;
 use std::alloc::{AllocError, Global};
 use std::io;
 use std::io::{ErrorKind, Read};
@@ -62,6 +65,7 @@ pub(crate) enum Phase {
 #[derive(Drop)]
 pub(crate) struct Decoder {
     state: State,
+    notes: Notes,
     spot: Spot,
     phase: Phase,
     // The first bytes of the block, of which `header_held` were read.
@@ -83,16 +87,18 @@ pub(crate) struct Decoder {
 
 impl Decoder {
     ghost use Rattle.std.specs.Prelude.{codes};
-    ghost use Rattle.er_binary.specs.Inner.Decoders.{IsGiven, all_content, is_record, left, still};
+    ghost use Rattle.er_binary.specs.Calls.{calls_of};
+    ghost use Rattle.er_binary.specs.Inner.Decoders.{IsGiven, all_content, is_record, left, still, told_of};
     ghost use Rattle.er_binary.specs.Meaning.{text_behind};
     ghost use Rattle.er_binary.specs.declared.decoder.Phase.TheVariants as phase;
 
-    /// A decoder behind the first 8 bytes of a trace.
-    pub(crate) fn new(alloc: Global) -> Result<Decoder, AllocError>
+    /// A decoder behind the first 8 bytes of a trace, which notes the events on some lines.
+    pub(crate) fn new(alloc: Global, lines: &[u64]) -> Result<Decoder, AllocError>
         ensures { IfOk result (λ d. (bytes : List ℕ) → still d bytes ≡ text_behind bytes) }
     {
         Ok(Decoder {
             state: State::new(alloc),
+            notes: Notes::of(alloc, lines)?,
             spot: Spot {
                 block: 0,
                 start: 8,
@@ -110,6 +116,14 @@ impl Decoder {
             text: Vec::from_slice(alloc, b"eraser trace 3\n")?,
             given: 0,
         })
+    }
+
+    /// The calls that led to the events on the wanted lines that were made.
+    pub(crate) fn into_calls(self, alloc: Global) -> Result<Calls, AllocError>
+        ensures { IfOk result (λ c. (line : ℕ) → calls_of c line ≡ told_of self line) }
+    {
+        let by_line = self.notes.calls(alloc, &self.state.nodes)?;
+        Ok(Calls::of_places(by_line, self.state.places))
     }
 
     /// Gives text, and reads on where it must. No byte means that the text ended, or that the buffer has no room.
@@ -190,6 +204,7 @@ impl Decoder {
             Ok(Some(len)) => {
                 self.next += len;
                 self.spot = self.spot.past(len as u64);
+                self.notes.meet(&self.text, self.state.node);
                 Ok(())
             }
             Ok(None) => self.stop(b"damaged", self.spot.at),

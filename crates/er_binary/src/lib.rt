@@ -21,6 +21,8 @@ mod calls;
 mod decoded;
 mod decoder;
 mod names;
+mod nodes;
+mod notes;
 mod records;
 mod state;
 mod text;

@@ -1,9 +1,8 @@
-//! Names, one behind another in one run of bytes, and numbers: in a row, in bytes, and as text.
-ghost use Rattle.std.specs.Prelude.{◌≡◌, ◌++◌, ◌<◌, ◌≤◌, ◌^◌, [], ◌∷◌, OnOk, OnErr, decimal, length, slice_index, slice_index_or};
-ghost use Rattle.std.specs.Char.{digit_char};
-ghost use Rattle.er_binary.specs.Numbers.{address_word, hex_digits, name_at, number};
+//! Names, one behind another in one run of bytes, numbers in bytes, and addresses as text.
+ghost use Rattle.std.specs.Prelude.{◌≡◌, ◌++◌, ◌<◌, ◌≤◌, ◌^◌, [], ◌∷◌, OnOk, OnErr, length};
+ghost use Rattle.er_binary.specs.Numbers.{address_word, name_at, number};
 
-use itoa::Buffer;
+use er_lines::hex_digit;
 use std::alloc::{AllocError, Global};
 use std::marker::Model;
 
@@ -78,51 +77,6 @@ impl Names {
     }
 }
 
-/// Numbers in a row.
-#[derive(Drop)]
-pub(crate) struct Numbers {
-    items: Vec<u64>,
-}
-
-impl Model for Numbers {
-    ghost use Rattle.std.specs.Prelude.{ℕ, List};
-
-    ghost Value = { List ℕ };
-
-    ghost view = { λ numbers. numbers.items.items };
-}
-
-impl Numbers {
-    pub(crate) fn new(alloc: Global) -> Numbers
-        ensures { result ≡ [] }
-    {
-        Numbers {
-            items: Vec::new(alloc),
-        }
-    }
-
-    pub(crate) fn len(&self) -> u64
-        ensures { result ≡ length self.now }
-    {
-        self.items.len() as u64
-    }
-
-    /// The number at a place, and 0 behind the last one.
-    pub(crate) fn get(&self, n: u64) -> u64
-        ensures { result ≡ slice_index self.now n }
-    {
-        self.items.get(n as usize).copied().unwrap_or(0)
-    }
-
-    pub(crate) fn push(&mut self, number: u64) -> Put
-        ensures ok { OnOk result (self.new ≡ self.old ++ number ∷ []) }
-        ensures err { OnErr result (self.new ≡ self.old) }
-    {
-        self.items.push(number)?;
-        Ok(())
-    }
-}
-
 /// The number that bytes write, the lowest first.
 pub(crate) fn number(bytes: &[u8]) -> u64
     requires { length bytes.now ≤ 8 }
@@ -138,41 +92,23 @@ pub(crate) fn number(bytes: &[u8]) -> u64
     value
 }
 
-/// Puts a number in decimal.
-pub(crate) fn put_number(out: &mut Vec<u8>, n: u64) -> Put
-    ensures { OnOk result (out.new.items ≡ out.old.items ++ decimal n) }
-{
-    let mut digits = Buffer::new();
-    out.extend_from_slice(digits.format(n).as_bytes())
-}
-
 /// Puts a space and an address.
 pub(crate) fn put_address(out: &mut Vec<u8>, address: u64) -> Put
     ensures { OnOk result (out.new.items ≡ out.old.items ++ address_word address) }
 {
-    out.extend_from_slice(b" 0x")?;
-    put_hex(out, 12, address)
+    out.extend_from_slice(address_word(address).as_slice())
 }
 
-// Puts so many hexadecimal digits, of which the last is the lowest.
-fn put_hex(out: &mut Vec<u8>, count: u32, n: u64) -> Put
-    ensures { OnOk result (out.new.items ≡ out.old.items ++ hex_digits count n) }
+fn address_word(address: u64) -> [u8; 15]
+    ensures { result ≡ address_word address }
 {
-    if count == 0 {
-        return Ok(());
+    let mut word = *b" 0x000000000000";
+    let mut left = address;
+    let mut at = 15;
+    while at > 3 {
+        at -= 1;
+        word[at] = hex_digit((left % 16) as u8);
+        left /= 16;
     }
-    put_hex(out, count - 1, n / 16)?;
-    out.push(hex_digit(n % 16))?;
-    Ok(())
-}
-
-fn hex_digit(digit: u64) -> u8
-    requires { digit < 16 }
-    ensures { result ≡ digit_char digit }
-{
-    if digit < 10 {
-        b'0' + digit as u8
-    } else {
-        b'a' + (digit as u8 - 10)
-    }
+    word
 }

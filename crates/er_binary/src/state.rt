@@ -4,13 +4,19 @@ ghost use Rattle.std.specs.List.{list_all};
 ghost use Rattle.er_binary.specs.Inner.Taking.{HasTaken, IsSized};
 ghost use Rattle.er_binary.specs.Meaning.{take_access, take_record, take_said};
 ghost use Rattle.er_binary.specs.Records.{body_len};
-ghost use Rattle.er_binary.specs.States.{address_of, after, after_access, at_block, first_state, is_access, is_note_byte, is_place, is_right, may_come, shown_by, slot};
+ghost use Rattle.er_binary.specs.States.{address_of, after, after_access, at_block, first_state, is_access, is_note_byte, is_place, is_right, may_come, node_by, slot};
 
-use crate::names::{Names, Numbers, number};
+use crate::names::{Names, number};
+use crate::nodes::{Node as TreeNode, Nodes};
 use crate::records::Kind::*;
 use crate::records::{ADDRESS_END, Access, Kind, Record, record_at};
 use er_lines::{is_lock_name, is_name, is_site_name};
 use std::alloc::{AllocError, Global};
+
+// The most names of threads, of locks and of places, and the most nodes.
+const MOST_NAMES: u64 = 1 << 20;
+
+const MOST_NODES: u64 = 1 << 24;
 
 /// The names and nodes so far, what the next access goes on from, and what was counted.
 #[derive(Drop)]
@@ -18,8 +24,7 @@ pub(crate) struct State {
     pub(crate) threads: Names,
     pub(crate) locks: Names,
     pub(crate) places: Names,
-    /// The place that each node shows.
-    pub(crate) shown: Numbers,
+    pub(crate) nodes: Nodes,
     pub(crate) thread: Option<u64>,
     pub(crate) node: u64,
     pub(crate) last: [u64; 256],
@@ -36,7 +41,7 @@ impl State {
             threads: Names::new(alloc),
             locks: Names::new(alloc),
             places: Names::new(alloc),
-            shown: Numbers::new(alloc),
+            nodes: Nodes::new(alloc),
             thread: None,
             node: 0,
             last: [0; 256],
@@ -73,7 +78,7 @@ impl State {
         ensures { result ≡ is_access self.now access }
     {
         self.thread.is_some()
-            && access.node.unwrap_or(self.node) <= self.shown.len()
+            && access.node.unwrap_or(self.node) <= self.nodes.len()
             && self.address_of(access) + access.size <= ADDRESS_END
     }
 
@@ -100,14 +105,14 @@ impl State {
     {
         match kind {
             Thread | Start | Join => number < self.threads.len(),
-            Node => number <= self.shown.len(),
+            Node => number <= self.nodes.len(),
             Lock | Unlock | ReadLock | ReadUnlock | FailedTry | Signal | Await => number
                 < self.locks.len(),
             Show => number < ADDRESS_END,
             Level => number <= 31,
-            ThreadName => is_name(body),
-            LockName => is_lock_name(body),
-            Place => is_place(body),
+            ThreadName => is_name(body) && self.threads.len() < MOST_NAMES,
+            LockName => is_lock_name(body) && self.locks.len() < MOST_NAMES,
+            Place => is_place(body) && self.places.len() < MOST_NAMES,
             NewNode => self.is_node(number, body),
             Note => body.len() <= 1000 && is_note(body),
             End => number == self.events && behind.is_empty(),
@@ -119,17 +124,25 @@ impl State {
         requires { length body.now ≡ 5 }
         ensures { result ≡ is_right self.now Kind.NewNode caller body.now [] }
     {
-        caller <= self.shown.len() && number(&body[0..4]) < self.places.len() && body[4] <= 3
+        caller <= self.nodes.len()
+            && number(&body[0..4]) < self.places.len()
+            && body[4] <= 3
+            && self.nodes.len() < MOST_NODES
     }
 
-    fn shown_by(&self, caller: u64, body: &[u8]) -> u64
+    fn node_by(&self, caller: u64, body: &[u8]) -> TreeNode
         requires { length body.now ≡ 5 }
-        ensures { result ≡ shown_by self.now caller body.now }
+        ensures { result ≡ node_by self.now caller body.now }
     {
-        if body[4] % 2 == 1 && caller != 0 {
-            self.shown.get(caller - 1)
+        let shown = if body[4] % 2 == 1 && caller != 0 {
+            self.nodes.get(caller).shown
         } else {
-            number(&body[0..4])
+            self.nodes.len().wrapping_add(1)
+        };
+        TreeNode {
+            caller,
+            shown,
+            place: number(&body[0..4]) as u32,
         }
     }
 
@@ -146,8 +159,8 @@ impl State {
             LockName => self.locks.push(body)?,
             Place => self.places.push(body)?,
             NewNode => {
-                let place = self.shown_by(number, body);
-                self.shown.push(place)?;
+                let node = self.node_by(number, body);
+                self.nodes.push(node)?;
             }
             Lost => self.lost = number,
             End => self.ended = true,

@@ -4,10 +4,11 @@ ghost use Rattle.er_binary.specs.Records.{body_len};
 ghost use Rattle.er_binary.specs.Numbers.{address_word};
 ghost use Rattle.er_binary.specs.Texts.{access_lines, access_text, access_verb, feed, lost_line, lost_text, operand, site, text_of, thread_does, verb, word};
 
-use crate::names::{Put, number, put_address, put_number};
+use crate::names::{Put, number, put_address};
 use crate::records::Kind::*;
 use crate::records::{Access, Kind};
 use crate::state::State;
+use er_lines::put_number;
 
 impl State {
     fn put_thread(&self, out: &mut Vec<u8>, verb: &[u8]) -> Put
@@ -24,8 +25,8 @@ impl State {
         if node == 0 {
             return Ok(());
         }
-        let place = self.shown.get(node - 1);
-        let name = self.places.get(place);
+        let shown = self.nodes.get(self.nodes.get(node).shown);
+        let name = self.places.get(u64::from(shown.place));
         put_word(out, name)
     }
 

@@ -1,0 +1,24 @@
+use Rattle.std.proofs.Common.{ℕ, ◌-◌, List, ◌∷◌, [], ◌++◌, sym, ap, ◌∙◌, append_assoc}
+use Rattle.std.proofs.lemmas.List.{append-nil}
+use Rattle.std.proofs.lemmas.Result.{on_ok_weaker}
+use Rattle.er_binary.specs.Nodes.{way_out}
+use Rattle.er_binary.specs.declared.nodes.Node.{Node}
+use Rattle.er_binary.proofs.NodeLemmas.{way_end, way_more, way_none}
+use Rattle.er_binary.proofs.nodes.+put_way.Goals as goal
+
+pub returns-then-count-eq0 : goal.returns-then-count-eq0
+returns-then-count-eq0 t c = sym (ap (λ (w : List ℕ). c.args.places.now.items ++ w) (way_none c.args.nodes.now c.args.count c.args.node c.if-count-eq0.true) ∙ append-nil _)
+
+pub returns-then-node-eq0 : goal.returns-then-node-eq0
+returns-then-node-eq0 t c = sym (ap (λ (w : List ℕ). c.args.places.now.items ++ w) (way_end c.args.nodes.now c.args.count c.args.node c.if-node-eq0.true) ∙ append-nil _)
+
+pub returns : goal.returns
+returns t c =
+    let nodes = c.args.nodes.now in
+    let at = c.get-at.result in
+    let rest = way_out nodes (c.args.count - 1) at.caller in
+    on_ok_weaker c.put_way.result
+    (λ more. more ∙ ap (λ (w : List ℕ). w ++ rest) c.in_ok-push.ensures.items ∙ append_assoc c.args.places.now.items (at.place ∷ []) rest
+    ∙ ap (λ (w : List ℕ). c.args.places.now.items ++ w)
+    (ap (λ (m : Node). m.place ∷ way_out nodes (c.args.count - 1) m.caller) c.get-at.ensures ∙ sym (way_more nodes c.args.count c.args.node c.if-count-eq0.false c.if-node-eq0.false)))
+    c.put_way.ensures

@@ -1,0 +1,100 @@
+//! Nodes: places, and the calls that led to them.
+ghost use Rattle.std.specs.Prelude.{◌≡◌, ◌++◌, [], ◌∷◌, IfOk, OnOk, OnErr, length};
+ghost use Rattle.er_binary.specs.Nodes.{calls_to, node_at, way_out};
+
+use crate::names::Put;
+use std::alloc::{AllocError, Global};
+use std::marker::Model;
+
+// The most calls that are told of an event.
+const MOST_CALLS: u32 = 64;
+
+/// A place, the node of the call that it is in or 0, and the node whose place is shown for this one.
+#[derive(Clone, Copy)]
+pub(crate) struct Node {
+    pub(crate) caller: u64,
+    pub(crate) shown: u64,
+    pub(crate) place: u32,
+}
+
+const NO_NODE: Node = Node {
+    caller: 0,
+    shown: 0,
+    place: 0,
+};
+
+/// Nodes, numbered from 1.
+#[derive(Drop)]
+pub(crate) struct Nodes {
+    items: Vec<Node>,
+}
+
+impl Model for Nodes {
+    ghost use Rattle.std.specs.Prelude.{List};
+    ghost use Rattle.er_binary.specs.declared.nodes.Node.{Node};
+
+    ghost Value = { List Node };
+
+    ghost view = { λ nodes. nodes.items.items };
+}
+
+impl Nodes {
+    pub(crate) fn new(alloc: Global) -> Nodes
+        ensures { result ≡ [] }
+    {
+        Nodes {
+            items: Vec::new(alloc),
+        }
+    }
+
+    pub(crate) fn len(&self) -> u64
+        ensures { result ≡ length self.now }
+    {
+        self.items.len() as u64
+    }
+
+    /// The node of a number from 1 on.
+    pub(crate) fn get(&self, n: u64) -> Node
+        ensures { result ≡ node_at self.now n }
+    {
+        match self.items.get(n.saturating_sub(1) as usize) {
+            Some(node) => *node,
+            None => NO_NODE,
+        }
+    }
+
+    pub(crate) fn push(&mut self, node: Node) -> Put
+        ensures ok { OnOk result (self.new ≡ self.old ++ node ∷ []) }
+        ensures err { OnErr result (self.new ≡ self.old) }
+    {
+        self.items.push(node)?;
+        Ok(())
+    }
+
+    /// The places of the calls that led to a node, from the one behind the place that is shown outward.
+    pub(crate) fn calls_to(&self, alloc: Global, node: u64) -> Result<Vec<u32>, AllocError>
+        ensures { IfOk result (λ places. places.items ≡ calls_to self.now node) }
+    {
+        let mut places = Vec::new(alloc);
+        if node != 0 {
+            let shown = self.get(self.get(node).shown);
+            put_way(&mut places, self, MOST_CALLS, shown.caller)?;
+        }
+        Ok(places)
+    }
+}
+
+// Puts the places of a node and of its callers, at most so many.
+fn put_way(places: &mut Vec<u32>, nodes: &Nodes, count: u32, node: u64) -> Put
+    ensures { OnOk result (places.new.items ≡ places.old.items ++ way_out nodes.now count node) }
+{
+    if count == 0 {
+        return Ok(());
+    }
+    if node == 0 {
+        return Ok(());
+    }
+    let at = nodes.get(node);
+    places.push(at.place)?;
+    put_way(places, nodes, count - 1, at.caller)
+}
