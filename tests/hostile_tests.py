@@ -8,7 +8,7 @@
 - clocks that really differ take no more memory than other texts, and no more time: the replay ends with a fault
 - 2,000 threads that meet at 32 barriers, and signal unequally often, end with no fault
 - threads that meet at barriers over and over, and signal equally often, compare no counts but those of their own block
-- no text takes more than 400 bytes of memory for each of its own, beside 32 MiB, and by happens-before alone no more than 200. The dearest line takes a
+- no text takes more than 400 bytes of memory for each of its own, beside 8 MiB, and by happens-before alone no more than 200. The dearest line takes a
   page: 4,096 bytes by locks, and 2,048 by happens-before
 - two of many readers of a word that read it in turn, two million times, take no more than 16 MiB
 - a second look at a file, for the places of reasons, ends behind the last line that a reason names
@@ -38,7 +38,7 @@ PROGRAM = program("eraser")
 HOSTILE = pathlib.Path(__file__).resolve().parent.parent / "bench/hostile"
 HAPPENS_BEFORE, EXPLAIN = ["--analysis", "happens-before"], ["--explain"]
 FEW = 60
-BYTES_FOR_A_BYTE, BYTES_BY_ORDER, BYTES_BESIDE = 400, 200, 32 << 20
+BYTES_FOR_A_BYTE, BYTES_BY_ORDER, BYTES_BESIDE = 400, 200, 8 << 20
 LONGER, MOST_TIMES = 4, 5.5
 # If half of these reads were kept, they would take more than this memory.
 TURNS, BYTES_OF_TURNS = 1_000_000, 16 << 20
