@@ -1,6 +1,8 @@
 -- Where the accesses of a recording stood, by the definitions of the whole list of its steps.
-use Rattle.std.specs.Prelude.{◌≡◌, ℕ, zero, suc, ◌≤◌, ◌==◌, nat_eq, Bool, cond, List, slice_get, slice_index, length, Option, Some, None, IfSome, Err}
+use Rattle.std.specs.Prelude.{◌≡◌, ℕ, zero, suc, ◌≤◌, ◌==◌, nat_eq, Bool, cond, List, [], slice_get, slice_index, length, Option, Some, None, IfSome, Err}
 use Rattle.std.specs.Map.{lookup}
+use Rattle.er_binary.specs.Calls.{CallTable, numbers_of}
+use Rattle.er_binary.specs.Numbers.{name_at}
 use Rattle.er_event.specs.declared.steps.Event.{Event}
 use Rattle.er_event.specs.declared.steps.Event.TheVariants.{Access}
 use Rattle.er_event.specs.declared.steps.Step.{Step}
@@ -39,10 +41,11 @@ place_below steps lines line (suc n) =
 abbrev pub place_on : Recording → ℕ → Option Place
 place_on r line = place_below r.steps r.lines line (length r.steps)
 
--- places by line, and the names of their numbers
+-- places by line, the names of their numbers, and the calls that led to lines
 pub record PlaceTable : Type 0 where
   pub places : List (ℕ × Place)
   pub names : NameTable
+  pub calls : CallTable
 
 abbrev pub place_in : List (ℕ × Place) → ℕ → Option Place
 place_in places line = lookup (nat_eq line) places
@@ -50,6 +53,15 @@ place_in places line = lookup (nat_eq line) places
 -- the place that is kept for a line
 abbrev pub place_at : PlaceTable → ℕ → Option Place
 place_at table line = place_in table.places line
+
+-- the calls that led to the access at a place, innermost first, as numbers; of a place that isn't known there are none
+abbrev pub calls_of : PlaceTable → Option Place → List ℕ
+calls_of table None = []
+calls_of table (Some place) = numbers_of table.calls place.line
+
+-- where the call of a number stands
+abbrev pub call_name : PlaceTable → ℕ → List ℕ
+call_name table call = name_at table.calls.names call
 
 -- the site and each lock of a place have a name; site 0 needs none
 pub record HasPlaceNames (names : NameTable) (place : Place) : Type 0 where

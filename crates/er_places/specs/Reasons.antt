@@ -4,7 +4,10 @@ use Rattle.er_event.specs.declared.steps.Kind.{Kind}
 use Rattle.er_places.specs.Places.{PlaceTable, place_at}
 use Rattle.er_places.specs.Wanted.{same_kind}
 use Rattle.er_places.specs.declared.places.Place.{Place}
+use Rattle.er_report.specs.Lines.{RaceView}
 use Rattle.er_report.specs.declared.report.Because.{Because}
+use Rattle.er_report.specs.declared.report.Deed.{Deed}
+use Rattle.er_report.specs.declared.report.Deed.TheVariants as deed
 
 -- the access has this thread and this kind
 abbrev pub fits : ℕ → Kind → Place → Bool
@@ -22,3 +25,11 @@ access_place table line thread kind = if_fits thread kind (place_at table line)
 -- and of the access that a reason names
 abbrev pub reason_place : PlaceTable → Because → Option Place
 reason_place table because = access_place table because.line because.thread because.kind
+
+-- and of a race that is an access; a reuse has none
+abbrev pub deed_place : PlaceTable → RaceView → Deed → Option Place
+deed_place table race (deed.Access kind word) = access_place table race.line race.thread kind
+deed_place table race (deed.Reuse range) = None
+
+abbrev pub race_place : PlaceTable → RaceView → Option Place
+race_place table race = deed_place table race race.deed

@@ -1,5 +1,6 @@
 //! A second look at a trace text, batch by batch.
-ghost use Rattle.std.specs.Prelude.{◌≡◌, ◌<◌, ◌≤◌, ◌+◌, ◌^◌, ◌++◌, ◌||◌, ℕ, List, Option, All, false, true, length, IfSome, IfOk, IfErr, OnOk};
+ghost use Rattle.std.specs.Prelude.{IsSorted, ◌≡◌, ◌<◌, ◌≤◌, ◌+◌, ◌^◌, ◌++◌, ◌||◌, ℕ, List, Option, All, false, true, length, IfSome, IfOk, IfErr, OnOk};
+ghost use Rattle.std.specs.Ordering.{nat_cmp};
 ghost use Rattle.er_device.specs.Device.{inner_of, has_failed, taken_of};
 ghost use Rattle.er_places.specs.Inner.Following.{HasCome, HasEnded, are_asked, is_wanted};
 ghost use Rattle.er_places.specs.Places.{ArePlaces, IsFaultOf};
@@ -10,6 +11,7 @@ ghost use Rattle.er_lines.specs.Lending.{taken_by};
 use crate::Places;
 use crate::follower::Follower;
 use crate::wanted::Wanted;
+use er_binary::Calls;
 use er_device::Device;
 use er_report::Reports;
 use er_text::{Batch, ReadFault, TraceReader};
@@ -86,6 +88,18 @@ impl Finder {
     }
 }
 
+/// The lines of a trace whose accesses [`places_of_reports`] looks for, rising. It hashes numbers by these keys.
+pub fn lines_of_reports(
+    alloc: Global,
+    keys: NameKeys,
+    reports: &Reports,
+) -> Result<Vec<u64>, AllocError>
+    ensures asked { IfOk result (λ lines. (line : ℕ) → is_wanted lines.items line ≡ are_asked reports.now line) }
+    ensures rising { IfOk result (λ lines. IsSorted nat_cmp lines.items) }
+{
+    Wanted::of_reports(alloc, keys, reports)?.to_lines(alloc)
+}
+
 /// Reads a trace text of at most `byte_limit` bytes once more, and returns the places of the accesses that the reasons of each report's first races
 /// name. It hashes names by these keys. It reads nothing behind the batch with the last wanted line, and nothing at all if no line is wanted.
 pub fn places_of_reports<D: Read>(
@@ -108,7 +122,11 @@ pub fn places_of_reports<D: Read>(
     }
     let mut finder = Finder::new(alloc, byte_limit, keys)?;
     match finder.run(reader, &wanted) {
-        Ok(()) => Ok(Places::of(finder.follower.into_places(), finder.trace)),
+        Ok(()) => Ok(Places::of(
+            finder.follower.into_places(),
+            finder.trace,
+            Calls::none(alloc),
+        )),
         Err(why) => Err(why),
     }
 }

@@ -21,7 +21,7 @@
 //! ```
 #![tactic(auto)]
 
-pub use finding::places_of_reports;
+pub use finding::{lines_of_reports, places_of_reports};
 pub use places::{Legend, Place, Places};
 
 mod finding;

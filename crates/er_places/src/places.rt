@@ -1,12 +1,13 @@
 //! Where accesses stood: `Place`, and `Places` by line.
 ghost use Rattle.std.specs.Prelude.{◌≡◌, ℕ, None, Some, option_copied, IfSome};
 ghost use Rattle.er_places.specs.Inner.Following.{AreNamed};
-ghost use Rattle.er_places.specs.Places.{HasPlaceNames, no_names, place_at};
-ghost use Rattle.er_places.specs.Reasons.{access_place, fits, reason_place};
+ghost use Rattle.er_places.specs.Places.{HasPlaceNames, call_name, calls_of, no_names, place_at};
+ghost use Rattle.er_places.specs.Reasons.{access_place, fits, race_place, reason_place};
 
+use er_binary::Calls;
 use er_event::{Kind, Lockset, Site, ThreadId};
 use er_keys::{HashKeys, NumberHasher};
-use er_report::Because;
+use er_report::{Because, Deed, Race};
 use er_trace::{Names, Trace};
 use std::alloc::Global;
 use std::collections::HashMap;
@@ -29,11 +30,12 @@ pub struct Place {
     pub write_held: Lockset,
 }
 
-/// The places of some accesses, by the line of each, and the names of their numbers.
+/// The places of some accesses, by the line of each, and the names of their numbers. Of a binary trace also the calls that led there.
 #[derive(Drop)]
 pub struct Places {
     by_line: HashMap<u64, Place, NumberHasher>,
     trace: Trace,
+    calls: Calls,
 }
 
 impl Model for Places {
@@ -42,7 +44,7 @@ impl Model for Places {
 
     ghost Value = { PlaceTable };
 
-    ghost view = { λ p. record { places = p.by_line.entries; names = p.trace.names } };
+    ghost view = { λ p. record { places = p.by_line.entries; names = p.trace.names; calls = p.calls } };
 
     ghost invariant = { λ p. AreNamed p.trace.names p.by_line.entries };
 }
@@ -56,16 +58,56 @@ impl Places {
         Places {
             by_line: HashMap::with_hasher(alloc, NumberHasher::new(HashKeys::KNOWN)),
             trace: Trace::new(alloc),
+            calls: Calls::none(alloc),
         }
     }
 
-    /// These places, under the names of a trace.
-    pub(crate) fn of(by_line: HashMap<u64, Place, NumberHasher>, trace: Trace) -> Self
+    /// These places, under the names of a trace, and with these calls.
+    pub(crate) fn of(by_line: HashMap<u64, Place, NumberHasher>, trace: Trace, calls: Calls) -> Self
         requires { AreNamed trace.names by_line.entries }
         ensures places { result.places ≡ by_line.entries }
         ensures names { result.names ≡ trace.names }
+        ensures calls { result.calls ≡ calls }
     {
-        Places { by_line, trace }
+        Places {
+            by_line,
+            trace,
+            calls,
+        }
+    }
+
+    /// The same places, with these calls in place of those that were known.
+    pub fn with_calls(self, calls: Calls) -> Self
+        ensures { result ≡ record self { calls = calls } }
+    {
+        let Places {
+            by_line,
+            trace,
+            calls: known,
+        } = self;
+        drop(known);
+        Places {
+            by_line,
+            trace,
+            calls,
+        }
+    }
+
+    /// The calls that led to the access at a place, innermost first: a number for each. There is none if they or the place aren't known.
+    pub fn calls_of(&self, place: Option<&Place>) -> &[u32]
+        ensures { result.now ≡ calls_of self.now (option_copied place.entry) }
+    {
+        match place {
+            Some(place) => self.calls.of(place.line),
+            None => &[],
+        }
+    }
+
+    /// Where in the program the call of a number stands.
+    pub fn call_name(&self, call: u32) -> &[u8]
+        ensures { result.now ≡ call_name self.now call }
+    {
+        self.calls.place(call)
     }
 
     /// The names of the numbers in the places.
@@ -92,6 +134,17 @@ impl Places {
         ensures named { IfSome (option_copied result) (HasPlaceNames self.now.names) }
     {
         self.of_access(because.line, because.thread, because.kind)
+    }
+
+    /// The place of a race's access, if it is known. A reuse has none.
+    pub fn of_race(&self, race: &Race<'_>) -> Option<&Place>
+        ensures place { option_copied result ≡ race_place self.now race.now }
+        ensures named { IfSome (option_copied result) (HasPlaceNames self.now.names) }
+    {
+        match race.deed {
+            Deed::Access(kind, _) => self.of_access(race.line, race.thread, kind),
+            Deed::Reuse(_) => None,
+        }
     }
 }
 

@@ -1,6 +1,7 @@
 //! `Wanted`, the lines of a trace that a report asks about.
-ghost use Rattle.std.specs.Prelude.{◌≡◌, ℕ, ◌||◌, false, true, is_some, IfOk, OnOk};
+ghost use Rattle.std.specs.Prelude.{IsSorted, ◌≡◌, ℕ, ◌||◌, false, true, is_some, IfOk, OnOk};
 ghost use Rattle.std.specs.List.{list_all};
+ghost use Rattle.std.specs.Ordering.{nat_cmp};
 ghost use Rattle.er_event.specs.declared.steps.Kind.{Kind as Kinds};
 ghost use Rattle.er_places.specs.Inner.Sites.{has_site, site_key};
 ghost use Rattle.er_places.specs.Places.{place_in};
@@ -46,6 +47,16 @@ impl Wanted {
         wanted.add_report(alloc, &reports.lockset)?;
         wanted.add_report(alloc, &reports.unordered)?;
         Ok(wanted)
+    }
+
+    /// The lines, rising.
+    pub(crate) fn to_lines(&self, alloc: Global) -> Result<Vec<u64>, AllocError>
+        ensures lines { IfOk result (λ lines. (line : ℕ) → is_wanted lines.items line ≡ is_wanted self.now line) }
+        ensures rising { IfOk result (λ lines. IsSorted nat_cmp lines.items) }
+    {
+        let mut lines: Vec<u64> = self.lines.iter().copied().collect(alloc)?;
+        lines.sort_unstable();
+        Ok(lines)
     }
 
     /// Whether no line is wanted.

@@ -1,5 +1,5 @@
 -- The text for people: a table of the sites with races, a race of each site in sentences, and the reuses.
-use Rattle.std.specs.Prelude.{ℕ, zero, suc, ◌==◌, ◌&&◌, ◌||◌, not, Bool, true, false, cond, List, [], ◌∷◌, ◌++◌, length, drop, flat_map, min, reverse, option_and_then, Option, Some, None, codes, decimal, slice_get}
+use Rattle.std.specs.Prelude.{ℕ, zero, suc, ◌-◌, ◌==◌, ◌&&◌, ◌||◌, not, Bool, true, false, cond, List, [], ◌∷◌, ◌++◌, length, drop, take, flat_map, min, reverse, option_and_then, Option, Some, None, codes, decimal, slice_get}
 use Rattle.std.specs.List.{list_any, find}
 use Rattle.er_event.specs.Lockset.{has}
 use Rattle.er_event.specs.Refusal.{text_of}
@@ -7,8 +7,9 @@ use Rattle.er_event.specs.declared.addresses.PageRange.{PageRange}
 use Rattle.er_event.specs.declared.steps.Kind.{Kind}
 use Rattle.er_event.specs.declared.steps.Kind.TheVariants as kind
 use Rattle.er_trace.specs.Names.{NameTable}
-use Rattle.er_places.specs.Places.{PlaceTable}
+use Rattle.er_places.specs.Places.{PlaceTable, call_name}
 use Rattle.er_places.specs.Reasons.{access_place}
+pub use Rattle.er_places.specs.Places.{calls_of}
 pub use Rattle.er_places.specs.Places.{HasPlaceNames}
 pub use Rattle.er_places.specs.Reasons.{reason_place}
 use Rattle.er_places.specs.declared.places.Place.{Place}
@@ -131,19 +132,33 @@ at_text names site = cond (site == 0) [] (codes "    at " ++ site_in style.Short
 abbrev pub bare_text : NameTable → ℕ → List ℕ
 bare_text names site = cond (site == 0) (codes "    holding no lock\n") (codes "    at " ++ site_in style.Short names site ++ codes ", holding no lock\n")
 
--- where an access stood, and what its thread held, of which these to write
-abbrev pub stood_text : NameTable → ℕ → List ℕ → List ℕ → List ℕ
-stood_text names site writes [] = bare_text names site
-stood_text names site writes (lock ∷ locks) = at_text names site ++ flat_map (kept_text names writes) (lock ∷ locks)
+-- where a call that led to an access stands
+abbrev pub call_text : PlaceTable → ℕ → List ℕ
+call_text table call = codes "    called at " ++ short 72 (call_name table call) ++ codes "\n"
+
+-- how many calls are left out
+abbrev pub more_calls : ℕ → List ℕ
+more_calls zero = []
+more_calls (suc n) = codes "    .. and " ++ decimal (suc n) ++ codes " more\n"
+
+-- the first 8 of these calls, innermost first
+unfoldable pub called_text : PlaceTable → List ℕ → List ℕ
+called_text table calls = flat_map (call_text table) (take 8 calls) ++ more_calls (length calls - 8)
+
+-- where an access stood, the calls that led there, and these locks that its thread held
+abbrev pub stood_text : PlaceTable → Place → List ℕ → List ℕ
+stood_text table place [] = bare_text table.names place.site ++ called_text table (calls_of table (Some place))
+stood_text table place (lock ∷ locks) =
+    at_text table.names place.site ++ called_text table (calls_of table (Some place)) ++ flat_map (kept_text table.names place.write_held) (lock ∷ locks)
 
 -- if that is known
-abbrev pub known_text : NameTable → Option Place → List ℕ
-known_text names None = []
-known_text names (Some place) = stood_text names place.site place.write_held place.held
+abbrev pub known_text : PlaceTable → Option Place → List ℕ
+known_text table None = []
+known_text table (Some place) = stood_text table place place.held
 
 -- and if the access is not the race itself, which is on this line
 abbrev pub where_text : PlaceTable → ℕ → Because → List ℕ
-where_text table number because = cond (because.line == number) [] (known_text table.names (reason_place table because))
+where_text table number because = cond (because.line == number) [] (known_text table (reason_place table because))
 
 -- one of the reasons of the race on this line
 abbrev pub reason_text : NameTable → PlaceTable → ℕ → Because → List ℕ
@@ -197,11 +212,11 @@ abbrev pub head_text : NameTable → RaceView → Kind → ℕ → List ℕ
 head_text names race kind word =
     codes "  " ++ thread_in style.Short names race.thread ++ access_text kind ++ address_text word ++ codes " (line " ++ decimal race.line ++ codes ")\n"
 
--- with its locks and its reasons
+-- with the calls that led to it, its locks and its reasons
 abbrev pub access_story : NameTable → PlaceTable → RaceView → Kind → ℕ → List ℕ
 access_story names table race kind word =
-    head_text names race kind word ++ holds_text names race (access_place table race.line race.thread kind) race.held
-    ++ flat_map (reason_text names table race.line) race.explained ++ so_text race.explained
+    head_text names race kind word ++ called_text table (calls_of table (access_place table race.line race.thread kind))
+    ++ holds_text names race (access_place table race.line race.thread kind) race.held ++ flat_map (reason_text names table race.line) race.explained ++ so_text race.explained
 
 -- who gave back how much memory
 abbrev pub given_back_text : NameTable → RaceView → PageRange → List ℕ

@@ -1,10 +1,10 @@
-//! Where the access of a reason stood, and what its thread held.
+//! Where the access of a reason stood, what its thread held, and the calls that led there.
 ghost use Rattle.std.specs.Prelude.{◌≡◌, ◌++◌, ◌≤◌, flat_map, length, OnOk};
-ghost use Rattle.er_sites.specs.Text.{HasLockName, HasLockNames, HasPlaceNames, at_text, bare_text, kept_text, read_text, stood_text, where_text};
+ghost use Rattle.er_sites.specs.Text.{HasLockName, HasLockNames, HasPlaceNames, at_text, bare_text, call_text, called_text, kept_text, read_text, stood_text, where_text};
 
 use er_event::{LockId, Lockset, Site};
 use er_places::{Place, Places};
-use er_print::Piece::{Lock, Site as At, Text};
+use er_print::Piece::{Lock, Name, Number, Site as At, Text};
 use er_print::{Put, Style, put};
 use er_report::Because;
 use er_trace::Names;
@@ -17,22 +17,58 @@ pub(crate) fn put_where(out: &mut Vec<u8>, places: &Places, line: u64, because: 
         return Ok(());
     }
     match places.of_reason(because) {
-        Some(place) => put_place(out, places.names(), place),
+        Some(place) => put_place(out, places, place),
         None => Ok(()),
     }
 }
 
-fn put_place(out: &mut Vec<u8>, names: &Names, place: &Place) -> Put
-    requires { HasPlaceNames names.now place.now }
-    ensures { OnOk result (out.new.items ≡ out.old.items ++ stood_text names.now place.now.site place.now.write_held place.now.held) }
+fn put_place(out: &mut Vec<u8>, places: &Places, place: &Place) -> Put
+    requires { HasPlaceNames places.now.names place.now }
+    ensures { OnOk result (out.new.items ≡ out.old.items ++ stood_text places.now place.now place.now.held) }
 {
+    let (names, calls) = (places.names(), places.calls_of(Some(place)));
     match place.held.as_slice() {
-        [] => put_bare(out, names, place.site),
+        [] => {
+            put_bare(out, names, place.site)?;
+            put_called(out, places, calls)
+        }
         locks => {
             put_at(out, names, place.site)?;
+            put_called(out, places, calls)?;
             put_kept_locks(out, names, &place.write_held, locks)
         }
     }
+}
+
+/// Puts where the first of these calls stand, and how many more there are.
+#[tactic(auto, using(crate::proofs::PutLemmas::called_few, crate::proofs::PutLemmas::called_many))]
+pub(crate) fn put_called(out: &mut Vec<u8>, places: &Places, calls: &[u32]) -> Put
+    ensures { OnOk result (out.new.items ≡ out.old.items ++ called_text places.now calls.now) }
+{
+    if calls.len() <= 8 {
+        return put_calls(out, places, calls);
+    }
+    let (first, rest) = calls.split_at(8);
+    put_calls(out, places, first)?;
+    let more = rest.len() as u64;
+    put!(out, Style::Short, places.names(); Number(b"    .. and ", more), Text(b" more\n"))
+}
+
+fn put_calls(out: &mut Vec<u8>, places: &Places, calls: &[u32]) -> Put
+    ensures { OnOk result (out.new.items ≡ out.old.items ++ flat_map (call_text places.now) calls.now) }
+{
+    for call in calls {
+        put_call(out, places, *call)?;
+    }
+    Ok(())
+}
+
+fn put_call(out: &mut Vec<u8>, places: &Places, call: u32) -> Put
+    ensures { OnOk result (out.new.items ≡ out.old.items ++ call_text places.now call) }
+{
+    put!(out, Style::Short, places.names();
+        Name(b"    called at ", places.call_name(call)), Text(b"\n")
+    )
 }
 
 // Puts the site of an access without a lock.

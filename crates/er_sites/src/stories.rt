@@ -4,7 +4,7 @@ ghost use Rattle.std.specs.List.{list_any};
 ghost use Rattle.er_sites.specs.Text.{HasLockName, HasNames, HasPlaceNames, HasRaceNames, HasReasonNames, line_view, race_of, reason_place, access_story, deed_text, example_text, given_back_text, head_text, held_text, holds_text, is_weak_at, lacks_lock, line_text, lone_text, may_meet, met, met_text, mode_text, title_text, reason_text, reuse_story, reuse_text, so_text, story_text, is_without};
 
 use crate::names::{access_text, did_text, put_pair};
-use crate::standing::put_where;
+use crate::standing::{put_called, put_where};
 use er_event::{Kind, LockId, PageRange, Site, Word};
 use er_places::{Legend, Place};
 use er_print::Piece::{Address, Lock, Number, Site as At, Text, Thread};
@@ -120,6 +120,7 @@ fn put_access(out: &mut Vec<u8>, legend: &Legend, race: &Race<'_>, kind: Kind, w
 {
     put_head(out, legend.names, race, kind, word)?;
     let own = legend.places.of_access(race.line, race.thread, kind);
+    put_called(out, legend.places, legend.places.calls_of(own))?;
     put_locks(out, legend.names, race, own)?;
     put_reasons(out, legend, race)?;
     put_so(out, race)
