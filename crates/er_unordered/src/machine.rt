@@ -55,7 +55,7 @@ impl<A: Copy> OrderMachine<A> {
     {
         OrderMachine {
             holders: Holders::new(alloc, keys),
-            clocks: Clocks::new(alloc),
+            clocks: Clocks::keyed(alloc, keys),
             words: OrderWords::keyed(alloc, keys),
         }
     }
