@@ -20,7 +20,7 @@ import reference
 import site_tests
 from alone import OUTCOMES, each_refused, outcome_of, run_alone
 from analysis_tests import unordered_report
-from site_tests import RACE, REASON, REUSE, TOP, holds_of, locks_in, places_in, preloaded, run, run_file, run_with
+from site_tests import NOWHERE, RACE, REASON, REUSE, TOP, holds_of, locks_in, places_in, preloaded, run, run_file, run_with
 
 SCHEMA = TOP / "docs/report.schema.json"
 REFUSED = re.compile(r"line (\d+): refused: (\S+) (\S+)(?: (\S+))?: ([^:]+)")
@@ -93,11 +93,16 @@ def text_of(document):
 
 
 def placed(reason, places):
-    """A reason with the site of its access and the locks that its thread held, if they are known."""
+    """A reason with the site of its access, the locks that its thread held and the calls that led there, if they are known."""
     if str(reason["line"]) not in places:
         return reason
-    site, locks = places[str(reason["line"])]
-    return {**reason, "site": None if site == "-" else site, "held": [lock for lock, _ in locks], "held_to_read": [lock for lock, writes in locks if not writes]}
+    site, locks, calls = places[str(reason["line"])]
+    held = {"held": [lock for lock, _ in locks], "held_to_read": [lock for lock, writes in locks if not writes]}
+    return {**reason, "site": None if site == "-" else site, **held, **called(calls)}
+
+
+def called(calls):
+    return {"calls": calls} if calls else {}
 
 
 def wanted_lines(races):
@@ -111,17 +116,18 @@ def wanted_lines(races):
             yield from (reason["line"] for reason in race["reasons"])
 
 
-def documents_of(text, rules, explain, analysis="lockset", is_file=False):
-    """The documents of a text that has no fault. Reasons have places if it is a file, which can be read twice."""
+def documents_of(text, rules, explain, analysis="lockset", is_file=False, calls=None):
+    """The documents of a text that has no fault. Reasons have places if it is a file, which can be read twice, and these calls led to its lines."""
     documents = []
     if analysis != "happens-before":
         documents.append(document_of(reference.replay(text, rules or b"", explain=explain)[0]))
     if analysis != "lockset":
         documents.append(document_of(unordered_report(text, reference.rules_of(rules or b""), explain)[0], holds_of(text)))
     wanted = {str(line) for document in documents for line in wanted_lines(document["races"])}
-    places = {line: place for line, place in (places_in(text) if is_file else {}).items() if line in wanted}
+    places = {line: place for line, place in (places_in(text, calls) if is_file else {}).items() if line in wanted}
     for race in [race for document in documents for race in document["races"]]:
         race["reasons"] = [placed(reason, places) for reason in race["reasons"]]
+        race.update(called(places.get(str(race["line"]), NOWHERE).calls if "kind" in race else []))
     return documents
 
 
@@ -130,11 +136,11 @@ def order_note(text, documents):
     return reference.order_note_of(text, sum(document["totals"]["races"] for document in documents if "analysis" in document))
 
 
-def expected(text, rules, explain, analysis="lockset", is_file=False):
+def expected(text, rules, explain, analysis="lockset", is_file=False, calls=None):
     output, errors, status = reference.replay(text, rules or b"", explain=explain)
     if status == 2:
         return output.encode(), errors.encode(), status
-    documents = documents_of(text, rules, explain, analysis, is_file)
+    documents = documents_of(text, rules, explain, analysis, is_file, calls)
     texts = [text_of(document) for document in documents]
     output = "[\n" + ",\n".join(texts) + "]\n" if len(texts) > 1 else texts[0]
     return output.encode(), (errors + order_note(text, documents)).encode(), 1 if any(document["totals"]["races"] for document in documents) else 0

@@ -19,6 +19,7 @@ import tempfile
 sys.path.insert(0, str(pathlib.Path(__file__).parent))
 sys.dont_write_bytecode = True
 import record_tests
+import site_tests
 import trace4
 from alone import run_alone
 from record_tests import LEVELS, RUN, SOURCES, TOP, WORKERS, Findings, command
@@ -68,7 +69,8 @@ class Recording:
     def __init__(self, folder, program, *words):
         traces = folder / f"{program.name}.traces"
         self.done = command([RUN, *words, "-o", f"{traces}/", "--limit", "0", "--trace", "4", "--stacks", program])
-        self.traces = [trace4.Trace(path.read_bytes()) for path in sorted(traces.glob("*.trace"))]
+        self.paths = sorted(traces.glob("*.trace"))
+        self.traces = [trace4.Trace(path.read_bytes()) for path in self.paths]
 
     def fault(self):
         if self.done.returncode or not self.traces or any(trace.damage or trace.lost or not trace.has_ended for trace in self.traces):
@@ -135,13 +137,20 @@ def crowd(folder, findings, compiler, level):
     """Each thread has each stack: those of all ways down a tree."""
     source = PROGRAMS / "crowd.c"
     program = build(folder, findings, source, compiler, level)
-    trace, marks, found = Recording(folder, program).traces[0], lines_of(source), collections.defaultdict(set)
+    recording = Recording(folder, program)
+    trace, marks, found = recording.traces[0], lines_of(source), collections.defaultdict(set)
     for event in trace.events:
         stack = tuple(name_of(place.decode(), source, marks) for place, _ in trace.stack(event.node))
         if stack and stack[0] == "tree":
             found[event.thread].add(stack)
     wanted = {("tree", *way, "root") for height in range(10) for way in itertools.product(("left", "right"), repeat=height)}
     findings.check(f"the calls of {program.name}", len(found) == 4 and all(stacks == wanted for stacks in found.values()), f"{[len(stacks) for stacks in found.values()]}")
+    # The report shows the calls of the race, and of the first thread's first access.
+    shown = command([TOP / "eraser", "replay", "--by-site", recording.paths[0]]).stdout
+    output, _, _ = site_tests.expected(trace.text(), None, True, trace.calls)
+    root = next(number for number, mark in marks.items() if mark == "root")
+    is_told = len(re.findall(rf"^    called at \S*crowd\.c:{root}$", shown, re.M)) > 1
+    findings.check(f"the calls in the report of {program.name}", is_told and shown == output.decode(), f"{shown}, {output}"[:2000])
 
 
 def many(folder, findings):

@@ -63,9 +63,17 @@ def reason(found, places):
     text = f"{label}: {found['thread']} {found['kind']} on line {found['line']} of the trace"
     if str(found["line"]) not in places:
         return {"message": {"text": text}}
-    site, locks = places[str(found["line"])]
+    site, locks, _ = places[str(found["line"])]
     held = ", ".join(lock + ("" if writes else " (to read)") for lock, writes in locks) or "no lock"
     return {**({} if site == "-" else location(site)), "message": {"text": f"{text}, holding {held}"}}
+
+
+def stacks_of(race, places):
+    """The stacks of a race's access, if it isn't a reuse, and of those that its reasons name, as far as the calls that led there are known."""
+    lines = [race["line"]] * ("kind" in race) + [found["line"] for found in race["reasons"] if found["line"] != race["line"]]
+    called = [(line, places[str(line)]) for line in lines if str(line) in places and places[str(line)].calls]
+    stacks = [{"message": {"text": f"line {line} of the trace"}, "frames": [{"location": location(site)} for site in (place.site, *place.calls)]} for line, place in called]
+    return {"stacks": stacks} if stacks else {}
 
 
 def words_of(document):
@@ -92,6 +100,7 @@ def results_of(document, places):
             "locations": [location(site)],
             "partialFingerprints": {"siteAndKind/v1": f"{site} {kind}"},
             "relatedLocations": [reason(found, places) for found in race["reasons"]],
+            **stacks_of(race, places),
             "properties": {"line": race["line"], "held": race["held"]},
         }
 
@@ -137,11 +146,11 @@ def log_of(runs):
     return '{"$schema":"https://json.schemastore.org/sarif-2.1.0.json",\n"version":"2.1.0",\n"runs":[' + ",".join(runs) + "]}\n"
 
 
-def expected(text, rules, is_file=False, analysis="lockset"):
+def expected(text, rules, is_file=False, analysis="lockset", calls=None):
     output, errors, status = reference.replay(text, rules or b"", explain=True)
     if status < 2:
         documents = documents_of(text, rules, True, analysis)
-        output = log_of(run_text(document, places_in(text) if is_file else {}, reference.rules_of(rules or b"")) for document in documents)
+        output = log_of(run_text(document, places_in(text, calls) if is_file else {}, reference.rules_of(rules or b"")) for document in documents)
         errors, status = errors + order_note(text, documents), 1 if any(document["totals"]["races"] for document in documents) else 0
     return output.encode(), errors.encode(), status
 
@@ -169,7 +178,10 @@ def faults(log):
                 yield "no rule"
             if result.get("level") not in ("none", "note", "warning", "error") or result.get("occurrenceCount", 0) < 1:
                 yield "no level or no count"
-            for found in [*result.get("locations", []), *result.get("relatedLocations", [])]:
+            frames = [frame for stack in result.get("stacks", []) for frame in stack.get("frames", [{}])]
+            if not all(frames) or result.get("stacks") == []:
+                yield "no frames"
+            for found in [*result.get("locations", []), *result.get("relatedLocations", []), *(frame.get("location", {}) for frame in frames)]:
                 place = found.get("physicalLocation")
                 if place and (not place.get("artifactLocation", {}).get("uri") or place.get("region", {}).get("startLine", 0) < 1):
                     yield "no place"

@@ -4,6 +4,7 @@
 `tests/run` calls `tests`. By itself this file runs these tests alone.
 """
 
+import collections
 import os
 import pathlib
 import re
@@ -130,8 +131,14 @@ def holds_of(text):
     return holding.holds
 
 
+# Where an access stood, the locks that its thread held, each with whether it was held to write, and the calls that led there, the innermost first.
+Place = collections.namedtuple("Place", "site locks calls")
+NOWHERE = Place("-", [], [])
+MOST_CALLS = 8
+
+
 class Placed(reference.Replay):
-    """A replay that notes of each access its site and the locks that its thread held, each with whether it was held to write."""
+    """A replay that notes of each access its site and the locks that its thread held."""
 
     def __init__(self):
         super().__init__([])
@@ -142,26 +149,31 @@ class Placed(reference.Replay):
             held = self.held.get(thread, {})
             locks = self.in_order(list(held) + list(range(1, self.level.get(thread, 0) + 1)))
             site = operands[1].decode() if len(operands) > 1 else "-"
-            self.places[str(line)] = site, [(self.name(lock), held.get(lock) != b"rlock") for lock in locks]
+            self.places[str(line)] = Place(site, [(self.name(lock), held.get(lock) != b"rlock") for lock in locks], [])
         super().step(line, thread, verb, operands)
 
 
-def places_in(text):
-    """Where the accesses of a trace stood, by their lines."""
+def places_in(text, calls=None):
+    """Where the accesses of a trace stood, by their lines, if these calls led to its lines."""
     run = Placed()
     for line, (thread, verb, operands) in reference.events_of(text):
         run.step(line, thread, verb, operands)
-    return run.places
+    return {line: place._replace(calls=(calls or {}).get(line, [])) for line, place in run.places.items()}
+
+
+def call_lines(calls):
+    left_out = len(calls) - MOST_CALLS
+    return [*(f"    called at {short(call, 72)}" for call in calls[:MOST_CALLS]), *([f"    .. and {left_out} more"] if left_out > 0 else [])]
 
 
 def place_lines(place):
     """The lines behind a reason whose place is known."""
-    site, locks = place
+    site, locks, calls = place
     at = "" if site == "-" else f"at {short(site, 72)}"
     if not locks:
-        return ["    " + ", ".join(part for part in (at, "holding no lock") if part)]
+        return ["    " + ", ".join(part for part in (at, "holding no lock") if part), *call_lines(calls)]
     held = [f"    holding {lock_name(lock)}" + ("" if writes else ", but only to read") for lock, writes in locks]
-    return [*([f"    {at}"] if at else []), *held]
+    return [*([f"    {at}"] if at else []), *call_lines(calls), *held]
 
 
 def title(race, places):
@@ -169,7 +181,7 @@ def title(race, places):
     a lock did not protect that, and else the last one whose access another thread made."""
     line, thread, _, _, site, _, reasons = race
     lacks = any(label.endswith(" not covering") and at == line for label, at, _, _ in reasons)
-    met, _ = places.get(next((at for _, at, other, _ in reversed(reasons) if (at != line if lacks else other != thread)), None), ("-", []))
+    met = places.get(next((at for _, at, other, _ in reversed(reasons) if (at != line if lacks else other != thread)), None), NOWHERE).site
     return f"{short(site, 72)}:" if met in ("-", site) else f"{short(site, 57)} and {short(met, 57)}:"
 
 
@@ -183,7 +195,9 @@ def story(race, places):
         yield from given_back(line, thread, address, reasons, places)
         return
     yield f"  {who} {DID[kind]} the word at {address} (line {line})"
-    unwritten = {lock for lock, writes in places.get(line, ("-", []))[1] if not writes}
+    own = places.get(line, NOWHERE)
+    yield from call_lines(own.calls)
+    unwritten = {lock for lock, writes in own.locks if not writes}
     for lock in held:
         is_weak = lock in unwritten or {("joined", line), (f"{lock} not covering", line)} & {(label, at) for label, at, _, _ in reasons}
         yield f"  {who} held {lock_name(lock)}" + (", but only to read" if is_weak else "")
@@ -303,10 +317,10 @@ def by_site_of_both(lockset, unordered, text, places):
     return "".join(line + "\n" for line in [*lines, *refused, *rest, *more])
 
 
-def expected(text, rules, is_file=False):
+def expected(text, rules, is_file=False, calls=None):
     output, errors, status = reference.replay(text, rules or b"", explain=True)
     if status < 2:
-        output = by_site(output, text, places_in(text) if is_file else {})
+        output = by_site(output, text, places_in(text, calls) if is_file else {})
     return output.encode(), errors.encode(), status
 
 

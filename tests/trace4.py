@@ -72,6 +72,8 @@ class Trace:
         self.variables, self.thread_facts, self.lock_addresses = [], {}, {}
         self.kinds, self.bytes, self.blocks = collections.Counter(), collections.Counter(), 0
         self.lost, self.has_ended = 0, False
+        # By the numbers of lines, the places of the calls that led to their events, the innermost first.
+        self.calls = {}
         try:
             self.read_blocks()
         except Damage as damage:
@@ -146,13 +148,18 @@ class Trace:
 
     def line(self, *words):
         self.lines.append(b" ".join((self.threads[self.thread], *words)))
+        self.calls[str(len(self.lines))] = [place.decode() for place in self.way_out()[1:]]
 
-    def site(self):
-        """The last word of an access, if it has one: the nearest place outside headers of the system, or the outermost."""
+    def way_out(self):
+        """The places from that of a line on: the nearest one outside headers of the system, or the outermost, and those of the calls that led there."""
         node = self.node
         while node and self.nodes[node].flags & IN_HEADER and self.nodes[node].caller:
             node = self.nodes[node].caller
-        return [self.places[self.nodes[node].place]] if node else []
+        return [place for place, _ in self.stack(node)]
+
+    def site(self):
+        """The last word of an access, if it has one."""
+        return self.way_out()[:1]
 
     def stack(self, node):
         """The places of a node and its callers with their flags, the innermost first."""
@@ -276,10 +283,11 @@ def text_of(data):
 # ---- Writing
 
 class Writer:
-    """Makes a trace 4. Without dice each number is as short as it may be, and no record is there that says nothing."""
+    """Makes a trace 4. Without dice each number is as short as it may be, and no record is there that says nothing. With `most_calls` each event is reached
+    by so many calls at most, which are random."""
 
-    def __init__(self, dice=None, most_bytes=USUAL_BYTES):
-        self.dice, self.most_bytes = dice, most_bytes
+    def __init__(self, dice=None, most_bytes=USUAL_BYTES, most_calls=0):
+        self.dice, self.most_bytes, self.most_calls = dice, most_bytes, most_calls
         self.blocks, self.whole, self.events = 0, bytearray(MAGIC), 0
         self.threads, self.locks, self.places, self.nodes = {}, {}, {}, {}
         self.begin_block()
@@ -325,6 +333,18 @@ class Writer:
             self.record(NEW_NODE, caller, key[1].to_bytes(4, "little") + bytes([flags]))
             self.nodes[key] = len(self.nodes) + 1
         return self.nodes[key]
+
+    def node_at(self, site):
+        """A node whose events have this site in the text. With calls it may be in headers of the system, called from there."""
+        if site is None or not self.most_calls:
+            return self.node_of(site)
+        node = 0
+        for _ in range(self.dice.randrange(self.most_calls + 1)):
+            node = self.node_of(b"call.cpp:%d" % self.dice.randrange(1, 40), node, self.dice.randrange(4))
+        node = self.node_of(site, node, self.dice.choice([0, INLINED]))
+        while self.chance(3):
+            node = self.node_of(b"/usr/include/header.h:%d" % self.dice.randrange(1, 9), node, IN_HEADER | self.dice.choice([0, INLINED]))
+        return node
 
     def begin_event(self, thread):
         if len(self.records) >= self.most_bytes or self.chance(12):
@@ -496,7 +516,7 @@ def write_access(writer, run):
     if end <= run[-1][1]:
         # 16 bytes touch five words if they don't begin with the first byte of a word.
         first, end = run[0][1] + 3, run[0][1] + 19
-    writer.access(thread, verb == b"write", first, end - first, writer.node_of(site))
+    writer.access(thread, verb == b"write", first, end - first, writer.node_at(site))
 
 
 def write_event(writer, thread, verb, operands):
@@ -505,7 +525,7 @@ def write_event(writer, thread, verb, operands):
     elif verb in (b"show", b"level"):
         writer.other(thread, SHOW if verb == b"show" else LEVEL, reference.number(operands[0]))
     elif verb == b"reuse":
-        writer.reuse(thread, *map(reference.number, operands[:2]), writer.node_of(site_in(operands[2:])))
+        writer.reuse(thread, *map(reference.number, operands[:2]), writer.node_at(site_in(operands[2:])))
     elif verb in (b"ignore-on", b"ignore-off"):
         writer.other(thread, KINDS[verb])
     else:

@@ -5,6 +5,7 @@
 
 - random traces of texts 1 to 3, examples and worked traces, as trace 4 with random lengths, blocks and records that say nothing: `eraser print` gives
   the text, and replays give the same report, by path and by standard input, with each option of a report and several workers
+- random trees of calls: the report by site, the JSON and the SARIF of a file show the calls that led to accesses, as their second readings say
 - three small traces cut off at each byte, and with a random bit of each byte flipped: the fault of the damage, or the same report
 - records that no trace has, in blocks whose checksum is right: the damage is at their byte, and with --until-fault what stands before it is reported
 - one name or place more than a trace may have; records and blocks of the greatest length, and of one byte more; long traces of several blocks
@@ -12,6 +13,8 @@
 - the example of docs/FORMATS.md has the text that stands beside it
 """
 
+import collections
+import json
 import os
 import pathlib
 import random
@@ -22,12 +25,16 @@ import tempfile
 sys.path.insert(0, str(pathlib.Path(__file__).parent))
 sys.dont_write_bytecode = True
 import cases
+import json_tests
 import reference
+import sarif_tests
+import site_tests
 import trace4
 from alone import each_failed, each_refused, outcome_of, run_alone
 from site_tests import TOP, preloaded, run, run_file
 
 RANDOM_TRACES = 200
+SCHEMA = json.loads(json_tests.SCHEMA.read_text())
 # Options of a replay. Each trace is replayed with some of them.
 FORMS = ([], ["--explain"], ["--by-site"], ["--format", "json"], ["--format", "sarif"], ["--format", "html"], ["--workers", "3"], ["--strict"],
     ["--strict", "--workers", "3"], ["--until-fault"], ["--workers", "3", "--explain", "--by-site"], ["--analysis", "happens-before"],
@@ -112,6 +119,51 @@ def long_traces(record):
         for options in ([], ["--workers", "3"], ["--analysis", "both", "--workers", "3", "--by-site"]):
             found, wanted = run(["replay", *options, "-"], data), run(["replay", *options, "-"], plain)
             record(f"trace 4: a long trace, {name} {options}", found == wanted and wanted[2] == 1, f"{found[1:]}, {wanted[1:]}")
+
+
+def check_calls(record, name, text, data):
+    """The forms of a report that tell places show the calls that led there, as the second readings say. Returns which of them do."""
+    calls = trace4.Trace(data).calls
+    wanted = {
+        "by site": site_tests.expected(text, None, True, calls),
+        "json": json_tests.expected(text, None, True, "lockset", True, calls),
+        "json of both": json_tests.expected(text, None, True, "both", True, calls),
+        "sarif": sarif_tests.expected(text, None, True, "lockset", calls),
+        "sarif of both": sarif_tests.expected(text, None, True, "both", calls),
+    }
+    for form, want in wanted.items():
+        options = ["--by-site"] if form == "by site" else ["--explain", "--format", form.split()[0]]
+        found = run_file(None, data, *options, *(["--analysis", "both"] if "both" in form else []))
+        record(f"trace 4: the calls of {name}, {form}", found == want, f"{found}, {want}"[:3000])
+        if "json" in form and want[2] < 2:
+            wrong = list(json_tests.faults(json.loads(found[0] or b"null"), SCHEMA, SCHEMA))
+            record(f"trace 4: the calls of {name}, {form} by the schema", not wrong, f"{wrong}")
+        if "sarif" in form and want[2] < 2:
+            wrong = list(sarif_tests.faults(json.loads(found[0] or b"{}")))
+            record(f"trace 4: the calls of {name}, {form} by what SARIF requires", not wrong, f"{wrong}")
+        yield from (word for word in (b"called at", b" more\n", b'"calls":', b'"stacks":') if word in found[0])
+
+
+def shown_calls(record):
+    met = collections.Counter()
+    for at, (name, text) in enumerate(random_texts()):
+        data = trace4.encode(text, random.Random(at), most_bytes=random.Random(at).choice([100, 65536]), most_calls=at % 14)
+        met.update(check_calls(record, name, trace4.text_of(data), data))
+    record("trace 4: reports show calls", all(met[word] > 20 for word in (b"called at", b" more\n", b'"calls":', b'"stacks":')), f"{met}")
+    # The calls of the race, of the write that it is unordered with, and none where a place has no caller.
+    data = of_blocks([*BEGIN, named(T.PLACE, b"main.c:3"), record_of(T.NEW_NODE, 0, bytes([2, 0, 0, 0, 0])), record_of(T.NEW_NODE, 4, bytes([0, 0, 0, 0, 0])), record_of(T.NEW_NODE, 5, bytes([1, 0, 0, 0, 1])),
+        bytes([64 | 16 | 1, 16, 6]), record_of(T.THREAD, 1), bytes([64 | 16 | 1, 16, 2]), record_of(T.END, 2)])
+    found = run_file(None, data, "--by-site")
+    wanted = b"""
+x.c:1:
+  b wrote the word at 0x000000000010 (line 3)
+  b held no lock
+  a used it first: it wrote it (line 2)
+    at x.c:1, holding no lock
+    called at main.c:3
+"""
+    record("trace 4: calls behind a header of the system", wanted in found[0] and found[1:] == (b"", 1), f"{found}")
+    record("trace 4: no calls from standard input", b"called at" not in run(["replay", "--by-site", "-"], data)[0])
 
 
 # ---- Damaged traces
@@ -323,6 +375,7 @@ def tests(record, preloaded):
     with tempfile.TemporaryDirectory() as folder:
         example(record)
         same_reports(record)
+        shown_calls(record)
         long_traces(record)
         cut_and_flipped(record)
         built(record)

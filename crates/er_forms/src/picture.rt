@@ -27,7 +27,7 @@ const shortened = (name, most) => (name.length > most ? "\u2026" + name.slice(1 
 // each access is known.
 function accessesOf(race) {
   const byLine = new Map();
-  const own = isUnordered(race) ? [{ label: "", line: race.line, thread: race.thread, kind: isReuse(race) ? "reuse" : race.kind }] : [];
+  const own = isUnordered(race) ? [{ label: "", line: race.line, thread: race.thread, kind: isReuse(race) ? "reuse" : race.kind, calls: race.calls }] : [];
   for (const reason of [...race.reasons, ...own]) {
     if (!byLine.has(reason.line)) {
       byLine.set(reason.line, { ...reason, isFirst: false, isJoined: false, isWrite: false, lost: [] });
@@ -148,6 +148,7 @@ function storyOf(race) {
   const story = make("ol", { class: "story" });
   for (const access of accesses) {
     const item = make("li", access.isRace ? { class: "race" } : {}, `Line ${access.line}: `, sentenceOf(access, race));
+    if (access.calls) item.append(make("ul", { class: "calls" }, ...access.calls.map((call) => make("li", {}, "called at ", named(call)))));
     story.append(item);
   }
   return story;

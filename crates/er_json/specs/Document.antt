@@ -9,12 +9,13 @@ use Rattle.er_event.specs.declared.steps.Event.TheVariants.{Acquire, Release}
 use Rattle.er_event.specs.declared.steps.Step.{Step}
 use Rattle.er_event.specs.declared.steps.WordState.{WordState}
 use Rattle.er_event.specs.declared.steps.WordState.TheVariants.{Virgin, Exclusive, Shared, SharedModified}
-use Rattle.er_places.specs.Places.{PlaceTable}
-pub use Rattle.er_places.specs.Places.{HasPlaceNames}
-pub use Rattle.er_places.specs.Reasons.{reason_place}
+use Rattle.er_places.specs.Places.{PlaceTable, call_name}
+pub use Rattle.er_places.specs.Places.{HasPlaceNames, calls_of}
+pub use Rattle.er_places.specs.Reasons.{race_place, reason_place}
 use Rattle.er_places.specs.declared.places.Place.{Place}
 use Rattle.er_print.specs.Printed.{address_text, bytes_between, event_verb, kind_text, lost_text}
-use Rattle.er_print.specs.Styles.{lock_in, locks_in, named_site, site_in, thread_in}
+use Rattle.er_print.specs.Styles.{lock_in, locks_in, named_site, site_in, string_text, thread_in}
+use Rattle.er_print.specs.Values.{array_text}
 pub use Rattle.er_print.specs.Values.{values_text}
 use Rattle.er_print.specs.declared.styles.Style.TheVariants as style
 use Rattle.er_report.specs.Lines.{LineView, RaceView, RacedView, RefusedView, ShownView}
@@ -55,16 +56,25 @@ place_member names place =
     codes ",\"site\":" ++ site_in style.Json names place.site ++ codes ",\"held\":" ++ locks_in style.Json names place.held
     ++ codes ",\"held_to_read\":" ++ locks_in style.Json names (filter (is_held_to_read place.write_held) place.held)
 
--- if that is known
-abbrev pub place_if : NameTable → Option Place → List ℕ
-place_if names None = []
-place_if names (Some place) = place_member names place
+-- where a call stands
+abbrev pub call_text : PlaceTable → ℕ → List ℕ
+call_text table call = string_text (call_name table call)
+
+-- these calls, if there are some
+abbrev pub calls_member : PlaceTable → List ℕ → List ℕ
+calls_member table [] = []
+calls_member table (call ∷ calls) = codes ",\"calls\":" ++ array_text (call_text table) (call ∷ calls)
+
+-- the place of an access and the calls that led there, if that is known
+abbrev pub place_if : PlaceTable → Option Place → List ℕ
+place_if table None = []
+place_if table (Some place) = place_member table.names place ++ calls_member table (calls_of table (Some place))
 
 -- one of a race's reasons: who did what, what it has to do with the race, and where; the lines of a trace count from 1
 unfoldable pub reason_text : NameTable → PlaceTable → Because → List ℕ
 reason_text names table because =
     codes "{\"line\":" ++ decimal because.line ++ codes ",\"thread\":" ++ thread_in style.Json names because.thread
-    ++ codes ",\"kind\":\"" ++ kind_text because.kind ++ codes "\",\"label\":\"" ++ label_member names because.label ++ place_if table.names (reason_place table because) ++ codes "}"
+    ++ codes ",\"kind\":\"" ++ kind_text because.kind ++ codes "\",\"label\":\"" ++ label_member names because.label ++ place_if table (reason_place table because) ++ codes "}"
 
 -- who did what to which word, or gave back which bytes, where, and which locks it held; the missing site of a reuse is left out
 abbrev pub race_front : NameTable → RaceView → Deed → List ℕ
@@ -77,9 +87,9 @@ race_front names race (deed.Reuse range) =
     ++ codes "\",\"bytes\":" ++ decimal (bytes_between range.lo range.hi)
     ++ named_site style.Json names (codes ",\"site\":") race.site ++ codes ",\"held\":" ++ locks_in style.Json names race.held ++ codes ",\"reasons\":["
 
--- why it is a race
-abbrev pub reasons_end : NameTable → PlaceTable → List Because → List ℕ
-reasons_end names table explained = values_text (reason_text names table) explained ++ codes "]}"
+-- why it is a race, and the calls that led to its access
+abbrev pub reasons_end : NameTable → PlaceTable → RaceView → List ℕ
+reasons_end names table race = values_text (reason_text names table) race.explained ++ codes "]" ++ calls_member table (calls_of table (race_place table race)) ++ codes "}"
 
 -- the lock of a lock event; any other has none
 abbrev pub event_lock : NameTable → Event → List ℕ
@@ -106,7 +116,7 @@ state_member names (SharedModified locks) = candidates_member names (codes "shar
 
 -- the object of a line
 abbrev pub row_text : NameTable → PlaceTable → LineView → List ℕ
-row_text names table (RacedView race) = race_front names race race.deed ++ reasons_end names table race.explained
+row_text names table (RacedView race) = race_front names race race.deed ++ reasons_end names table race
 row_text names table (RefusedView number step refusal) = refused_text names number step refusal
 row_text names table (ShownView number word state) =
     codes "{\"line\":" ++ decimal number ++ codes ",\"address\":\"" ++ address_text word ++ codes "\",\"state\":\"" ++ state_member names state

@@ -3,9 +3,9 @@ use Rattle.std.specs.Prelude.{ℕ, zero, suc, ◌+◌, ◌==◌, cond, List, [],
 use Rattle.er_event.specs.Lockset.{has}
 use Rattle.er_event.specs.declared.steps.Kind.TheVariants as kind
 use Rattle.er_json.specs.Document.{rows_text, sign_if}
-use Rattle.er_places.specs.Places.{PlaceTable}
-pub use Rattle.er_places.specs.Places.{HasPlaceNames}
-pub use Rattle.er_places.specs.Reasons.{reason_place}
+use Rattle.er_places.specs.Places.{PlaceTable, call_name}
+pub use Rattle.er_places.specs.Places.{HasPlaceNames, calls_of}
+pub use Rattle.er_places.specs.Reasons.{race_place, reason_place}
 use Rattle.er_places.specs.declared.places.Place.{Place}
 use Rattle.er_print.specs.Printed.{address_text, bytes_between, kind_text, lost_text, name_at, site_text}
 use Rattle.er_print.specs.Styles.{escaped_text, label_in, lock_in, locks_in, string_text, thread_in}
@@ -126,11 +126,44 @@ unfoldable pub place_text : List ℕ → Deed → List ℕ
 place_text site deed =
     open_location site ++ (codes "}],\"partialFingerprints\":{\"siteAndKind/v1\":\"" ++ escaped_text site ++ codes " " ++ verb_of deed ++ codes "\"},\"relatedLocations\":[")
 
--- how it came about, the line of the first race, and the locks that its thread held
+-- a frame of a stack is at this site
+unfoldable pub frame_text : List ℕ → List ℕ
+frame_text site = codes "{\"location\":" ++ open_location site ++ codes "}}"
+
+-- that of a call, behind a comma
+abbrev pub call_frame : PlaceTable → ℕ → List ℕ
+call_frame table call = codes "," ++ frame_text (call_name table call)
+
+-- behind a comma, the stack of an access: its line, its site, and these calls that led there. Without a call it has none
+unfoldable pub stack_text : PlaceTable → Place → List ℕ → List ℕ
+stack_text table place [] = []
+stack_text table place (call ∷ calls) =
+    codes ",{\"message\":{\"text\":\"line " ++ decimal place.line ++ codes " of the trace\"},\"frames\":[" ++ frame_text (site_text table.names place.site)
+    ++ flat_map (call_frame table) (call ∷ calls) ++ codes "]}"
+
+-- if the place is known
+abbrev pub stack_if : PlaceTable → Option Place → List ℕ
+stack_if table None = []
+stack_if table (Some place) = stack_text table place (calls_of table (Some place))
+
+-- that of a reason, unless it is the race itself, which is on this line
+abbrev pub reason_stack : PlaceTable → ℕ → Because → List ℕ
+reason_stack table number because = cond (because.line == number) [] (stack_if table (reason_place table because))
+
+-- the stack of a race's access, and those of its reasons
+abbrev pub stacks_text : PlaceTable → RaceView → List ℕ
+stacks_text table race = stack_if table (race_place table race) ++ flat_map (reason_stack table race.line) race.explained
+
+-- these stacks, if there are some: the first has no comma
+unfoldable pub stacks_member : List ℕ → List ℕ
+stacks_member [] = []
+stacks_member (comma ∷ stacks) = codes ",\"stacks\":[" ++ stacks ++ codes "]"
+
+-- how it came about, the calls that led there, the line of the first race, and the locks that its thread held
 unfoldable pub back_text : NameTable → PlaceTable → RaceView → List ℕ
 back_text names table race =
-    values_text (reason_text names table) race.explained
-    ++ (codes "],\"properties\":{\"line\":" ++ decimal race.line ++ codes ",\"held\":" ++ locks_in style.Json names race.held ++ codes "}}")
+    values_text (reason_text names table) race.explained ++ codes "]" ++ stacks_member (stacks_text table race)
+    ++ (codes ",\"properties\":{\"line\":" ++ decimal race.line ++ codes ",\"held\":" ++ locks_in style.Json names race.held ++ codes "}}")
 
 -- a result: so many races here, and the first of them
 unfoldable pub result_text : ReportKind → NameTable → PlaceTable → RaceView → ℕ → List ℕ

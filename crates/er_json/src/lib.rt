@@ -36,4 +36,5 @@ mod locations;
 mod results;
 mod rows;
 mod sarif;
+mod stacks;
 mod suppressed;

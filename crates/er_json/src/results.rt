@@ -6,6 +6,7 @@ ghost use Rattle.er_sites.specs.Inner.Counted.{AreCounts};
 
 use crate::document::put_separator;
 use crate::locations::{open_location, put_reasons};
+use crate::stacks::put_stacks;
 use er_places::Legend;
 use er_print::Piece::{Address, Locks, Name, Number, Site, Text, Thread};
 use er_print::{Put, ReportKind, Style, bytes_of, put, verb};
@@ -149,15 +150,17 @@ fn put_place(out: &mut Vec<u8>, names: &Names, site: &[u8], deed: Deed) -> Put
     Ok(())
 }
 
-// Puts how the first race came about, its line and the locks that its thread held, and closes the result.
+// Puts how the first race came about, the calls that led there, its line and the locks that its thread held, and closes the result.
 #[tactic(auto, unfolding(crate::specs::Sarif::back_text))]
 fn put_back(out: &mut Vec<u8>, legend: &Legend, race: &Race<'_>) -> Put
     requires { HasRaceNames legend.now.names.now race.now }
     ensures { OnOk result (out.new.items ≡ out.old.items ++ back_text legend.now.names.now legend.now.places.now race.now) }
 {
     put_reasons(out, legend, race.explained)?;
+    out.extend_from_slice(b"]")?;
+    put_stacks(out, legend.places, race)?;
     put!(out, Style::Json, legend.names;
-        Number(b"],\"properties\":{\"line\":", race.line), Locks(b",\"held\":", race.held),
+        Number(b",\"properties\":{\"line\":", race.line), Locks(b",\"held\":", race.held),
         Text(b"}}")
     )?;
     Ok(())

@@ -1,11 +1,11 @@
 //! A line of a report as an object of the document.
 ghost use Rattle.std.specs.Prelude.{◌≡◌, ◌++◌, ◌<◌, All, filter, length, IfOk, OnOk};
-ghost use Rattle.er_json.specs.Document.{HasEventNames, HasLabelName, HasLockNames, HasNames, HasPlaceNames, HasRaceNames, HasReasonNames, HasStateNames, candidates_member, event_lock, is_held_to_read, label_member, line_view, place_if, place_member, race_front, reason_place, reason_text, reasons_end, refused_text, row_text, state_member, values_text};
+ghost use Rattle.er_json.specs.Document.{HasEventNames, HasLabelName, HasLockNames, HasNames, HasPlaceNames, HasRaceNames, HasReasonNames, HasStateNames, call_text, calls_member, candidates_member, event_lock, is_held_to_read, label_member, line_view, place_if, place_member, race_front, reason_place, reason_text, reasons_end, refused_text, row_text, state_member, values_text};
 
 use er_event::{Event, LockId, Lockset, Refusal, Step, WordState};
 use er_places::{Legend, Place, Places};
 use er_print::Piece::{Address, Lock, Locks, NamedSite, Number, Site, Text, Thread, Verb};
-use er_print::{Put, Style, bytes_of, comma_before, event_verb, put};
+use er_print::{Put, Style, bytes_of, comma_before, event_verb, put, put_string};
 use er_report::{Because, Deed, Label, Line, Race};
 use er_trace::Names;
 use std::alloc::{AllocError, Global};
@@ -17,7 +17,7 @@ pub(crate) fn put_row(out: &mut Vec<u8>, legend: &Legend, line: &Line) -> Put
 {
     if let Some(race) = line.race() {
         put_race(out, legend.names, &race)?;
-        return put_reasons(out, legend, race.explained);
+        return put_end(out, legend, &race);
     }
     match line {
         Line::Refused {
@@ -57,16 +57,27 @@ fn put_race(out: &mut Vec<u8>, names: &Names, race: &Race<'_>) -> Put
     }
 }
 
-// Puts the accesses that make a race, and closes its object.
+// Puts the accesses that make a race and the calls that led to its own, and closes its object.
+fn put_end(out: &mut Vec<u8>, legend: &Legend, race: &Race<'_>) -> Put
+    requires { HasRaceNames legend.now.names.now race.now }
+    ensures { OnOk result (out.new.items ≡ out.old.items ++ reasons_end legend.now.names.now legend.now.places.now race.now) }
+{
+    let places = legend.places;
+    put_reasons(out, legend, race.explained)?;
+    out.extend_from_slice(b"]")?;
+    put_calls(out, places, places.calls_of(places.of_race(race)))?;
+    out.extend_from_slice(b"}")
+}
+
 fn put_reasons(out: &mut Vec<u8>, legend: &Legend, explained: &[Because]) -> Put
     requires { All (HasReasonNames legend.now.names.now) explained.now }
-    ensures { OnOk result (out.new.items ≡ out.old.items ++ reasons_end legend.now.names.now legend.now.places.now explained.now) }
+    ensures { OnOk result (out.new.items ≡ out.old.items ++ values_text (reason_text legend.now.names.now legend.now.places.now) explained.now) }
 {
     for (place, because) in explained.iter().enumerate() {
         out.extend_from_slice(comma_before(place))?;
         put_reason(out, legend, because)?;
     }
-    out.extend_from_slice(b"]}")
+    Ok(())
 }
 
 #[tactic(auto, unfolding(crate::specs::Document::reason_text))]
@@ -99,14 +110,39 @@ fn put_label(out: &mut Vec<u8>, names: &Names, label: Label) -> Put
     }
 }
 
-// Puts where the access of a reason stood and what its thread held, if that is known.
+// Puts where the access of a reason stood, what its thread held and the calls that led there, if that is known.
 fn put_place(out: &mut Vec<u8>, places: &Places, because: &Because) -> Put
-    ensures { OnOk result (out.new.items ≡ out.old.items ++ place_if places.now.names (reason_place places.now because.now)) }
+    ensures { OnOk result (out.new.items ≡ out.old.items ++ place_if places.now (reason_place places.now because.now)) }
 {
     match places.of_reason(because) {
-        Some(place) => put_known(out, places.names(), place),
+        Some(place) => {
+            put_known(out, places.names(), place)?;
+            put_calls(out, places, places.calls_of(Some(place)))
+        }
         None => Ok(()),
     }
+}
+
+// Puts the places of calls, if there are some.
+fn put_calls(out: &mut Vec<u8>, places: &Places, calls: &[u32]) -> Put
+    ensures { OnOk result (out.new.items ≡ out.old.items ++ calls_member places.now calls.now) }
+{
+    if calls.is_empty() {
+        return Ok(());
+    }
+    out.extend_from_slice(b",\"calls\":[")?;
+    put_call_names(out, places, calls)?;
+    out.extend_from_slice(b"]")
+}
+
+fn put_call_names(out: &mut Vec<u8>, places: &Places, calls: &[u32]) -> Put
+    ensures { OnOk result (out.new.items ≡ out.old.items ++ values_text (call_text places.now) calls.now) }
+{
+    for (place, call) in calls.iter().enumerate() {
+        out.extend_from_slice(comma_before(place))?;
+        put_string(out, places.call_name(*call))?;
+    }
+    Ok(())
 }
 
 #[tactic(auto, unfolding(crate::specs::Document::place_member))]

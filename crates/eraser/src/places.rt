@@ -1,4 +1,4 @@
-//! A second look at a trace, for the places of the accesses that reasons name.
+//! A second look at a trace, for the places of the accesses that reasons name and the calls that led there.
 ghost use Rattle.std.specs.Prelude.{◌≡◌, false, true, IfSome};
 ghost use Rattle.er_binary.specs.Decoded.{IsFresh};
 ghost use Rattle.er_device.specs.Device.{has_failed, inner_of};
@@ -8,7 +8,7 @@ use crate::replaying::Job;
 use er_binary::Decoded;
 use er_device::Device;
 use er_exit::open_ordinary;
-use er_places::{Places, places_of_reports};
+use er_places::{Places, lines_of_reports, places_of_reports};
 use er_report::{Form, Reports};
 use er_request::Replay;
 use std::rt::Files;
@@ -18,32 +18,47 @@ pub(crate) fn places_of<R: Files + AllocGlobal>(rt: &R, job: Job<'_>, reports: &
     ensures { AreOptionsOf job.entry.replay.now job.entry.options.now → MayHavePlaces R.File.remaining job.entry.replay.now reports.now result }
 {
     let alloc = rt.alloc();
-    let Some(mut again) = open_again(rt, job.replay) else {
+    let Some(mut again) = open_again(rt, job, reports) else {
         return Places::new(alloc);
     };
     let options = job.options;
     let found = places_of_reports(alloc, &mut again, options.byte_limit, options.keys, reports);
-    drop(again);
-    match found {
-        Ok(places) => places,
-        Err(_) => Places::new(alloc),
+    let calls = again.into_inner().into_calls();
+    let Ok(places) = found else {
+        drop(calls);
+        return Places::new(alloc);
+    };
+    match calls {
+        Ok(calls) => places.with_calls(calls),
+        Err(_) => places,
     }
 }
 
-// The trace once more, if its reports have reasons whose places are shown. What is no ordinary file can't be read twice.
+// The trace once more, if its reports have reasons whose places are shown. What is no ordinary file can't be read twice. While it is read, the
+// calls that led to the accesses are noted.
 fn open_again<R: Files + AllocGlobal>(
     rt: &R,
-    replay: &Replay<'_>,
+    job: Job<'_>,
+    reports: &Reports,
 ) -> Option<Device<Decoded<R::File>>>
     ensures open { IfSome result (λ again. has_failed again ≡ false) }
     ensures fresh { IfSome result (λ again. IsFresh (inner_of again)) }
-    ensures shown { IfSome result (λ again. shows_places replay.now ≡ true) }
+    ensures shown { IfSome result (λ again. shows_places job.entry.replay.now ≡ true) }
 {
-    if !shows_places(replay) {
+    if !shows_places(job.replay) {
         return None;
     }
-    let file = open_ordinary(rt, replay.trace)?;
-    Some(Device::new(Decoded::new(rt.alloc(), file)))
+    let alloc = rt.alloc();
+    let Ok(lines) = lines_of_reports(alloc, job.options.keys, reports) else {
+        return None;
+    };
+    match open_ordinary(rt, job.replay.trace) {
+        Some(file) => Some(Device::new(Decoded::noting(alloc, file, lines))),
+        None => {
+            drop(lines);
+            None
+        }
+    }
 }
 
 // Whether places are shown, and the trace may be a file that is read whole.
