@@ -19,7 +19,7 @@ import reference
 MAGIC = b"\xe5eraser\x04"
 BLOCK = struct.Struct("<IIQ")
 MOST_BYTES = 1 << 20
-MOST_NAMES, MOST_NODES = 1 << 20, 1 << 24
+MOST = 1 << 30
 USUAL_BYTES = 1 << 16
 ADDRESS_END = 1 << 48
 # By the bits of a tag.
@@ -210,7 +210,7 @@ class Trace:
             self.read_bytes(kind, self.take(operand))
         elif kind == NEW_NODE:
             place, flags = self.number(4), self.number(1)
-            self.check(operand < len(self.nodes) and place < len(self.places) and flags <= IN_HEADER | INLINED and len(self.nodes) <= MOST_NODES)
+            self.check(operand < len(self.nodes) and place < len(self.places) and flags <= IN_HEADER | INLINED and len(self.nodes) <= MOST)
             self.nodes.append(Node(operand, place, flags))
         elif kind == LOST:
             self.lost = operand
@@ -230,7 +230,7 @@ class Trace:
             self.line(b"level", b"%d" % operand)
 
     def add_name(self, table, is_right, name):
-        self.check(is_right and len(table) < MOST_NAMES)
+        self.check(is_right and len(table) < MOST)
         table.append(name)
 
     def read_bytes(self, kind, content):

@@ -316,19 +316,6 @@ def damaged_blocks(race, begin):
     yield "a block that is too large", of_blocks(larger), b"damaged at byte 8"
 
 
-def full_tables(record):
-    """One name or place more than a trace may have. So many nodes would take too long."""
-    for kind in (T.THREAD_NAME, T.LOCK_NAME, T.PLACE):
-        name = named(kind, b"n")
-        full = [[name] * (T.MOST_NAMES // 4)] * 4
-        data = of_blocks(*full, [name, record_of(T.END, 0)])
-        damage = b"damaged at byte %d" % (len(of_blocks(*full)) + 16)
-        found = trace4.Trace(data).damage
-        record(f"trace 4: the second reading of too many names of kind {kind}", found == damage, f"{found}, {damage}")
-        found = run(["print", "-"], data)
-        record(f"trace 4: too many names of kind {kind}", found == (b"eraser trace 3\n" + damage + b"\n", b"", 0), f"{found}"[:1500])
-
-
 # ---- What fails around the program
 
 def refusals(record, preloaded, folder):
@@ -379,7 +366,6 @@ def tests(record, preloaded):
         long_traces(record)
         cut_and_flipped(record)
         built(record)
-        full_tables(record)
         refusals(record, preloaded, folder)
         pieces(record, preloaded, folder)
 

@@ -61,10 +61,10 @@ is_right s kind.Signal n body behind = nat_lt n (length s.locks)
 is_right s kind.Await n body behind = nat_lt n (length s.locks)
 is_right s kind.Show n body behind = nat_lt n (2 ^ 48)
 is_right s kind.Level n body behind = nat_le n 31
-is_right s kind.ThreadName n body behind = is_name body && nat_lt (length s.threads) (2 ^ 20)
-is_right s kind.LockName n body behind = is_lock_name body && nat_lt (length s.locks) (2 ^ 20)
-is_right s kind.Place n body behind = is_place body && nat_lt (length s.places) (2 ^ 20)
-is_right s kind.NewNode n body behind = nat_le n (length s.nodes) && nat_lt (number_in body 0 4) (length s.places) && nat_le (slice_index body 4) 3 && nat_lt (length s.nodes) (2 ^ 24)
+is_right s kind.ThreadName n body behind = is_name body && nat_lt (length s.threads) (2 ^ 30)
+is_right s kind.LockName n body behind = is_lock_name body && nat_lt (length s.locks) (2 ^ 30)
+is_right s kind.Place n body behind = is_place body && nat_lt (length s.places) (2 ^ 30)
+is_right s kind.NewNode n body behind = nat_le n (length s.nodes) && nat_lt (number_in body 0 4) (length s.places) && nat_le (slice_index body 4) 3 && nat_lt (length s.nodes) (2 ^ 30)
 is_right s kind.Note n body behind = nat_le (length body) 1000 && list_all is_note_byte body
 is_right s kind.End n body behind = (n == s.events) && (length behind == 0)
 is_right s k n body behind = true

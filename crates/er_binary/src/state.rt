@@ -14,9 +14,7 @@ use er_lines::{is_lock_name, is_name, is_site_name};
 use std::alloc::{AllocError, Global};
 
 // The most names of threads, of locks and of places, and the most nodes.
-const MOST_NAMES: u64 = 1 << 20;
-
-const MOST_NODES: u64 = 1 << 24;
+const MOST: u64 = 1 << 30;
 
 /// The names and nodes so far, what the next access goes on from, and what was counted.
 #[derive(Drop)]
@@ -110,9 +108,9 @@ impl State {
                 < self.locks.len(),
             Show => number < ADDRESS_END,
             Level => number <= 31,
-            ThreadName => is_name(body) && self.threads.len() < MOST_NAMES,
-            LockName => is_lock_name(body) && self.locks.len() < MOST_NAMES,
-            Place => is_place(body) && self.places.len() < MOST_NAMES,
+            ThreadName => is_name(body) && self.threads.len() < MOST,
+            LockName => is_lock_name(body) && self.locks.len() < MOST,
+            Place => is_place(body) && self.places.len() < MOST,
             NewNode => self.is_node(number, body),
             Note => body.len() <= 1000 && is_note(body),
             End => number == self.events && behind.is_empty(),
@@ -127,7 +125,7 @@ impl State {
         caller <= self.nodes.len()
             && number(&body[0..4]) < self.places.len()
             && body[4] <= 3
-            && self.nodes.len() < MOST_NODES
+            && self.nodes.len() < MOST
     }
 
     fn node_by(&self, caller: u64, body: &[u8]) -> TreeNode
