@@ -21,7 +21,8 @@ pub(crate) fn put_stacks(out: &mut Vec<u8>, places: &Places, race: &Race<'_>) ->
     };
     out.extend_from_slice(b",\"stacks\":[")?;
     out.extend_from_slice(stacks)?;
-    out.extend_from_slice(b"]")
+    out.extend_from_slice(b"]")?;
+    Ok(())
 }
 
 fn put_reason_stacks(out: &mut Vec<u8>, places: &Places, line: u64, explained: &[Because]) -> Put
@@ -43,7 +44,7 @@ fn put_reason_stack(out: &mut Vec<u8>, places: &Places, line: u64, because: &Bec
 }
 
 fn put_stack_if(out: &mut Vec<u8>, places: &Places, place: Option<&Place>) -> Put
-    requires { IfSome (option_copied place.entry) (HasPlaceNames places.now.names) }
+    requires { IfSome (option_copied place) (HasPlaceNames places.now.names) }
     ensures { OnOk result (out.new.items ≡ out.old.items ++ stack_if places.now (option_copied place.entry)) }
 {
     match place {
@@ -69,7 +70,8 @@ fn put_stack(out: &mut Vec<u8>, places: &Places, place: &Place, calls: &[u32]) -
     )?;
     put_frame(out, &site)?;
     put_calls(out, places, calls)?;
-    out.extend_from_slice(b"]}")
+    out.extend_from_slice(b"]}")?;
+    Ok(())
 }
 
 fn put_calls(out: &mut Vec<u8>, places: &Places, calls: &[u32]) -> Put

@@ -1,5 +1,4 @@
 -- A reuse, by the parts that it is put by.
-use Rattle.er_json.specs.Sarif.{deed_words}
 use Rattle.er_json.proofs.results.put_deed.Goals as goal
 
 pub returns-in-Reuse : goal.returns-in-Reuse

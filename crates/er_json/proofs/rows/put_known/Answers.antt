@@ -1,5 +1,5 @@
 -- Each of the locks has a name, and so has each of those that are held to read.
-use Rattle.std.proofs.Common.{ℕ, List, ◌∙◌, subst, sym}
+use Rattle.std.proofs.Common.{◌∙◌, subst, sym}
 use Rattle.std.proofs.lemmas.List.Elements.{All-filter}
 use Rattle.er_json.specs.Document.{is_held_to_read}
 use Rattle.er_report.specs.Names.{HasLockName, HasLockNames}
