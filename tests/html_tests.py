@@ -6,6 +6,7 @@
 - in a headless Chromium the page has the sites of a second reading, its filter and its examples work by keyboard, it loads nothing, and no
   name and no source line is ever markup
 - a page of two reports has two parts, and a picture of two accesses that nothing orders has a broken line and no candidate set
+- a page of a trace 4 from a file has the calls that led to each access below its sentence
 
 `tests/run` calls `tests`. By itself this file runs these tests alone, or with `--screenshot FILE` makes a picture of a page.
 """
@@ -24,6 +25,7 @@ sys.dont_write_bytecode = True
 import browser
 import reference
 import site_tests
+import trace4
 from alone import OUTCOMES, each_refused, outcome_of, run_alone
 from json_tests import ANALYSES, LOSSY, REUSED, document_of
 from site_tests import TOP, preloaded, run, run_with
@@ -357,7 +359,7 @@ def hostile_tests(record, one, folder):
     (before, between, behind), report, _ = blocks_of(page)
     document = json.loads(report)
     document["races"] = [{"line": 9 * place + 9, "thread": name, "kind": "write", "address": name, "site": name, "held": [name], "reasons": [
-        {"line": 1, "thread": name, "kind": "read", "label": "first", "lock": None}, {"line": 2, "thread": "t" + name, "kind": "write", "label": "joined", "lock": None},
+        {"line": 1, "thread": name, "kind": "read", "label": "first", "lock": None, "calls": [name]}, {"line": 2, "thread": "t" + name, "kind": "write", "label": "joined", "lock": None},
         {"line": 9 * place + 9, "thread": name, "kind": "write", "label": "not covering", "lock": name}]} for place, name in enumerate(HOSTILE)]
     document["refused"] = [{"line": 1, "thread": name, "event": name, "lock": name, "why": name} for name in HOSTILE]
     document["shown"] = [{"line": 1, "address": name, "state": name, "owner": name, "candidates": [name]} for name in HOSTILE]
@@ -369,6 +371,8 @@ def hostile_tests(record, one, folder):
     sites = [row[4] for row in one.value(ROWS)]
     record("hostile names are text", is_calm(one) and is_harmless(one) and sites == HOSTILE, f"{one.troubles}, {sites}")
     record("hostile names have pictures", len(one.value(PICTURES)) == len(HOSTILE), f"{len(one.value(PICTURES))}")
+    calls = one.value("[...document.querySelectorAll('ul.calls > li')].map(call => call.textContent)")
+    record("hostile names of calls are text", calls == [f"called at {name}" for name in HOSTILE], f"{calls}")
     # And if a block were not escaped, the policy would keep the script from running.
     opened(b"".join((before, b"{}</script><script>window.hostile = 6</script><img src=x onerror='window.hostile = 7'>", between, b"[]", behind)), folder, one)
     record("the policy lets no other script run", one.value("typeof window.hostile") == "undefined" and any("Content Security Policy" in trouble for trouble in one.troubles), f"{one.troubles}")
@@ -467,6 +471,26 @@ def part_tests(record, one, folder):
     record("a reuse in sentences", told[0] == wanted, f"{told}")
 
 
+def calls_tests(record, one, folder):
+    """A page of a trace 4 from a file has the calls that led to each access below its sentence, the innermost first. From standard input it has none."""
+    writer = trace4.Writer()
+    of_reader, of_writer = writer.node_of(b"pool.c:5", writer.node_of(b"main.c:7")), writer.node_of(b"main.c:9")
+    for thread, is_write, place, caller in ((b"main", True, b"job.c:3", 0), (b"w1", False, b"job.c:20", of_reader), (b"w2", True, b"job.c:30", of_writer)):
+        writer.access(thread, is_write, 0x1000, 4, writer.node_of(place, caller))
+    path = pathlib.Path(folder) / "calls.trace"
+    path.write_bytes(writer.finish())
+    stories = "[...document.querySelectorAll('ol.story')].map(story => [...story.children].map(line => [line.firstChild.textContent, ...[...line.querySelectorAll('ul.calls > li')].map(call => call.textContent)]))"
+    # What is unordered in the run, and then the race by locks.
+    unordered = [["Line 2: "], ["Line 3: ", "called at pool.c:5", "called at main.c:7"]]
+    for way, trace, text, wanted in (
+        ("a file", str(path), b"", [unordered, [*unordered, ["Line 4: ", "called at main.c:9"]]]),
+        ("standard input", "-", path.read_bytes(), [[["Line 2: "], ["Line 3: "]], [["Line 2: "], ["Line 3: "], ["Line 4: "]]]),
+    ):
+        opened(run(["replay", "--analysis", "both", "--format", "html", trace], text)[0], folder, one)
+        found = one.value(stories)
+        record(f"the calls on a page of {way}", is_calm(one) and found == wanted, f"{found}, {one.troubles}")
+
+
 def large_tests(record, one, folder):
     """300,000 races: the page groups them, and makes rows and pictures as they are asked for."""
     lines = [f"{thread} write {4 * k} part{k % 2000}.cpp:{k % 700 + 1}" for k in range(300_000) for thread in ("t1", "t2")]
@@ -497,6 +521,7 @@ def browser_tests(record):
         first_races_tests(record, one, folder)
         lost_tests(record, one, folder)
         part_tests(record, one, folder)
+        calls_tests(record, one, folder)
         large_tests(record, one, folder)
 
 

@@ -9,7 +9,7 @@
 - three small traces cut off at each byte, and with a random bit of each byte flipped: the fault of the damage, or the same report
 - records that no trace has, in blocks whose checksum is right: the damage is at their byte, and with --until-fault what stands before it is reported
 - one name or place more than a trace may have; records and blocks of the greatest length, and of one byte more; long traces of several blocks
-- each allocation refused in turn; reads of a few bytes at a time, and each read failed in turn
+- each allocation refused in turn, also where a file is read again for its places and calls; reads of a few bytes at a time, and each read failed in turn
 - the example of docs/FORMATS.md has the text that stands beside it
 """
 
@@ -331,6 +331,25 @@ def refusals(record, preloaded, folder):
         record(f"trace 4: memory is refused {' '.join(options)}", {"whole", "out of memory"} <= met, f"{met}")
 
 
+def refusals_again(record, preloaded, folder):
+    """Memory that is refused to a report by site of a file, which is read again: its calls are left out, or its places and calls, and nothing else is."""
+    library, path, met = preloaded(folder, "refuse"), pathlib.Path(folder) / "calls.trace", set()
+    path.write_bytes(trace4.encode(b"eraser trace 3\nt1 lock m\nt1 write 0x1000 a.c:1\nt2 write 0x1000 b.c:2\n", random.Random(4), most_bytes=40, most_calls=3))
+    trace = trace4.Trace(path.read_bytes())
+    reports = {
+        site_tests.expected(trace.text(), None, True, trace.calls): "whole",
+        site_tests.expected(trace.text(), None, True): "without calls",
+        site_tests.expected(trace.text(), None): "without places",
+        (b"", b"read fault\n", 4): "read fault",
+    }
+    record("trace 4: what a report by site of a file may have", len(reports) == 4, f"{reports}")
+    for nth, found, was_refused in each_refused(library, folder, lambda env: run(["replay", "--by-site", str(path)], env=env)):
+        outcome = reports.get(found) or outcome_of(found, None, lambda text: b": stopped: out of memory\n" in text)
+        record(f"trace 4: allocation {nth} of a report by site {'refused' if was_refused else 'made'}", outcome is not None if was_refused else outcome == "whole", f"{found}")
+        met.add(outcome)
+    record("trace 4: memory is refused to a report by site", {"whole", "without calls", "without places", "out of memory"} <= met, f"{met}")
+
+
 def pieces(record, preloaded, folder):
     library = preloaded(folder, "pieces")
     data = small_traces()[1]
@@ -367,6 +386,7 @@ def tests(record, preloaded):
         cut_and_flipped(record)
         built(record)
         refusals(record, preloaded, folder)
+        refusals_again(record, preloaded, folder)
         pieces(record, preloaded, folder)
 
 
