@@ -30,7 +30,7 @@ import reference
 import sarif_tests
 import site_tests
 import trace4
-from alone import each_failed, each_refused, outcome_of, run_alone
+from alone import OUTCOMES, each_failed, each_refused, outcome_of, run_alone
 from site_tests import TOP, preloaded, run, run_file
 
 RANDOM_TRACES = 200
@@ -347,7 +347,7 @@ def refusals_again(record, preloaded, folder):
         outcome = reports.get(found) or outcome_of(found, None, lambda text: b": stopped: out of memory\n" in text)
         record(f"trace 4: allocation {nth} of a report by site {'refused' if was_refused else 'made'}", outcome is not None if was_refused else outcome == "whole", f"{found}")
         met.add(outcome)
-    record("trace 4: memory is refused to a report by site", {"whole", "without calls", "without places", "out of memory"} <= met, f"{met}")
+    record("trace 4: memory is refused to a report by site", met == {*reports.values(), *OUTCOMES}, f"{met}")
 
 
 def pieces(record, preloaded, folder):
