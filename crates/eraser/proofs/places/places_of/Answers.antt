@@ -22,8 +22,8 @@ returns-in-Ok-calls g c by =
     let told = option_map (to_come again) known in
     let wants = are_asked c.args.reports.now in
     let found : IfSome told (λ text. ArePlaces wants text c.args.job.options.now.byte_limit c.with_calls.result)
-        = subst (λ (table : PlaceTable). IfSome told (λ text. ArePlaces wants text c.args.job.options.now.byte_limit table)) (sym c.with_calls.ensures)
-            (with-calls wants told c.args.job.options.now.byte_limit c.in-Ok.places c.in-Ok-calls.calls c.in-Ok.ensures.found) in
+    = subst (λ (table : PlaceTable). IfSome told (λ text. ArePlaces wants text c.args.job.options.now.byte_limit table)) (sym c.with_calls.ensures)
+    (with-calls wants told c.args.job.options.now.byte_limit c.in-Ok.places c.in-Ok-calls.calls c.in-Ok.ensures.found) in
     inr (
       c.in-Some.ensures.shown,
       (
