@@ -321,6 +321,8 @@ def prove_tests(record, tree):
     record("prove: no such crate", (found.returncode, found.stderr) == (70, "eraser: crates.txt has no crate none\n"), f"{found}")
     found = tree.run("tools/prove", "high", kit=True)
     record("prove: a library renews nothing", found.returncode == 0 and manifest.read_text() == before and "proved 2 of 2 crates" in found.stderr, f"{found}")
+    cost = "eraser: processor minutes: 0 below high, of which 0 by low; 0 by high\n"
+    record("prove: what a proof from nothing cost", found.stderr.endswith(cost), f"{found}")
     found = tree.run("tools/prove", "eraser", kit=True)
     text = gzip.decompress((tree.top / "dist/eraser.gz").read_bytes())
     is_told = "1 of 3 crates" in found.stderr and "proved 3 of 3 crates (eraser" in found.stderr and found.stderr.endswith("dist: eraser is renewed\n")
