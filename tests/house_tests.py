@@ -13,10 +13,13 @@ moved: a path in a table becomes that of the one file that now has the function 
 - nothing is beyond tests/budget.toml, and each wrong body can be put into its crate's code; how many of tests/wrong_bodies were not tried
   since their crate changed is only printed, and so are the minutes of the last gate
 - each path of the repository that a document names in backquotes exists
+- the policy of the page that `--format html` writes has the SHA-256 of the style sheet and of the script in the code
 - what the README prints of an example is the example's report, and the code of docs/LIBRARY.md is that of crates/two_threads
 """
 
+import base64
 import functools
+import hashlib
 import importlib.machinery
 import importlib.util
 import pathlib
@@ -429,6 +432,21 @@ def example_faults():
                 yield f"docs/LIBRARY.md: crates/two_threads has no line {line!r}"
 
 
+PAGE = CRATES / "er_forms/src"
+
+
+def page_text(module):
+    return re.search(rb'= br(#+)"(.*?)"\1;', (PAGE / f"{module}.rt").read_bytes(), re.S)[2]
+
+
+def policy_faults():
+    """A browser uses no other style sheet and no other script than those of the policy. tests/html_tests.py asks the program the same."""
+    texts = [page_text("style"), page_text("picture") + page_text("script")]
+    wanted = ["sha256-" + base64.b64encode(hashlib.sha256(text).digest()).decode() for text in texts]
+    if re.findall(r"'(sha256-[^']*)'", text_of(PAGE / "shell.rt")) != wanted:
+        yield f"crates/er_forms/src/shell.rt: the policy of the page wants '{wanted[0]}' and '{wanted[1]}'"
+
+
 CHECKS = {
     "promises": promise_faults,
     "the map of crates": map_faults,
@@ -441,6 +459,7 @@ CHECKS = {
     "the glossary": glossary_faults,
     "paths": path_faults,
     "the examples of README and LIBRARY": example_faults,
+    "the policy of the page": policy_faults,
 }
 
 
