@@ -29,6 +29,8 @@ PROGRAMS = SOURCES / "stacks"
 PARTS = {"thrown": "through.c"}
 # Programs that say more than which stacks there are.
 ALONE = ("crowd.c", "deep.c", "interrupted.c", "many.c")
+# Those that --order has more to say of.
+ORDERED = ("events", "once")
 LEFT_OUT = "calls-left-out"
 # Calls that a stack has, and the main program's one among them.
 MOST_CALLS = 256
@@ -99,7 +101,7 @@ def name_of(place, source, marks):
 def says_what_it_does(folder, findings, source, compiler, level):
     program = build(folder, findings, source, compiler, level)
     of_events = source.stem == "events"
-    recording = Recording(folder, program, *["--order"] * of_events)
+    recording = Recording(folder, program, *["--order"] * (source.stem in ORDERED))
     wrong = set(recording.stacks(source, of_events)) ^ expected(source, "EVENT" if of_events else "STACK")
     fault = recording.fault() or (wrong and f"only in one: {sorted(map(' < '.join, wrong))}")
     findings.check(f"the calls of {program.name}", not fault, fault)

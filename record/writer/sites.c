@@ -379,10 +379,15 @@ static bool describe_line(const char *name, const char *folder, int number, char
     return is_below(path, "/usr/include") || is_below(path, "/usr/lib");
 }
 
-static bool describe(uint64_t place, char *text, size_t room)
+static Dwfl_Module *file_of(uint64_t place)
 {
     Dwfl *all = sites_files();
-    Dwfl_Module *file = all ? dwfl_addrmodule(all, place) : NULL;
+    return all ? dwfl_addrmodule(all, place) : NULL;
+}
+
+static bool describe(uint64_t place, char *text, size_t room)
+{
+    Dwfl_Module *file = file_of(place);
     int number = 0;
     /* The call stands before the place that it returns to. */
     const char *folder, *name = file ? line_of(file, place - 1, &number, &folder) : NULL;
@@ -434,9 +439,16 @@ static void grow(void)
 
 bool sites_has_instrumented(uint64_t place)
 {
-    Dwfl *all = sites_files();
-    Dwfl_Module *file = all ? dwfl_addrmodule(all, place) : NULL;
+    Dwfl_Module *file = file_of(place);
     return file && sites_is_instrumented(file);
+}
+
+bool sites_is_recorder(uint64_t place)
+{
+    Dwfl_Module *file = file_of(place);
+    const char *path = file ? dwfl_module_info(file, NULL, NULL, NULL, NULL, NULL, NULL, NULL) : NULL;
+    const char *base = path ? strrchr(path, '/') : NULL;
+    return base && strcmp(base, "/libtsan.so.2") == 0;
 }
 
 static struct site new_site(const char *text, bool is_in_header)
@@ -463,8 +475,7 @@ static const struct site *callers_of(const struct inlined *inlined, const char *
 static const struct site *find_callers(uint64_t place)
 {
     Dwarf_Addr bias = 0;
-    Dwfl *all = sites_have_callers ? sites_files() : NULL;
-    Dwfl_Module *file = all ? dwfl_addrmodule(all, place) : NULL;
+    Dwfl_Module *file = sites_have_callers ? file_of(place) : NULL;
     Dwarf_Die *unit = file && sites_is_instrumented(file) ? unit_of(file, place, &bias) : NULL;
     return unit ? callers_of(inlined_at(unit, place - bias), folder_of(unit)) : NULL;
 }

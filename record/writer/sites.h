@@ -35,5 +35,7 @@ Dwfl *sites_files(void);
 bool sites_is_instrumented(Dwfl_Module *file);
 /* Whether a place is in a file that is instrumented, without a look at its debug information. */
 bool sites_has_instrumented(uint64_t place);
+/* Whether a place is in the recorder's own library, which is loaded by the name of ThreadSanitizer's. */
+bool sites_is_recorder(uint64_t place);
 
 #endif

@@ -56,9 +56,11 @@ static bool is_in_headers(const struct site *site)
 
 /* Calls before the first function of the program's own have no node: they are the C library's or the recorder's, or of a header of the system, as those
  * by which std::thread starts a function. Nobody needs their lines, and to unpack the C library's debug information takes longer than to record a short
- * program. */
+ * program. Nor has the recorder's own call of a function that it was given, as by pthread_once: the program has called the C library. */
 static uint32_t new_node(uint64_t call, uint32_t caller)
 {
+    if (caller && sites_is_recorder(call))
+        return caller;
     return caller || (sites_has_instrumented(call) && !is_in_headers(site_of(call))) ? node_of(call, caller) : 0;
 }
 
