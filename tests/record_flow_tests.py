@@ -1,5 +1,5 @@
 #!/usr/bin/env python3
-"""Records programs with `record/run --trace 4` and --flow, and compares what no text has with what the programs say: tries, atomic operations that order
+"""Records programs with `record/run --flow`, and compares what no text has with what the programs say: tries, atomic operations that order
 nothing, and facts of variables, threads and locks.
 
 The programs of tests/record/told name these by the marks of their lines (tests/record/stacks/marks.h). They are built by two compilers at two levels, and
@@ -27,9 +27,9 @@ KINDS = {trace4.TRY: "try", trace4.READ_TRY: "try-read", trace4.FAILED_TRY: "fai
 
 
 def record_it(folder, program, *words):
-    """The trace 4 of a run, what the program printed, and what is wrong with either, or None."""
+    """The trace of a run, what the program printed, and what is wrong with either, or None."""
     path = folder / f"{program.name}{''.join(words)}.trace"
-    done = command([RUN, "-o", path, "--trace", "4", *words, program])
+    done = command([RUN, "-o", path, *words, program])
     trace = trace4.Trace(path.read_bytes())
     is_whole = done.returncode == 0 and not trace.damage and trace.has_ended and not trace.lost
     return trace, done.stdout, None if is_whole else f"{done} {trace.damage} {trace.lost}"
@@ -57,7 +57,7 @@ def tries(folder, findings, compiler, level):
     command([RUN, "-o", text, "--order", program])
     printed = command([TOP / "eraser", "print", folder / f"{program.name}--flow.trace"]).stdout
     findings.check(f"the text of {program.name}", same_text(text.read_text()) == same_text(printed) == same_text(trace.text().decode()), f"{text.read_text()} {printed}")
-    trace, _, fault = record_it(folder, program, "--order")
+    trace, _, fault = record_it(folder, program, "--order", "--trace", "4")
     found, wanted = sorted(told(trace, source)), [event for event in wanted if event[0] in ("try", "try-read")]
     findings.check(f"what {program.name} tells without --flow", not fault and found == wanted, f"{fault} {found}, {wanted}")
 

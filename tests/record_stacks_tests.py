@@ -1,5 +1,5 @@
 #!/usr/bin/env python3
-"""Records programs with `record/run --trace 4 --stacks`, and compares the calls of each access with what the programs say.
+"""Records programs with `record/run --stacks`, and compares the calls of each access with what the programs say.
 
 The programs of tests/record/stacks have marks (marks.h), and name all stacks that their accesses have: those of the trace are these and no others, by
 two compilers at two levels. tests/trace4.py reads the traces.
@@ -70,7 +70,7 @@ class Recording:
 
     def __init__(self, folder, program, *words):
         traces = folder / f"{program.name}.traces"
-        self.done = command([RUN, *words, "-o", f"{traces}/", "--limit", "0", "--trace", "4", "--stacks", program])
+        self.done = command([RUN, *words, "-o", f"{traces}/", "--limit", "0", "--stacks", program])
         self.paths = sorted(traces.glob("*.trace"))
         self.traces = [trace4.Trace(path.read_bytes()) for path in self.paths]
 
@@ -159,15 +159,16 @@ def many(folder, findings):
     """More stacks than there is room for: a tree of calls has 2,097,151, and the one of main comes before them. What a second tree of 15 calls does is in
     main, and nobody knows by which calls."""
     program = build(folder, findings, PROGRAMS / "many.c", "gcc", "-O2")
-    done = command([RUN, "-o", "/dev/null", "--limit", "0", "--trace", "4", "--stacks", program])
+    done = command([RUN, "-o", "/dev/null", "--limit", "0", "--stacks", program])
     findings.check("more stacks than there is room for", "record: 32 events lack their innermost calls: " in done.stderr and ", 0 lost\n" in done.stderr, done.stderr)
 
 
 def refused(folder, findings, option, says):
     """A text can't have what the option asks for, and nothing is recorded."""
-    done = command([RUN, option, "-o", folder / "text.trace", "true"])
-    is_told = (done.returncode, done.stdout, done.stderr) == (125, "", f"record: {option} wants --trace 4: {says}\n")
-    findings.check(f"{option} in a text", is_told and not (folder / "text.trace").exists(), f"{done}")
+    for words in ([option, "--trace", "3"], ["--trace", "3", option]):
+        done = command([RUN, *words, "-o", folder / "text.trace", "true"])
+        is_told = (done.returncode, done.stdout, done.stderr) == (125, "", f"record: {option} does not go with --trace 3: {says}\n")
+        findings.check(f"{' '.join(words)}", is_told and not (folder / "text.trace").exists(), f"{done}")
 
 
 def tests(record):

@@ -42,8 +42,8 @@ static const char usage[] =
     "      --runs N            run the program N times, and report of each site in how many of the runs it was reported\n"
     "      --order             record what orders threads as well: starts and joins, semaphores, atomic operations ..\n"
     "      --trace FORM        write the trace as text `3` (the default), or in the binary form `4`, which is shorter; `eraser print` shows it as text\n"
-    "      --stacks            record the calls in which each event is made, and report accesses in system headers at the line that called them; needs --trace 4\n"
-    "      --flow              record what threads learn from each other without an order: relaxed atomics, and tries of locks that fail; needs --trace 4, and records with --order\n"
+    "      --stacks            record in a trace 4 the calls in which each event is made, and report accesses in system headers at the line that called them\n"
+    "      --flow              record in a trace 4 what threads learn from each other without an order: relaxed atomics, and tries of locks that fail; records with --order\n"
     "      --limit BYTES       of a trace that is kept: keep at most BYTES of it; 0: no limit. With -o the default is 268435456\n"
     "      --root DIR          name sites by their paths below DIR. The default is the folder that has all sources of the program\n"
     "      --paths             name sites by their paths as the compiler has them\n"
@@ -52,7 +52,7 @@ static const char usage[] =
     "  -V, --version           print the version\n"
     "\n"
     "On a terminal the report is by both analyses, by site and explained, with the calls that led to each access, unless an option says how\n"
-    "to report: then the trace is kept in a temporary file until it has been replayed, as by --trace 4 --stacks unless --trace is given. If\n"
+    "to report: then the trace is kept in a temporary file until it has been replayed, as by --stacks unless --trace is given. If\n"
     "the command starts several programs that can be recorded, the report of each goes to a file of its own, below the folder eraser.out.\n"
     "\n"
     "It ends with the program's exit status, or 128 and the number of the signal that ended it; 125 if the recorder failed, 126 or 127\n"
@@ -211,13 +211,21 @@ static void refuse(const char *text)
     exit(STATUS_FAILED);
 }
 
+/* What a text has no room for is in a trace 4. */
+static void choose_form(void)
+{
+    bool is_text = options.has_form && trace_form == &text_form;
+    if (is_text && options.has_stacks)
+        refuse("--stacks does not go with --trace 3: a text has no stacks");
+    if (is_text && options.has_flow)
+        refuse("--flow does not go with --trace 3: a text has no data flow");
+    if (options.has_stacks || options.has_flow)
+        trace_form = &binary_form;
+}
+
 /* Options that don't go together. */
 static void check_together(void)
 {
-    if (options.has_stacks && trace_form != &binary_form)
-        refuse("--stacks wants --trace 4: a text has no stacks");
-    if (options.has_flow && trace_form != &binary_form)
-        refuse("--flow wants --trace 4: a text has no data flow");
     if (options.format && options.by_site)
         refuse("--by-site and --format are not given together");
     if (options.runs > 1 && options.format && strcmp(options.format, "text") != 0)
@@ -266,6 +274,7 @@ void read_options(int count, char **words)
         case 'V': fputs(version, stdout); end_printed(); break;
         default: fputs("record: --help says what there is\n", stderr); exit(STATUS_FAILED);
         }
+    choose_form();
     check_together();
     if (optind == count) {
         print_usage(words[0], stderr);
