@@ -59,7 +59,7 @@ static bool is_in_headers(const struct site *site)
  * program. Nor has the recorder's own call of a function that it was given, as by pthread_once: the program has called the C library. */
 static uint32_t new_node(uint64_t call, uint32_t caller)
 {
-    if (caller && sites_is_recorder(call))
+    if (sites_is_recorder(call))
         return caller;
     return caller || (sites_has_instrumented(call) && !is_in_headers(site_of(call))) ? node_of(call, caller) : 0;
 }
