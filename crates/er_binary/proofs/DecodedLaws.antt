@@ -1,5 +1,5 @@
 -- What a reader of a trace of any form still gives, before and behind its first bytes.
-use Rattle.std.proofs.Common.{◌≡◌, ℕ, zero, suc, ◌<◌, ◌≤◌, Bool, true, false, cond, List, [], ◌∷◌, ◌++◌, length, take, drop, Option, Some, None, Result, Ok, Err, option_map, refl, sym, ap, ◌∙◌, arith}
+use Rattle.std.proofs.Common.{◌≡◌, ℕ, zero, suc, ◌<◌, ◌≤◌, Bool, true, false, not, cond, List, [], ◌∷◌, ◌++◌, length, take, drop, Option, Some, None, Result, Ok, Err, option_map, refl, sym, ap, ◌∙◌, arith}
 use Rattle.std.proofs.lemmas.List.{drop_all, length-take-le}
 use Rattle.std.proofs.lemmas.Slice.Eq.{bytes_eq-Decides}
 use Rattle.std.specs.Io.KnownBytes.{Consumes, Keeps, ReadConsumes}
@@ -17,6 +17,14 @@ take_front zero [] rest fits end = refl
 take_front zero (byte ∷ bytes) rest fits end = absurd (omega arith)
 take_front (suc n) [] rest fits end = rw (end (omega arith)) refl
 take_front (suc n) (byte ∷ bytes) rest fits end = ap (λ (t : List ℕ). byte ∷ t) (take_front n bytes rest (omega arith) (λ less. end (omega arith)))
+
+pub not_true : (b : Bool) → not b ≡ true → b ≡ false
+not_true true is = cc
+not_true false is = refl
+
+pub not_false : (b : Bool) → not b ≡ false → b ≡ true
+not_false true is = refl
+not_false false is = cc
 
 -- what first bytes and those behind them mean
 pub meant_text : (bytes rest : List ℕ) → length bytes ≤ 8 → (length bytes < 8 → rest ≡ []) → bytes_eq bytes magic ≡ false → meant (bytes ++ rest) ≡ bytes ++ rest

@@ -1,6 +1,6 @@
 //! The calls that led to the events of a trace.
 ghost use Rattle.std.specs.Prelude.{◌≡◌, ℕ, []};
-ghost use Rattle.er_binary.specs.Calls.{kept, numbers_of};
+ghost use Rattle.er_binary.specs.Calls.{numbers_of};
 ghost use Rattle.er_binary.specs.Numbers.{name_at};
 
 use crate::names::Names;
@@ -13,8 +13,8 @@ use std::marker::Model;
 /// Places are numbered, and each has a name.
 #[derive(Drop)]
 pub struct Calls {
-    by_line: BTreeMap<u64, Vec<u32>>,
-    names: Names,
+    pub(crate) by_line: BTreeMap<u64, Vec<u32>>,
+    pub(crate) names: Names,
 }
 
 impl Model for Calls {
@@ -34,14 +34,6 @@ impl Calls {
             by_line: BTreeMap::new(alloc),
             names: Names::new(alloc),
         }
-    }
-
-    /// The calls by line, as numbers of these places.
-    pub(crate) fn of_places(by_line: BTreeMap<u64, Vec<u32>>, names: Names) -> Calls
-        ensures lines { result.lines ≡ kept by_line }
-        ensures names { result.names ≡ names }
-    {
-        Calls { by_line, names }
     }
 
     /// The places of the calls that led to the events on a line, from the one next to them outward. No place if none is known.

@@ -2,8 +2,6 @@
 ghost use Rattle.std.specs.Prelude.{◌≡◌, ◌≢◌, ◌≤◌, ℕ, IfOk, OnOk, option_map};
 ghost use Rattle.std.specs.Io.{ReadsAtMost};
 ghost use Rattle.std.specs.Io.KnownBytes.{Keeps, ReadConsumes};
-ghost use Rattle.std.specs.Str.{bytes_eq};
-ghost use Rattle.er_binary.specs.Meaning.{magic};
 
 use crate::calls::Calls;
 use crate::decoder::{Decoder, copy_front, fill};
@@ -102,7 +100,7 @@ impl<R: Read> Decoded<R> {
         };
         self.given = 0;
         fill(&mut self.inner, &mut self.first, &mut self.held)?;
-        if !is_magic(&self.first[..self.held]) {
+        if &self.first[..self.held] != MAGIC.as_slice() {
             self.form = Form::Text;
             return Ok(());
         }
@@ -138,10 +136,4 @@ impl<R: Read> Read for Decoded<R> {
             _ => self.read_text(buffer),
         }
     }
-}
-
-fn is_magic(bytes: &[u8]) -> bool
-    ensures { result ≡ bytes_eq bytes.now magic }
-{
-    bytes == MAGIC.as_slice()
 }

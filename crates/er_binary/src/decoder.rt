@@ -2,7 +2,6 @@
 ghost use Rattle.std.specs.Prelude.{◌≡◌, ◌≢◌, ◌<◌, ◌≤◌, ◌^◌, ◌+◌, ◌++◌, ℕ, List, OnOk, OnErr, IfOk, length, vec_len, min, take, option_map, false};
 ghost use Rattle.std.specs.Io.{ReadsAtMost};
 ghost use Rattle.er_binary.specs.Meaning.{checksum, is_bad_len, last_line, mixed, past, spot_at};
-ghost use Rattle.er_binary.specs.Numbers.{number};
 ghost use Rattle.std.specs.Io.KnownBytes.{IsAtEnd, Keeps, ReadConsumes, prepend_known};
 
 use crate::calls::Calls;
@@ -53,7 +52,7 @@ impl Spot {
 }
 
 /// What comes next: the first 16 bytes of a block, its records' bytes, a record of them, or nothing.
-#[derive(Clone, Copy)]
+#[derive(Clone, Copy, PartialEq, Eq)]
 pub(crate) enum Phase {
     Header,
     Content,
@@ -88,7 +87,7 @@ pub(crate) struct Decoder {
 impl Decoder {
     ghost use Rattle.std.specs.Prelude.{codes};
     ghost use Rattle.er_binary.specs.Calls.{calls_of};
-    ghost use Rattle.er_binary.specs.Inner.Decoders.{IsGiven, all_content, is_record, left, still, told_of};
+    ghost use Rattle.er_binary.specs.Inner.Decoders.{IsGiven, all_content, left, still, told_of};
     ghost use Rattle.er_binary.specs.Meaning.{text_behind};
     ghost use Rattle.er_binary.specs.declared.decoder.Phase.TheVariants as phase;
 
@@ -123,7 +122,8 @@ impl Decoder {
         ensures { IfOk result (λ c. (line : ℕ) → calls_of c line ≡ told_of self line) }
     {
         let by_line = self.notes.calls(alloc, &self.state.nodes)?;
-        Ok(Calls::of_places(by_line, self.state.places))
+        let names = self.state.places;
+        Ok(Calls { by_line, names })
     }
 
     /// Gives text, and reads on where it must. No byte means that the text ended, or that the buffer has no room.
@@ -157,19 +157,13 @@ impl Decoder {
         ensures err { OnErr result ((rest : List ℕ) → still self.old rest ≡ still self.new rest) }
     {
         let mut count = self.give(buffer);
-        while count < buffer.len() && self.has_record() {
+        while count < buffer.len() && self.phase == Phase::Record {
             if let Err(refused) = self.next_record() {
                 return if count > 0 { Ok(count) } else { Err(refused) };
             }
             count += self.give(&mut buffer[count..]);
         }
         Ok(count)
-    }
-
-    fn has_record(&self) -> bool
-        ensures { result ≡ is_record self.now.phase }
-    {
-        matches!(self.phase, Phase::Record)
     }
 
     // Gives the rest of the text that was made.
@@ -248,29 +242,17 @@ impl Decoder {
             return self.stop(b"damaged", start);
         }
         if held < 16 {
-            let end = start.wrapping_add(held);
-            return self.stop(b"cut off", end);
+            return self.stop(b"cut off", start.wrapping_add(held));
         }
         let len = number(&self.header[0..4]);
         if is_bad_len(len) {
             return self.stop(b"damaged", start);
         }
-        self.begin_content(len as usize)
-    }
-
-    // Makes room for the records of the block that the header is of.
-    fn begin_content(&mut self, len: usize) -> io::Result<()>
-        requires len { len ≤ 2 ^ 20 }
-        requires phase { self.old.phase ≡ phase.Header }
-        requires given { IsGiven self.old }
-        ensures ok { OnOk result ((rest : List ℕ) → still self.new rest
-            ≡ all_content (spot_at self.old.spot.block self.old.spot.start self.old.header) len self.old.state rest) }
-        ensures err { OnErr result ((rest : List ℕ) → still self.old rest ≡ still self.new rest) }
-    {
-        self.bytes.truncate(len);
+        // Makes room for the records of the block.
+        self.bytes.truncate(len as usize);
         self.held = 0;
         self.next = 0;
-        self.bytes.resize(len, 0)?;
+        self.bytes.resize(len as usize, 0)?;
         self.spot = self.spot.begun(&self.header);
         self.phase = Phase::Content;
         Ok(())
@@ -371,9 +353,8 @@ pub(crate) fn checksum(block: u64, count: u32, bytes: &[u8]) -> u64
     let sizes = bytes.len() as u64 + u64::from(count) * 0x1_0000_0000;
     let mut sum = mixed(mixed(0, block), sizes);
     let mut rest = bytes;
-    while rest.len() >= 8 {
-        let (word, more) = rest.split_at(8);
-        sum = mixed(sum, word_of(word));
+    while let Some((word, more)) = rest.split_first_chunk::<8>() {
+        sum = mixed(sum, u64::from_le_bytes(*word));
         rest = more;
     }
     if rest.is_empty() {
@@ -390,15 +371,4 @@ fn mixed(sum: u64, word: u64) -> u64
     sum.wrapping_add(word)
         .wrapping_mul(0x9E37_79B9_7F4A_7C15)
         .rotate_left(32)
-}
-
-// The number of 8 bytes, in one load.
-#[inline(always)]
-fn word_of(bytes: &[u8]) -> u64
-    requires { length bytes.now ≡ 8 }
-    ensures { result ≡ number bytes.now }
-{
-    u64::from_le_bytes([
-        bytes[0], bytes[1], bytes[2], bytes[3], bytes[4], bytes[5], bytes[6], bytes[7],
-    ])
 }

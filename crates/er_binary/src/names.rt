@@ -68,11 +68,8 @@ impl Names {
     {
         let start = self.bytes.len();
         self.bytes.extend_from_slice(name)?;
-        let span = Span {
-            start,
-            end: self.bytes.len(),
-        };
-        self.spans.push(span)?;
+        let end = self.bytes.len();
+        self.spans.push(Span { start, end })?;
         Ok(())
     }
 }

@@ -88,10 +88,7 @@ impl Nodes {
 fn put_way(places: &mut Vec<u32>, nodes: &Nodes, count: u32, node: u64) -> Put
     ensures { OnOk result (places.new.items ≡ places.old.items ++ way_out nodes.now count node) }
 {
-    if count == 0 {
-        return Ok(());
-    }
-    if node == 0 {
+    if count == 0 || node == 0 {
         return Ok(());
     }
     let at = nodes.get(node);

@@ -1,7 +1,7 @@
 //! What is known behind the records so far, and takes one more.
 ghost use Rattle.std.specs.Prelude.{◌≡◌, ◌≤◌, ◌<◌, ◌^◌, ◌+◌, [], IfOk, IfSome, OnOk, OnErr, length};
 ghost use Rattle.std.specs.List.{list_all};
-ghost use Rattle.er_binary.specs.Inner.Taking.{HasTaken, IsSized};
+ghost use Rattle.er_binary.specs.Inner.Taking.{HasTaken};
 ghost use Rattle.er_binary.specs.Meaning.{take_access, take_record, take_said};
 ghost use Rattle.er_binary.specs.Records.{body_len};
 ghost use Rattle.er_binary.specs.States.{address_of, after, after_access, at_block, first_state, is_access, is_note_byte, is_place, is_right, may_come, node_by, slot};
@@ -12,6 +12,9 @@ use crate::records::Kind::*;
 use crate::records::{ADDRESS_END, Access, Kind, Record, record_at};
 use er_lines::{is_lock_name, is_name, is_site_name};
 use std::alloc::{AllocError, Global};
+
+/// What taking a record gives: how many bytes it has, or None if it may not come.
+pub(crate) type Taking = Result<Option<usize>, AllocError>;
 
 // The most names of threads, of locks and of places, and the most nodes.
 const MOST: u64 = 1 << 30;
@@ -168,51 +171,23 @@ impl State {
         Ok(())
     }
 
-    /// Takes the record in front, whose text it puts behind what is there: how many bytes it has, or None if it may not come. An error, which
-    /// is want of memory, changes nothing but the text.
-    pub(crate) fn take(
-        &mut self,
-        out: &mut Vec<u8>,
-        bytes: &[u8],
-    ) -> Result<Option<usize>, AllocError>
+    /// Takes the record in front, whose text it puts behind what is there. An error, which is want of memory, changes nothing but the text.
+    pub(crate) fn take(&mut self, out: &mut Vec<u8>, bytes: &[u8]) -> Taking
         ensures taken { IfOk result (λ len. HasTaken (take_record self.old bytes.now) out.old.items out.new.items self.old self.new len) }
         ensures len { IfOk result (λ len. IfSome len (λ n. (1 ≤ n) × (n ≤ length bytes.now))) }
         ensures err { OnErr result (self.new ≡ self.old) }
     {
-        match record_at(bytes) {
-            None => Ok(None),
-            Some(head) => {
-                let (_, rest) = bytes.split_at(head.len);
-                self.take_said(out, head.says, head.len, rest)
-            }
+        let Some(head) = record_at(bytes) else {
+            return Ok(None);
+        };
+        let (_, rest) = bytes.split_at(head.len);
+        match head.says {
+            Record::Access(access) => self.take_access(out, access, head.len),
+            Record::Other(kind, number) => self.take_other(out, kind, number, head.len, rest),
         }
     }
 
-    fn take_said(
-        &mut self,
-        out: &mut Vec<u8>,
-        says: Record,
-        len: usize,
-        rest: &[u8],
-    ) -> Result<Option<usize>, AllocError>
-        requires some { IsSized says }
-        requires len { len + length rest.now < 2 ^ 64 }
-        ensures taken { IfOk result (λ n. HasTaken (take_said self.old len rest.now says) out.old.items out.new.items self.old self.new n) }
-        ensures len { IfOk result (λ n. IfSome n (λ k. (len ≤ k) × (k ≤ len + length rest.now))) }
-        ensures err { OnErr result (self.new ≡ self.old) }
-    {
-        match says {
-            Record::Access(access) => self.take_access(out, access, len),
-            Record::Other(kind, number) => self.take_other(out, kind, number, len, rest),
-        }
-    }
-
-    fn take_access(
-        &mut self,
-        out: &mut Vec<u8>,
-        access: Access,
-        len: usize,
-    ) -> Result<Option<usize>, AllocError>
+    fn take_access(&mut self, out: &mut Vec<u8>, access: Access, len: usize) -> Taking
         requires some { 1 ≤ access.size }
         requires size { access.size ≤ 16 }
         ensures taken { IfOk result (λ n. HasTaken (take_access self.old len access) out.old.items out.new.items self.old self.new n) }
@@ -234,7 +209,7 @@ impl State {
         number: u64,
         len: usize,
         rest: &[u8],
-    ) -> Result<Option<usize>, AllocError>
+    ) -> Taking
         requires { len + length rest.now < 2 ^ 64 }
         ensures taken { IfOk result (λ n. HasTaken (take_said self.old len rest.now (Record.Other kind number)) out.old.items out.new.items self.old self.new n) }
         ensures len { IfOk result (λ n. IfSome n (λ k. (len ≤ k) × (k ≤ len + length rest.now))) }

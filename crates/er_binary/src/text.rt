@@ -2,7 +2,7 @@
 ghost use Rattle.std.specs.Prelude.{◌≡◌, ◌≤◌, ◌<◌, ◌^◌, ◌-◌, ◌*◌, ◌++◌, OnOk, codes, decimal, length};
 ghost use Rattle.er_binary.specs.Records.{body_len};
 ghost use Rattle.er_binary.specs.Numbers.{address_word};
-ghost use Rattle.er_binary.specs.Texts.{access_lines, access_text, access_verb, feed, lost_line, lost_text, operand, site, text_of, thread_does, verb, word};
+ghost use Rattle.er_binary.specs.Texts.{access_lines, access_text, access_verb, feed, lost_text, operand, site, text_of, thread_does, verb, word};
 
 use crate::names::{Put, number, put_address};
 use crate::records::Kind::*;
@@ -48,19 +48,12 @@ impl State {
         ensures { OnOk result (out.new.items ≡ out.old.items ++ access_lines self.now verb.now node first (end - first)) }
     {
         for word in first..end {
-            self.put_line(out, verb, node, word)?;
+            self.put_thread(out, verb)?;
+            put_address(out, 4 * word)?;
+            self.put_site(out, node)?;
+            out.extend_from_slice(b"\n")?;
         }
         Ok(())
-    }
-
-    fn put_line(&self, out: &mut Vec<u8>, verb: &[u8], node: u64, word: u64) -> Put
-        requires { word < 2 ^ 48 }
-        ensures { OnOk result (out.new.items ≡ out.old.items ++ (thread_does self.now verb.now ++ address_word (4 * word) ++ site self.now node ++ feed)) }
-    {
-        self.put_thread(out, verb)?;
-        put_address(out, 4 * word)?;
-        self.put_site(out, node)?;
-        out.extend_from_slice(b"\n")
     }
 
     /// Puts the text of another record that comes next.
@@ -112,7 +105,11 @@ impl State {
         if self.lost == 0 {
             return Ok(());
         }
-        put_lost_line(out, events, self.lost)
+        out.extend_from_slice(b"# incomplete: ")?;
+        put_number(out, events)?;
+        out.extend_from_slice(b" events, ")?;
+        put_number(out, self.lost)?;
+        out.extend_from_slice(b" lost\n")
     }
 }
 
@@ -163,21 +160,6 @@ fn put_number_word(out: &mut Vec<u8>, n: u64) -> Put
 {
     out.push(b' ')?;
     put_number(out, n)
-}
-
-fn put_lost_line(out: &mut Vec<u8>, events: u64, lost: u64) -> Put
-    ensures { OnOk result (out.new.items ≡ out.old.items ++ lost_line events lost) }
-{
-    out.extend_from_slice(b"# incomplete: ")?;
-    put_before(out, events, b" events, ")?;
-    put_before(out, lost, b" lost\n")
-}
-
-fn put_before(out: &mut Vec<u8>, n: u64, after: &[u8]) -> Put
-    ensures { OnOk result (out.new.items ≡ out.old.items ++ (decimal n ++ after.now)) }
-{
-    put_number(out, n)?;
-    out.extend_from_slice(after)
 }
 
 fn put_note(out: &mut Vec<u8>, body: &[u8]) -> Put

@@ -49,7 +49,3 @@ left p d = 0
 -- the names of the places of the calls that are noted for a line
 abbrev pub told_of : Decoder → ℕ → List (List ℕ)
 told_of d line = map (λ n. name_at d.state.places n) (noted_calls d.state.nodes [] (vec_items d.notes.notes) line)
-
-abbrev pub is_record : Phase → Bool
-is_record phase.Record = true
-is_record p = false

@@ -3,8 +3,8 @@ use Rattle.std.proofs.Common.{◌≡◌, length}
 use Rattle.er_binary.specs.Meaning.{mixed_all}
 use Rattle.er_binary.proofs.decoder.checksum.Given as goal
 
-abbrev pub invariant-loop-rest : goal.invariant-loop-rest
-invariant-loop-rest l = record { same : mixed_all l.sum l.rest ≡ mixed_all l.initial.sum l.bytes }
+abbrev pub invariant-loop-word : goal.invariant-loop-word
+invariant-loop-word l = record { same : mixed_all l.sum l.rest ≡ mixed_all l.initial.sum l.bytes }
 
-abbrev pub decreases-loop-rest : goal.decreases-loop-rest
-decreases-loop-rest l = length l.rest
+abbrev pub decreases-loop-word : goal.decreases-loop-word
+decreases-loop-word l = length l.rest

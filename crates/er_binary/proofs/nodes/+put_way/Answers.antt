@@ -1,16 +1,20 @@
-use Rattle.std.proofs.Common.{ℕ, ◌-◌, List, ◌∷◌, [], ◌++◌, sym, ap, ◌∙◌, append_assoc}
+use Rattle.std.proofs.Common.{◌≡◌, ℕ, ◌-◌, List, ◌∷◌, [], ◌++◌, sym, ap, ◌∙◌, append_assoc}
 use Rattle.std.proofs.lemmas.List.{append-nil}
 use Rattle.std.proofs.lemmas.Result.{on_ok_weaker}
 use Rattle.er_binary.specs.Nodes.{way_out}
 use Rattle.er_binary.specs.declared.nodes.Node.{Node}
 use Rattle.er_binary.proofs.NodeLemmas.{way_end, way_more, way_none}
+use Rattle.er_binary.proofs.nodes.+put_way.Goals.{then-count-eq0-via-then-count-eq0, then-count-eq0-via-else-count-eq0+then-node-eq0}
 use Rattle.er_binary.proofs.nodes.+put_way.Goals as goal
 
 pub returns-then-count-eq0 : goal.returns-then-count-eq0
-returns-then-count-eq0 t c = sym (ap (λ (w : List ℕ). c.args.places.now.items ++ w) (way_none c.args.nodes.now c.args.count c.args.node c.if-count-eq0.true) ∙ append-nil _)
-
-pub returns-then-node-eq0 : goal.returns-then-node-eq0
-returns-then-node-eq0 t c = sym (ap (λ (w : List ℕ). c.args.places.now.items ++ w) (way_end c.args.nodes.now c.args.count c.args.node c.if-node-eq0.true) ∙ append-nil _)
+returns-then-count-eq0 t c =
+    let nodes = c.args.nodes.now in
+    let none : way_out nodes c.args.count c.args.node ≡ [] = elim c.then-count-eq0.branch [
+      | then-count-eq0-via-then-count-eq0 w ↦ way_none nodes c.args.count c.args.node w.if-count-eq0.true
+      | then-count-eq0-via-else-count-eq0+then-node-eq0 w ↦ way_end nodes c.args.count c.args.node w.if-node-eq0.true
+    ] in
+    sym (ap (λ (w : List ℕ). c.args.places.now.items ++ w) none ∙ append-nil _)
 
 pub returns : goal.returns
 returns t c =

@@ -1,16 +1,23 @@
 -- The bytes of the header that are there, and those that are still to be read, stay the same.
-use Rattle.std.proofs.Common.{◌≡◌, ◌<◌, ◌≤◌, ◌++◌, List, ℕ, length, take, sym, ap, ◌∙◌, arith, length-append}
+use Rattle.std.proofs.Common.{◌≡◌, ◌<◌, ◌≤◌, ◌++◌, List, ℕ, length, take, refl, sym, ap, ◌∙◌, arith, length-append}
 use Rattle.std.proofs.lemmas.List.{length-take-le, take_all}
 use Rattle.er_binary.specs.Inner.Decoders.{all_blocks, still}
 use Rattle.er_binary.specs.Meaning.{cut_off, is_bad_len}
 use Rattle.er_binary.specs.Numbers.{number_in, plus}
-use Rattle.er_binary.proofs.DecoderLaws.{at_end, given_is, header_from, header_is, good_parts, keeps_by, number_front}
+use Rattle.er_binary.proofs.DecoderLaws.{at_end, content_is, given_is, header_from, header_is, good_parts, keeps_by, number_front}
 use Rattle.er_binary.proofs.MeaningLaws.{blocks_bad, blocks_cut, blocks_end, blocks_good, blocks_more}
 use Rattle.er_binary.proofs.TextLemmas.{either_way}
 use Rattle.er_binary.proofs.decoder.Decoder.read_header.Goals as goal
 
 pub returns-in_err-fill : goal.returns-in_err-fill
 returns-in_err-fill g c =
+    let d = c.args.self.now in
+    keeps_by (still d) _ (take d.header_held d.header) (take c.fill.new.held c.fill.new.bytes) _ _ c.fill.ensures.same
+    (λ before after is same. header_is _ after c.requires.given c.requires.phase ∙ ap (λ (t : List ℕ). all_blocks d.spot.block d.spot.start d.state t) same
+    ∙ sym (header_is d before c.requires.given c.requires.phase))
+
+pub returns-in_err-resize : goal.returns-in_err-resize
+returns-in_err-resize g c =
     let d = c.args.self.now in
     keeps_by (still d) _ (take d.header_held d.header) (take c.fill.new.held c.fill.new.bytes) _ _ c.fill.ensures.same
     (λ before after is same. header_is _ after c.requires.given c.requires.phase ∙ ap (λ (t : List ℕ). all_blocks d.spot.block d.spot.start d.state t) same
@@ -91,7 +98,4 @@ returns g c =
     let is_whole = ap (λ (t : List ℕ). t ++ after) (sym all) ∙ same in
     let was = header_from d before (h ++ after) c.requires.given c.requires.phase is_whole ∙ blocks_good d.spot.block d.spot.start d.state (h ++ after) c.if-self.false whole good
     ∙ good_parts d.spot.block d.spot.start d.state h after _ sixteen same_len in
-    either_way c.begin_content.result c.begin_content.ensures.ok c.begin_content.ensures.err
-    (λ ok. ok after ∙ sym was)
-    (λ err. sym (err after) ∙ header_is _ after c.requires.given c.requires.phase ∙ ap (λ (t : List ℕ). all_blocks d.spot.block d.spot.start d.state t) same
-    ∙ sym (header_is d before c.requires.given c.requires.phase)))
+    content_is _ after c.requires.given refl ∙ rw (c.begun-self.ensures, c.in_ok-resize.ensures.len) refl ∙ sym was)

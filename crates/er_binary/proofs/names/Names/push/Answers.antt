@@ -18,9 +18,9 @@ pub invariant_of-self-2 : goal.invariant_of-self-2
 invariant_of-self-2 c =
     let bytes = c.self.inside.bytes.items in
     let name = c.args.name.now in
-    let span : Span = record { start = c.len-start.result; end = c.len.result } in
+    let span : Span = record { start = c.len-start.result; end = c.len-end.result } in
     let start : c.len-start.result ≡ length bytes = search rules in
-    let end : c.len.result ≡ length bytes + length name = search rules in
+    let end : c.len-end.result ≡ length bytes + length name = search rules in
     rw (c.in_ok-extend_from_slice.ensures.items, c.in_ok-push.ensures.items)
     (within_more (bytes ++ name) c.self.inside.spans.items span (still_within bytes name c.self.inside.spans.items c.self.invariant) (omega arith) (omega (arith, length-append bytes name)))
 
@@ -28,8 +28,8 @@ pub returns-clause-ok : goal.returns-clause-ok
 returns-clause-ok c =
     let bytes = c.self.inside.bytes.items in
     let name = c.args.name.now in
-    let span : Span = record { start = c.len-start.result; end = c.len.result } in
+    let span : Span = record { start = c.len-start.result; end = c.len-end.result } in
     let start : c.len-start.result ≡ length bytes = search rules in
-    let end : c.len.result ≡ length bytes + length name = search rules in
+    let end : c.len-end.result ≡ length bytes + length name = search rules in
     rw (c.in_ok-extend_from_slice.ensures.items, c.in_ok-push.ensures.items)
     (pushed bytes name c.self.inside.spans.items span c.self.invariant start end ∙ ap (λ (names : List (List ℕ)). names ++ name ∷ []) c.self.view_is)
