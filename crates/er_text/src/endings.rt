@@ -55,10 +55,7 @@ pub(crate) fn lacks_end(stage: Stage) -> bool
 pub(crate) fn is_of_third(stage: Stage) -> bool
     ensures { result ≡ is_of_third stage }
 {
-    match stage {
-        Stage::Front | Stage::Events(_) => lacks_end(stage),
-        Stage::Ended => true,
-    }
+    stage == Stage::Ended || lacks_end(stage)
 }
 
 /// How many events are lost by what follows the words `# incomplete:`.
@@ -95,14 +92,11 @@ fn lost_in(comment: &[u8]) -> u64
 pub(crate) fn comment_past(last: Option<Lost>, line: u64, bytes: &[u8]) -> Option<Lost>
     ensures { result ≡ comment_past last line bytes.now }
 {
-    if is_comment(bytes) {
-        Some(Lost {
-            line,
-            events: lost_in(bytes),
-        })
-    } else {
-        last
+    if !is_comment(bytes) {
+        return last;
     }
+    let events = lost_in(bytes);
+    Some(Lost { line, events })
 }
 
 /// The same comment, if some events are lost by it.

@@ -4,13 +4,13 @@ ghost use Rattle.er_lines.specs.Lines.{words};
 ghost use Rattle.er_text.specs.Verbs.{verb_of, version_of};
 ghost use Rattle.er_text.specs.Trace.{is_end};
 ghost use Rattle.er_text.specs.Inner.Idle.{other_thread};
-ghost use Rattle.er_lines.specs.Words.{AreWords, GivesSite, seen_name, number_in};
+ghost use Rattle.er_lines.specs.Words.{AreWords, GivesSite, seen_name};
 ghost use Rattle.er_text.specs.Inner.Parsing.{GivesName, GivesOperation, GivesEventLine, event_line, count_of, name_in, lock_in, site_in, word_in, level_in, run_in, access_in, reuse_in, operands_in, operation_in, parsed_by};
 
-use crate::naming::site_name_of;
+use crate::naming::is_site_word;
 use crate::verbs::{Verb, Version, header_version, verb_of};
 use er_event::{Kind, Level, Mode, Refusal, Word, WordRange};
-use er_lines::{TextKind, Words, lock_name_of, name_of, number};
+use er_lines::{TextKind, Words, lock_name_of, name_of, number, site_text};
 
 /// What a thread does, by names.
 #[derive(Clone, Copy)]
@@ -76,9 +76,7 @@ pub(crate) fn is_end(version: Version, words: &Words<'_>) -> bool
 pub(crate) fn parse<'a>(version: Version, words: &Words<'a>) -> Result<ParsedLine<'a>, TextKind>
     ensures { GivesEventLine result (parsed_by version words.now) }
 {
-    let Some(thread) = name_of(words.first) else {
-        return Err(TextKind::BadName);
-    };
+    let thread = thread(words.first)?;
     if words.second.is_empty() {
         return Err(TextKind::MissingOperand);
     }
@@ -108,9 +106,7 @@ fn operand_count(words: &Words<'_>) -> u32
 fn parse_action<'a>(version: Version, words: &Words<'a>) -> Said<'a>
     ensures { GivesOperation result (operation_in version (verb_of version words.now.second.now) words.now.third.now words.now.fourth.now words.now.fifth.now words.now.sixth.now) }
 {
-    let Some(verb) = verb_of(version, words.second) else {
-        return Err(TextKind::BadVerb);
-    };
+    let verb = verb_of(version, words.second).ok_or(TextKind::BadVerb)?;
     let count = operand_count(words);
     if count < verb.least() {
         return Err(TextKind::MissingOperand);
@@ -185,10 +181,10 @@ fn site_of(version: Version, word: &[u8]) -> Result<Option<&str>, TextKind>
     if word.is_empty() || word == b"-".as_slice() {
         return Ok(None);
     }
-    match site_name_of(version, word) {
-        Some(name) => Ok(Some(name)),
-        None => Err(TextKind::BadName),
+    if !is_site_word(version, word) {
+        return Err(TextKind::BadName);
     }
+    Ok(Some(site_text(word)))
 }
 
 fn word_at(address: u64) -> Result<Word, TextKind>

@@ -96,7 +96,7 @@ impl Piece {
     pub fn read(&mut self, version: Version, bytes: &[u8])
         ensures { IsPieceOf version bytes.now self.new }
     {
-        let mut header = Header::behind(self.alloc, version);
+        let mut header = Header::new(self.alloc, Stage::Events(version));
         self.trace.restart(self.alloc, self.keys);
         self.len = bytes.len();
         match read_lines(&mut header, version, &mut self.trace, bytes) {
@@ -191,10 +191,9 @@ fn read_front(
     if len > LINE || len >= bytes.len() {
         return None;
     }
-    match header.read_plain(trace, line, &bytes[..len]) {
-        Ok(()) => {}
-        Err(_) => return None,
-    }
+    let Ok(()) = header.read_plain(trace, line, &bytes[..len]) else {
+        return None;
+    };
     if !header.is_open(version) {
         return None;
     }

@@ -15,9 +15,8 @@ ghost use Rattle.er_text.specs.Inner.Endings.{PassesTail, BatchesTail};
 ghost use Rattle.er_lines.specs.Lending.{taken_by, lines_from, lines_left};
 ghost use Rattle.er_lines.specs.Reading.{Continues, Reads, Turns};
 ghost use Rattle.er_text.specs.Inner.FastPath.{ReadsUsual};
-ghost use Rattle.er_text.specs.Verbs.{version_of};
 ghost use Rattle.er_text.specs.Inner.Parsing.{event_line};
-ghost use Rattle.er_text.specs.Inner.Traces.{progress, at_front, at_line, open_with, add_parsed, read_at, plain_at, read_content, read_text, IsOutcome, Batches};
+ghost use Rattle.er_text.specs.Inner.Traces.{progress, at_front, at_line, add_parsed, plain_at, read_content, read_text, IsOutcome, Batches};
 
 use crate::Done;
 use crate::adding::add_steps;
@@ -27,9 +26,7 @@ use crate::parsing::{ParsedLine, is_end, parse, version_of};
 use crate::stages::{IdleThreads, Stage, is_known_thread};
 use crate::verbs::Version;
 use er_device::Device;
-use er_lines::{
-    LineReader, ReadFault, TextKind, Words, fault_at, is_ascii, says_something, split_words,
-};
+use er_lines::{LineReader, ReadFault, TextKind, fault_at, is_ascii, says_something, split_words};
 use er_trace::{NameKeys, Trace};
 use std::alloc::{AllocError, Global};
 use std::io::Read;
@@ -47,14 +44,14 @@ pub(crate) struct Header {
 }
 
 impl Header {
-    /// Behind the header of a text of this version, before any event line.
-    pub(crate) fn behind(alloc: Global, version: Version) -> Header
-        ensures stage { result.stage ≡ Stage.Events version }
+    /// At this stage, before any line.
+    pub(crate) fn new(alloc: Global, stage: Stage) -> Header
+        ensures stage { result.stage ≡ stage }
         ensures idle { result.idle ≡ [] }
         ensures comment { result.comment ≡ None }
     {
         Header {
-            stage: Stage::Events(version),
+            stage,
             idle: IdleThreads::new(alloc),
             comment: None,
         }
@@ -66,20 +63,6 @@ impl Header {
         ensures idle { IsTrue result → self.now.idle ≡ [] }
     {
         self.stage == Stage::Events(version) && self.idle.is_empty()
-    }
-
-    /// Reads the words of the first line with content.
-    fn open(&mut self, line: u64, words: &Words<'_>) -> Done
-        ensures read { (told : Recording) → Reads line (at_line (line + 1) self.new.stage self.new.idle told) result
-            (open_with (at_line line self.old.stage self.old.idle told) (version_of words.now.first.now words.now.second.now words.now.third.now words.now.fourth.now)) }
-        ensures comment { self.new.comment ≡ self.old.comment }
-        ensures failed { IsErrOf result ReadFault.Read → ⊥ }
-    {
-        let Some(version) = version_of(words) else {
-            return Err(fault_at(line, TextKind::NoHeader));
-        };
-        self.stage = Stage::Events(version);
-        Ok(())
     }
 
     /// Adds the steps of an event line, unless it can't come behind the lines before it.
@@ -114,17 +97,21 @@ impl Header {
             return Ok(());
         }
         match self.stage {
-            Stage::Front => self.open(line, &words),
-            Stage::Events(version) => {
-                if is_end(version, &words) {
-                    self.stage = Stage::Ended;
-                    return Ok(());
-                }
-                match parse(version, &words) {
-                    Err(kind) => Err(fault_at(line, kind)),
-                    Ok(parsed) => self.add(trace, line, &parsed),
-                }
+            Stage::Front => {
+                let Some(version) = version_of(&words) else {
+                    return Err(fault_at(line, TextKind::NoHeader));
+                };
+                self.stage = Stage::Events(version);
+                Ok(())
             }
+            Stage::Events(version) if is_end(version, &words) => {
+                self.stage = Stage::Ended;
+                Ok(())
+            }
+            Stage::Events(version) => match parse(version, &words) {
+                Err(kind) => Err(fault_at(line, kind)),
+                Ok(parsed) => self.add(trace, line, &parsed),
+            },
             Stage::Ended => Err(fault_at(line, TextKind::AfterEnd)),
         }
     }
@@ -216,15 +203,9 @@ impl TraceReader {
         ensures tail { IfOk result (λ r. r.tail ≡ no_tail) }
         ensures starts { IfOk result (λ r. (text : List ℕ) → HasRead text [] [] [] r (Some text) no_steps) }
     {
-        let lines = LineReader::new(alloc, limit, size)?;
-        let header = Header {
-            stage: Stage::Front,
-            idle: IdleThreads::new(alloc),
-            comment: None,
-        };
         Ok(TraceReader {
-            lines,
-            header,
+            lines: LineReader::new(alloc, limit, size)?,
+            header: Header::new(alloc, Stage::Front),
             cut: false,
         })
     }

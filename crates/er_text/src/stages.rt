@@ -113,15 +113,12 @@ impl IdleThreads {
         requires { IsTrue (is_known_name names.now.threads (seen_name name)) }
         ensures { OnOk result (self.new ≡ waits_for is_known names.now.threads (seen_name name.entry) self.old) }
     {
-        let Some(name) = name else {
-            return Ok(());
-        };
-        if is_known {
-            return Ok(());
-        }
-        match names.known_thread(name) {
-            Some(thread) => self.add(thread),
-            None => Ok(()),
+        match name {
+            Some(name) if !is_known => match names.known_thread(name) {
+                Some(thread) => self.add(thread),
+                None => Ok(()),
+            },
+            _ => Ok(()),
         }
     }
 
@@ -140,16 +137,10 @@ impl IdleThreads {
         ensures { result ≡ order_fault names.now.threads self.now (event_line parsed.now) }
     {
         match parsed.action {
-            Action::Start(other) => {
-                if other == parsed.thread {
-                    Some(TextKind::OwnThread)
-                } else if self.has_run(names, other) {
-                    Some(TextKind::AlreadyRunning)
-                } else {
-                    None
-                }
+            Action::Start(other) | Action::Join(other) if other == parsed.thread => {
+                Some(TextKind::OwnThread)
             }
-            Action::Join(other) => (other == parsed.thread).then_some(TextKind::OwnThread),
+            Action::Start(other) if self.has_run(names, other) => Some(TextKind::AlreadyRunning),
             _ => None,
         }
     }

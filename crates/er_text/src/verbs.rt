@@ -1,6 +1,6 @@
 //! The words that headers and events are spelled with.
 ghost use Rattle.std.specs.Prelude.{◌≡◌};
-ghost use Rattle.er_text.specs.Verbs.{has_levels, is_third, header_version, verb_of, rarer_verb_of, order_verb_of, least_of, most_of};
+ghost use Rattle.er_text.specs.Verbs.{has_levels, is_third, header_version, verb_of, least_of, most_of};
 
 /// The version of a text, which its header tells.
 #[derive(Clone, Copy, Debug, PartialEq, Eq)]
@@ -38,20 +38,14 @@ impl Version {
     pub(crate) fn has_levels(self) -> bool
         ensures { result ≡ has_levels self }
     {
-        match self {
-            Version::One => false,
-            Version::Two | Version::Three => true,
-        }
+        self != Version::One
     }
 
     /// Whether it is the third.
     pub(crate) fn is_third(self) -> bool
         ensures { result ≡ is_third self }
     {
-        match self {
-            Version::Three => true,
-            Version::One | Version::Two => false,
-        }
+        self == Version::Three
     }
 }
 
@@ -59,14 +53,11 @@ impl Version {
 pub(crate) fn header_version(word: &[u8]) -> Option<Version>
     ensures { result ≡ header_version word.now }
 {
-    if word == b"1".as_slice() {
-        Some(Version::One)
-    } else if word == b"2".as_slice() {
-        Some(Version::Two)
-    } else if word == b"3".as_slice() {
-        Some(Version::Three)
-    } else {
-        None
+    match word {
+        b"1" => Some(Version::One),
+        b"2" => Some(Version::Two),
+        b"3" => Some(Version::Three),
+        _ => None,
     }
 }
 
@@ -74,57 +65,23 @@ pub(crate) fn header_version(word: &[u8]) -> Option<Version>
 pub(crate) fn verb_of(version: Version, word: &[u8]) -> Option<Verb>
     ensures { result ≡ verb_of version word.now }
 {
-    if word == b"read".as_slice() {
-        Some(Verb::Read)
-    } else if word == b"write".as_slice() {
-        Some(Verb::Write)
-    } else if word == b"lock".as_slice() {
-        Some(Verb::Lock)
-    } else if word == b"unlock".as_slice() {
-        Some(Verb::Unlock)
-    } else if word == b"rlock".as_slice() {
-        Some(Verb::ReadLock)
-    } else if word == b"runlock".as_slice() {
-        Some(Verb::ReadUnlock)
-    } else {
-        rarer_verb_of(version, word)
-    }
-}
-
-fn rarer_verb_of(version: Version, word: &[u8]) -> Option<Verb>
-    ensures { result ≡ rarer_verb_of version word.now }
-{
-    if word == b"reuse".as_slice() {
-        Some(Verb::Reuse)
-    } else if word == b"ignore-on".as_slice() {
-        Some(Verb::IgnoreOn)
-    } else if word == b"ignore-off".as_slice() {
-        Some(Verb::IgnoreOff)
-    } else if word == b"show".as_slice() {
-        Some(Verb::Show)
-    } else if word == b"level".as_slice() {
-        version.has_levels().then_some(Verb::Level)
-    } else {
-        order_verb_of(version, word)
-    }
-}
-
-/// The verb of text 3 that a word is.
-fn order_verb_of(version: Version, word: &[u8]) -> Option<Verb>
-    ensures { result ≡ order_verb_of version word.now }
-{
-    if !version.is_third() {
-        None
-    } else if word == b"start".as_slice() {
-        Some(Verb::Start)
-    } else if word == b"join".as_slice() {
-        Some(Verb::Join)
-    } else if word == b"signal".as_slice() {
-        Some(Verb::Signal)
-    } else if word == b"await".as_slice() {
-        Some(Verb::Await)
-    } else {
-        None
+    match word {
+        b"read" => Some(Verb::Read),
+        b"write" => Some(Verb::Write),
+        b"lock" => Some(Verb::Lock),
+        b"unlock" => Some(Verb::Unlock),
+        b"rlock" => Some(Verb::ReadLock),
+        b"runlock" => Some(Verb::ReadUnlock),
+        b"reuse" => Some(Verb::Reuse),
+        b"ignore-on" => Some(Verb::IgnoreOn),
+        b"ignore-off" => Some(Verb::IgnoreOff),
+        b"show" => Some(Verb::Show),
+        b"level" if version.has_levels() => Some(Verb::Level),
+        b"start" if version.is_third() => Some(Verb::Start),
+        b"join" if version.is_third() => Some(Verb::Join),
+        b"signal" if version.is_third() => Some(Verb::Signal),
+        b"await" if version.is_third() => Some(Verb::Await),
+        _ => None,
     }
 }
 

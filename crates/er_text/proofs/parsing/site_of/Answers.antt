@@ -2,7 +2,7 @@
 use Rattle.std.proofs.Common.{◌≡◌, true, rules}
 use Rattle.er_text.specs.Naming.{is_site_word}
 use Rattle.er_text.proofs.SiteLemmas.{site_parts}
-use Rattle.er_text.proofs.naming.site_name_of.Goals as goal
+use Rattle.er_text.proofs.parsing.site_of.Goals as goal
 
 pub site_text-requires : goal.site_text-requires
 site_text-requires c =
