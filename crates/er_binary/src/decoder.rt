@@ -1,5 +1,5 @@
 //! Decodes the blocks of a binary trace, one after another.
-ghost use Rattle.std.specs.Prelude.{◌≡◌, ◌≢◌, ◌<◌, ◌≤◌, ◌^◌, ◌+◌, ◌++◌, ℕ, List, OnOk, OnErr, IfOk, length, vec_len, min, take, option_map, false};
+ghost use Rattle.std.specs.Prelude.{◌≡◌, ◌<◌, ◌≤◌, ◌^◌, ◌+◌, ◌++◌, ℕ, List, OnOk, OnErr, IfOk, length, vec_len, min, take, option_map, false};
 ghost use Rattle.std.specs.Io.{ReadsAtMost};
 ghost use Rattle.er_binary.specs.Meaning.{checksum, is_bad_len, last_line, mixed, past, spot_at};
 ghost use Rattle.std.specs.Io.KnownBytes.{IsAtEnd, Keeps, ReadConsumes, prepend_known};
@@ -85,9 +85,8 @@ pub(crate) struct Decoder {
 }
 
 impl Decoder {
-    ghost use Rattle.std.specs.Prelude.{codes};
     ghost use Rattle.er_binary.specs.Calls.{calls_of};
-    ghost use Rattle.er_binary.specs.Inner.Decoders.{IsGiven, all_content, left, still, told_of};
+    ghost use Rattle.er_binary.specs.Inner.Decoders.{IsGiven, left, still, told_of};
     ghost use Rattle.er_binary.specs.Meaning.{text_behind};
     ghost use Rattle.er_binary.specs.declared.decoder.Phase.TheVariants as phase;
 

@@ -1,5 +1,5 @@
 //! Pieces added to a trace, in their order.
-ghost use Rattle.std.specs.Prelude.{◌≡◌, ◌+◌, ◌≤◌, ◌<◌, ◌^◌, ℕ, All, List, Option, IfOk, OnOk, length, take, true};
+ghost use Rattle.std.specs.Prelude.{◌≡◌, ◌+◌, ◌≤◌, ◌<◌, ℕ, All, List, Option, IfOk, OnOk, length, take, true};
 ghost use Rattle.er_event.specs.declared.steps.Step.{Step};
 ghost use Rattle.er_reading.specs.Inner.Adding.{AreEntered, AreReady, FitBehind, IsWhole, MayAllBeAdded, StandInFront, first_len, names_behind};
 ghost use Rattle.er_text.specs.Batches.{HasRead};
@@ -9,11 +9,14 @@ ghost use Rattle.er_text.specs.Named.{Grows};
 ghost use Rattle.er_text.specs.Pieces.{ReadPiece};
 ghost use Rattle.er_trace.specs.Names.{NameTable};
 
-use crate::cutting::number_pieces;
+use crate::cutting::{number_pieces, read_pieces};
 use er_text::{Piece, TraceReader};
 use er_trace::Trace;
 use std::alloc::AllocError;
 use std::thread::Threads;
+
+/// The least bytes of a piece: fewer aren't worth a thread.
+const PIECE_BYTES: usize = 65_536;
 
 /// What was put into a trace, unless memory was refused.
 type Put = Result<(), AllocError>;
@@ -68,15 +71,16 @@ fn add_numbered(lines: &mut TraceReader, trace: &mut Trace, pieces: &mut [Piece]
     add_numbered(lines, trace, others)
 }
 
-/// Adds the pieces of the lines in front of a reader, and passes over these lines. Their names are added one piece after another, and then each
-/// thread gives the steps of some of them their numbers. It stops at the first piece of which not all was read, and says whether there was none.
-pub(crate) fn add_pieces<R: Threads + Sync>(
+/// Reads the whole lines that were read ahead into these pieces, by several threads, and adds what they say. Their names are added one piece after
+/// another, and then each thread gives the steps of some of them their numbers. Says whether it came to the end of the lines: it doesn't if they are
+/// too few to be worth it, or some of them can't be read apart. Then the first piece of which not all was read is still in front.
+pub(crate) fn add_ahead<R: Threads + Sync>(
     rt: &R,
     lines: &mut TraceReader,
     trace: &mut Trace,
     pieces: &mut [Piece],
 ) -> Result<bool, AllocError>
-    requires front { StandInFront lines.old pieces.old }
+    requires some { (1 ≤ length pieces.old) × (length pieces.old ≤ 16) }
     requires within { lines.old.place.start ≤ lines.old.place.limit }
     requires most { taken_by lines.old.place ≤ lines.old.place.limit + bytes_past_limit }
     ensures told { (text : List ℕ) (steps : List Step) (numbers sites : List ℕ) (known : Option (List ℕ))
@@ -85,11 +89,19 @@ pub(crate) fn add_pieces<R: Threads + Sync>(
     ensures grows { OnOk result (Grows trace.old trace.new) }
     ensures limit { lines.new.place.limit ≡ lines.old.place.limit }
     ensures start { OnOk result (lines.old.place.start ≤ lines.new.place.start) }
-    ensures first { IfOk result (λ all. all ≡ true → lines.old.place.start + first_len pieces.old ≤ lines.new.place.start) }
+    ensures more { IfOk result (λ all. all ≡ true → lines.old.place.start < lines.new.place.start) }
     ensures within { lines.new.place.start ≤ lines.new.place.limit }
     ensures taken { taken_by lines.new.place ≡ taken_by lines.old.place }
     ensures most { taken_by lines.new.place ≤ lines.new.place.limit + bytes_past_limit }
 {
+    let Some(version) = lines.version() else {
+        return Ok(false);
+    };
+    let bytes = lines.ahead();
+    if bytes.len() / PIECE_BYTES < pieces.len() {
+        return Ok(false);
+    }
+    read_pieces(rt, version, bytes, pieces);
     let count = whole_count(pieces);
     let all = count == pieces.len();
     let before = lines.lines_before();

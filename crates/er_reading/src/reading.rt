@@ -1,5 +1,5 @@
 //! A reader of a trace by several threads, batch by batch.
-ghost use Rattle.std.specs.Prelude.{◌≡◌, ◌+◌, ◌<◌, ◌≤◌, ◌^◌, ℕ, List, [], Option, Some, OnOk, IfOk, length, false, true};
+ghost use Rattle.std.specs.Prelude.{◌≡◌, ◌+◌, ◌<◌, ◌≤◌, ◌^◌, ℕ, List, [], Some, OnOk, IfOk, length, false};
 ghost use Rattle.er_device.specs.Device.{inner_of, has_failed, taken_of};
 ghost use Rattle.er_event.specs.declared.steps.Step.{Step};
 ghost use Rattle.er_text.specs.Batches.{HasRead, GivesBatch};
@@ -11,8 +11,7 @@ ghost use Rattle.er_text.specs.Places.{no_tail};
 ghost use Rattle.er_lines.specs.Faults.{HasFailedBy};
 ghost use Rattle.er_trace.specs.Trace.{no_steps};
 
-use crate::adding::add_pieces;
-use crate::cutting::read_pieces;
+use crate::adding::add_ahead;
 use er_device::Device;
 use er_text::{Batch, Ending, Piece, ReadFault, TraceReader};
 use er_trace::{NameKeys, Trace};
@@ -26,9 +25,6 @@ const WINDOW_BYTES: usize = 4_194_304;
 
 /// How many bytes are read ahead if one thread reads them line by line.
 const LINE_WINDOW_BYTES: usize = 65_536;
-
-/// The least bytes of a piece: fewer aren't worth a thread.
-const PIECE_BYTES: usize = 65_536;
 
 /// How many lines the first batch has, before those that are cut into pieces. The header is mostly among them.
 const FIRST_LINES: u32 = 64;
@@ -97,37 +93,6 @@ impl PieceReader {
         })
     }
 
-    /// Reads the whole lines that were read ahead by several threads, and adds what they say. Says whether it came to their end: it doesn't
-    /// if they are too few to be worth it, or some of them can't be read apart.
-    fn add_ahead<R: Threads + Sync>(
-        &mut self,
-        rt: &R,
-        trace: &mut Trace,
-    ) -> Result<bool, AllocError>
-        requires within { self.old.place.start ≤ self.old.place.limit }
-        requires most { taken_by self.old.place ≤ self.old.place.limit + bytes_past_limit }
-        ensures told { (text : List ℕ) (steps : List Step) (lines sites : List ℕ) (known : Option (List ℕ))
-            → HasRead text steps lines sites self.old known trace.old
-            → OnOk result (HasRead text steps lines sites self.new known trace.new) }
-        ensures grows { OnOk result (Grows trace.old trace.new) }
-        ensures limit { self.new.place.limit ≡ self.old.place.limit }
-        ensures start { OnOk result (self.old.place.start ≤ self.new.place.start) }
-        ensures more { IfOk result (λ all. all ≡ true → self.old.place.start < self.new.place.start) }
-        ensures within { self.new.place.start ≤ self.new.place.limit }
-        ensures taken { taken_by self.new.place ≡ taken_by self.old.place }
-        ensures most { taken_by self.new.place ≤ self.new.place.limit + bytes_past_limit }
-    {
-        let Some(version) = self.lines.version() else {
-            return Ok(false);
-        };
-        let bytes = self.lines.ahead();
-        if bytes.len() / PIECE_BYTES < self.pieces.len() {
-            return Ok(false);
-        }
-        read_pieces(rt, version, bytes, self.pieces.as_mut_slice());
-        add_pieces(rt, &mut self.lines, trace, self.pieces.as_mut_slice())
-    }
-
     /// Reads some of the next lines, or those up to the end of the text, and adds their steps to the trace.
     ///
     /// A text that ends without a header has a fault at its end. After a fault the reader is not to be called again: nothing is known
@@ -172,7 +137,7 @@ impl PieceReader {
             return self.lines.next_batch(reader, trace, most_lines);
         }
         self.lines.fill(reader)?;
-        if self.add_ahead(rt, trace)? {
+        if add_ahead(rt, &mut self.lines, trace, self.pieces.as_mut_slice())? {
             return Ok(Batch::More);
         }
         let most_lines = if self.lines.lines_before() == 1 {

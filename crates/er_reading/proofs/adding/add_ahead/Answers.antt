@@ -1,0 +1,102 @@
+-- The pieces in front, of which those up to the first broken one are added: their names, their numbers, their steps.
+use Rattle.std.proofs.Common.{◌≤◌, length, arith}
+use Rattle.std.proofs.lemmas.Bool.{eqb-true}
+use Rattle.er_text.proofs.GrowthLemmas.{grows_not, grows_on}
+use Rattle.er_text.specs.Batches.{HasRead}
+use Rattle.er_reading.proofs.AddedLemmas.{all_can, may_add, names_grow, same_first, some_fit, told_some}
+use Rattle.er_reading.specs.Inner.Adding.{StandInFront}
+use Rattle.er_reading.proofs.adding.add_ahead.Goals as goal
+
+pub enter_pieces-requires : goal.enter_pieces-requires
+enter_pieces-requires g c =
+    let lines = c.args.lines.now in
+    let pieces = c.read_pieces.new.pieces in
+    let front : StandInFront lines pieces = record {
+      version = c.in-Some.version;
+      stage = c.in-Some.ensures.0;
+      idle = c.in-Some.ensures.1;
+      front = c.ahead-bytes.result.now;
+      more = c.ahead-bytes.ensures.front.0;
+      ahead = c.ahead-bytes.ensures.front.1;
+      within = c.ahead-bytes.ensures.within;
+      read = c.read_pieces.ensures.pieces;
+    } in
+    some_fit lines pieces c.split_at_mut-whole.result.0.now c.whole_count-count.result c.lines_before-before.result front
+    c.split_at_mut-whole.ensures.front c.whole_count-count.ensures.whole c.lines_before-before.ensures.bound c.lines_before-before.ensures.most_limit
+
+pub number_pieces-requires-after_bounds : goal.number_pieces-requires-after_bounds
+number_pieces-requires-after_bounds g c κs within =
+    let lines = c.args.lines.now in
+    let pieces = c.read_pieces.new.pieces in
+    let front : StandInFront lines pieces = record {
+      version = c.in-Some.version;
+      stage = c.in-Some.ensures.0;
+      idle = c.in-Some.ensures.1;
+      front = c.ahead-bytes.result.now;
+      more = c.ahead-bytes.ensures.front.0;
+      ahead = c.ahead-bytes.ensures.front.1;
+      within = c.ahead-bytes.ensures.within;
+      read = c.read_pieces.ensures.pieces;
+    } in
+    all_can c.lines_before-before.result c.args.trace.now.names c.split_at_mut-whole.result.0.now c.enter_pieces.new.pieces c.in_ok-enter_pieces.ensures.entered
+    (some_fit lines pieces c.split_at_mut-whole.result.0.now c.whole_count-count.result c.lines_before-before.result front
+    c.split_at_mut-whole.ensures.front c.whole_count-count.ensures.whole c.lines_before-before.ensures.bound c.lines_before-before.ensures.most_limit)
+
+pub add_numbered-requires-clause-front : goal.add_numbered-requires-clause-front
+add_numbered-requires-clause-front g c =
+    let lines = c.args.lines.now in
+    let pieces = c.read_pieces.new.pieces in
+    let front : StandInFront lines pieces = record {
+      version = c.in-Some.version;
+      stage = c.in-Some.ensures.0;
+      idle = c.in-Some.ensures.1;
+      front = c.ahead-bytes.result.now;
+      more = c.ahead-bytes.ensures.front.0;
+      ahead = c.ahead-bytes.ensures.front.1;
+      within = c.ahead-bytes.ensures.within;
+      read = c.read_pieces.ensures.pieces;
+    } in
+    may_add lines pieces c.split_at_mut-whole.result.0.now c.whole_count-count.result c.lines_before-before.result front
+    c.split_at_mut-whole.ensures.front c.whole_count-count.ensures.whole c.args.trace.now c.enter_pieces.new.trace c.enter_pieces.new.pieces c.number_pieces.new.pieces
+    c.lines_before-before.ensures.value c.in_ok-enter_pieces.ensures.entered c.number_pieces.ensures c.in_ok-enter_pieces.ensures.names
+
+pub returns-clause-told : goal.returns-clause-told
+returns-clause-told g c = λ text steps numbers sites known read.
+    let lines = c.args.lines.now in
+    let pieces = c.read_pieces.new.pieces in
+    let front : StandInFront lines pieces = record {
+      version = c.in-Some.version;
+      stage = c.in-Some.ensures.0;
+      idle = c.in-Some.ensures.1;
+      front = c.ahead-bytes.result.now;
+      more = c.ahead-bytes.ensures.front.0;
+      ahead = c.ahead-bytes.ensures.front.1;
+      within = c.ahead-bytes.ensures.within;
+      read = c.read_pieces.ensures.pieces;
+    } in
+    told_some lines pieces c.split_at_mut-whole.result.0.now c.whole_count-count.result c.lines_before-before.result front
+    c.split_at_mut-whole.ensures.front c.whole_count-count.ensures.whole text steps numbers sites known c.args.trace.now c.enter_pieces.new.trace c.enter_pieces.new.pieces
+    c.number_pieces.new.pieces (HasRead text steps numbers sites c.add_numbered.new.lines known c.add_numbered.new.trace) c.lines_before-before.ensures.value
+    c.in_ok-enter_pieces.ensures.entered c.number_pieces.ensures c.in_ok-enter_pieces.ensures.names
+    (λ names read front whole ready named had. c.in_ok-add_numbered.ensures.told text steps numbers sites known names read front whole ready named had) read
+
+pub returns-clause-grows : goal.returns-clause-grows
+returns-clause-grows g c =
+    grows_on c.args.trace.now c.enter_pieces.new.trace c.add_numbered.new.trace
+    (names_grow c.args.trace.now c.enter_pieces.new.trace c.split_at_mut-whole.result.0.now c.in_ok-enter_pieces.ensures.names) c.in_ok-add_numbered.ensures.grows
+
+pub returns-clause-more : goal.returns-clause-more
+returns-clause-more g c = λ whole.
+    let pieces = c.read_pieces.new.pieces in
+    let same = same_first pieces c.split_at_mut-whole.result.0.now c.enter_pieces.new.pieces c.number_pieces.new.pieces c.whole_count-count.result c.lines_before-before.result
+    c.args.trace.now.names c.split_at_mut-whole.ensures.front (eqb-true c.whole_count-count.result (length pieces) whole)
+    c.in_ok-enter_pieces.ensures.entered c.number_pieces.ensures in
+    let long : 1 ≤ length c.ahead-bytes.result.now = omega arith in
+    omega (arith, c.in_ok-add_numbered.ensures.start, same, c.read_pieces.ensures.first long)
+
+-- Nothing is added if the lines are too few.
+pub returns-in_default-clause-grows : goal.returns-in_default-clause-grows
+returns-in_default-clause-grows g c = grows_not c.args.trace.now
+
+pub returns-then-bytes-pieces-clause-grows : goal.returns-then-bytes-pieces-clause-grows
+returns-then-bytes-pieces-clause-grows g c = grows_not c.args.trace.now
