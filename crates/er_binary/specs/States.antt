@@ -1,5 +1,5 @@
 -- What is known behind the records so far, which record may come next, and what it changes.
-use Rattle.std.specs.Prelude.{ℕ, ◌+◌, ◌-◌, ◌%◌, ◌^◌, ◌==◌, ◌||◌, ◌&&◌, not, Bool, true, false, List, [], ◌∷◌, ◌++◌, Some, None, is_some, unwrap_or, length, nat_le, nat_lt, replicate, slice_index, slice_set, codes, if◌then◌else◌}
+use Rattle.std.specs.Prelude.{ℕ, ◌+◌, ◌%◌, ◌^◌, ◌==◌, ◌||◌, ◌&&◌, not, Bool, true, false, List, [], ◌∷◌, ◌++◌, Some, None, is_some, unwrap_or, length, nat_le, nat_lt, replicate, slice_index, slice_set, codes, if◌then◌else◌}
 use Rattle.std.specs.List.{list_all}
 use Rattle.std.specs.Str.{bytes_eq}
 use Rattle.er_lines.specs.Naming.{is_name, is_lock_name, is_site_name}

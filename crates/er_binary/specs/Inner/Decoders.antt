@@ -1,5 +1,5 @@
 -- What a decoder still gives.
-use Rattle.std.specs.Prelude.{ℕ, ◌+◌, ◌-◌, ◌≤◌, Bool, true, false, List, [], ◌++◌, drop, take, length, map, vec_items, vec_len}
+use Rattle.std.specs.Prelude.{ℕ, ◌+◌, ◌-◌, ◌≤◌, List, [], ◌++◌, drop, take, length, map, vec_items, vec_len}
 use Rattle.er_binary.specs.Inner.Notes.{noted_calls}
 use Rattle.er_binary.specs.Numbers.{name_at, plus}
 use Rattle.er_binary.specs.Meaning.{blocks, content, records}
