@@ -8,7 +8,7 @@ use Rattle.er_event.specs.declared.steps.Kind.TheVariants as kind
 use Rattle.er_event.specs.declared.steps.Mode.{Mode}
 use Rattle.er_event.specs.declared.steps.Mode.TheVariants as mode
 use Rattle.er_lines.specs.declared.faults.TextKind.{TextKind}
-use Rattle.er_lines.specs.declared.faults.TextKind.TheVariants.{BadName, MissingOperand, ExtraOperand, BadNumber, SizeTooLarge, AddressOutOfRange, LevelTooHigh}
+use Rattle.er_lines.specs.declared.faults.TextKind.TheVariants.{BadName, MissingOperand, ExtraOperand, SizeTooLarge, AddressOutOfRange, LevelTooHigh}
 use Rattle.er_text.specs.declared.verbs.Verb.{Verb}
 use Rattle.er_text.specs.declared.verbs.Verb.TheVariants as verb
 use Rattle.er_text.specs.declared.verbs.Version.{Version}

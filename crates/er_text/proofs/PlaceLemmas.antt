@@ -1,5 +1,5 @@
 -- What the line in front did to a reading, by its place, its number and its bytes.
-use Rattle.std.proofs.Common.{◌≡◌, ℕ, true, false, List, take, Option, Some, None, IfSome, Ok, Err, subst, sym, ap, ◌∙◌}
+use Rattle.std.proofs.Common.{◌≡◌, ℕ, false, List, take, Option, Some, None, IfSome, Ok, Err, subst, sym, ap, ◌∙◌}
 use Rattle.er_trace.specs.Trace.{Recording}
 use Rattle.er_lines.specs.declared.faults.ReadFault.{ReadFault}
 use Rattle.er_lines.specs.declared.faults.ReadFault.TheVariants as fault
@@ -10,10 +10,10 @@ use Rattle.er_lines.specs.Lines.{Placed}
 use Rattle.er_lines.specs.declared.lines.FrontLine.{FrontLine}
 use Rattle.er_lines.specs.Places.{Place}
 use Rattle.er_text.specs.Places.{Reached}
-use Rattle.er_lines.specs.Lending.{lines_from, lines_left, front_line, past, limit_fault, LineThen}
+use Rattle.er_lines.specs.Lending.{lines_from, front_line, limit_fault, LineThen}
 use Rattle.er_lines.specs.Reading.{Reads, Turns, Continues}
 use Rattle.er_text.specs.Inner.Traces.{Progress, at_front, at_line, progress, plain_at, read_content, finish_as, finish, read_text, IsOutcome}
-use Rattle.er_lines.proofs.TurnLemmas.{turn_on, turn_fails}
+use Rattle.er_lines.proofs.TurnLemmas.{turn_fails}
 
 -- what a line of a trace did to the reading
 pub trace_fails : (old : Reached) (at : Place) (front : FrontLine) (left rest new : Option (List Placed)) (told : Recording) (line : ℕ) (bytes : List ℕ) (u v : Progress) (e : ReadFault)

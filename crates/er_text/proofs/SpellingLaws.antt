@@ -1,9 +1,7 @@
 -- The words of headers and verbs are those that the grammar spells out.
 use Rattle.std.proofs.Common.{◌≡◌, ℕ, Bool, true, false, not, ◌&&◌, cond, List, [], ◌∷◌, Option, Some, None, codes, refl, subst, ap, ◌∙◌}
-use Rattle.std.specs.List.{list_all}
 use Rattle.std.specs.Str.{bytes_eq}
 use Rattle.std.proofs.lemmas.Bool.{and_parts}
-use Rattle.std.proofs.lemmas.Slice.Eq.{bytes_eq-Decides}
 use Rattle.er_text.specs.declared.verbs.Verb.{Verb}
 use Rattle.er_text.specs.declared.verbs.Verb.TheVariants.{Lock, Unlock, ReadLock, ReadUnlock, Read, Write, Reuse, IgnoreOn, IgnoreOff, Show, Level, Start, Join, Signal, Await}
 use Rattle.er_text.specs.declared.verbs.Version.{Version}

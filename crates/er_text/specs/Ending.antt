@@ -1,6 +1,5 @@
 -- How a text ends: with an LF or without, a text 3 with the line `end` or without, and with a comment that says that events are lost, or another.
-use Rattle.std.specs.Prelude.{◌≡◌, ℕ, ◌+◌, ◌==◌, ◌&&◌, suc, Bool, true, false, not, List, [], ◌∷◌, length, take, drop, codes, Option, Some, None, unwrap_or, nat_lt, if◌then◌else◌}
-use Rattle.std.specs.List.{position_or_len}
+use Rattle.std.specs.Prelude.{◌≡◌, ℕ, ◌&&◌, suc, Bool, true, false, not, List, [], ◌∷◌, length, codes, Option, Some, None, unwrap_or, nat_lt, if◌then◌else◌}
 use Rattle.std.specs.Option.{is_some}
 use Rattle.std.specs.Str.{bytes_eq}
 use Rattle.er_text.specs.declared.endings.Ending.{Ending}

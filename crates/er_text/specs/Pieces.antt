@@ -1,6 +1,6 @@
 -- Pieces of a text, which are read apart from what stands before them.
 use Rattle.std.specs.Prelude.{◌≡◌, ℕ, ◌+◌, ◌<◌, ◌≤◌, ◌^◌, Bool, true, List, [], Option, None, length, map, take}
-use Rattle.std.specs.List.{All, list_all}
+use Rattle.std.specs.List.{All}
 use Rattle.er_event.specs.declared.steps.Step.{Step}
 use Rattle.er_trace.specs.Appended.{AreNumbers, renumbered_site, renumbered_step}
 use Rattle.er_trace.specs.Names.{NameTable}

@@ -1,5 +1,5 @@
 -- How far a reader has come in a text.
-use Rattle.std.specs.Prelude.{ℕ, Bool, false, List, Option, None}
+use Rattle.std.specs.Prelude.{Bool, false, List, Option, None}
 use Rattle.er_text.specs.declared.endings.Lost.{Lost}
 use Rattle.er_text.specs.declared.stages.Stage.{Stage}
 use Rattle.er_lines.specs.Places.{Place}

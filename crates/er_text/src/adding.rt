@@ -1,5 +1,5 @@
 //! The steps that a line adds to a trace.
-ghost use Rattle.std.specs.Prelude.{◌≡◌, ◌<◌, ℕ, length, Some, None, IfOk, OnOk};
+ghost use Rattle.std.specs.Prelude.{◌≡◌, ◌<◌, length, Some, None, IfOk, OnOk};
 ghost use Rattle.er_trace.specs.Names.{number_of};
 ghost use Rattle.er_trace.specs.Trace.{HasSiteName};
 ghost use Rattle.er_text.specs.Inner.Parsing.{event_line};

@@ -103,8 +103,5 @@ pub(crate) fn comment_past(last: Option<Lost>, line: u64, bytes: &[u8]) -> Optio
 pub(crate) fn if_any_lost(comment: Option<Lost>) -> Option<Lost>
     ensures { result ≡ if_any_lost comment }
 {
-    match comment {
-        Some(lost) if lost.events > 0 => Some(lost),
-        _ => None,
-    }
+    comment.filter(|lost| lost.events > 0)
 }

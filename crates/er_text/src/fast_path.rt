@@ -4,8 +4,7 @@
 //!
 //! The steps are those of `parsing` and `adding`, in less than half the time. A line of any other form is left to `parsing`.
 ghost use Rattle.std.specs.Prelude.{◌≡◌, ◌+◌, ◌<◌, ◌≤◌, ◌∷◌, ◌++◌, not, position, length, codes, ℕ, List, IfSome};
-ghost use Rattle.std.specs.List.{list_all, position_or_len};
-ghost use Rattle.std.specs.Char.{digit_value};
+ghost use Rattle.std.specs.List.{position_or_len};
 ghost use Rattle.er_lines.specs.Naming.{is_name_byte};
 ghost use Rattle.er_text.specs.Inner.FastPath.{IsLeadingName, HexSoFar, AreLeadingDigits, IsLeadingWord, IsFastAccess, IsFastLockEvent, IsFastOperation, IsFastLine, AddsOperation, AddsLine, lock_word};
 ghost use Rattle.er_text.specs.Trace.{kind_word};

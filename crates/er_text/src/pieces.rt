@@ -1,5 +1,5 @@
 //! Pieces of a text: lines that are read apart from those before them, over names of their own.
-ghost use Rattle.std.specs.Prelude.{◌≡◌, ◌+◌, ◌-◌, ◌<◌, ◌≤◌, ◌^◌, ◌&&◌, nat_eq, ℕ, All, List, Option, take, drop, length, OnOk, IfSome, IsTrue, [], true};
+ghost use Rattle.std.specs.Prelude.{◌≡◌, ◌+◌, ◌-◌, ◌<◌, ◌≤◌, ◌^◌, ◌&&◌, nat_eq, ℕ, All, List, Option, take, drop, length, OnOk, IfSome, [], true};
 ghost use Rattle.er_event.specs.declared.steps.Step.{Step as Steps};
 ghost use Rattle.er_text.specs.Batches.{HasRead};
 ghost use Rattle.er_lines.specs.Lending.{taken_by};

@@ -42,10 +42,7 @@ impl Model for IdleThreads {
 pub(crate) fn is_known_thread(names: &Names, name: Option<&str>) -> bool
     ensures { result ≡ is_known_name names.now.threads (seen_name name.entry) }
 {
-    match name {
-        Some(name) => names.known_thread(name).is_some(),
-        None => true,
-    }
+    name.is_none_or(|name| names.known_thread(name).is_some())
 }
 
 impl IdleThreads {
@@ -126,10 +123,9 @@ impl IdleThreads {
     fn has_run(&self, names: &Names, name: &str) -> bool
         ensures { result ≡ has_run names.now.threads self.now name.now }
     {
-        match names.known_thread(name) {
-            Some(thread) => !self.contains(thread),
-            None => false,
-        }
+        names
+            .known_thread(name)
+            .is_some_and(|thread| !self.contains(thread))
     }
 
     /// What is wrong with a line, by the lines before it.

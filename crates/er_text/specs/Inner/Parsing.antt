@@ -1,5 +1,5 @@
 -- What the words of a line say, as the code finds it out. The grammar stands apart from it, in `Trace`.
-use Rattle.std.specs.Prelude.{◌≡◌, ℕ, ◌+◌, ◌/◌, ◌^◌, ◌||◌, Bool, not, List, Option, Some, None, Result, Ok, Err, nat_lt, nat_le, codes, if◌then◌else◌}
+use Rattle.std.specs.Prelude.{ℕ, ◌+◌, ◌/◌, ◌^◌, ◌||◌, Bool, not, List, Option, Some, None, Result, Ok, Err, nat_lt, nat_le, codes, if◌then◌else◌}
 use Rattle.std.specs.Str.{bytes_eq}
 use denote.Ref.{Bor}
 use Rattle.er_event.specs.Span.{Span}
@@ -7,7 +7,7 @@ use Rattle.er_event.specs.declared.steps.Kind.{Kind}
 use Rattle.er_event.specs.declared.steps.Kind.TheVariants as kind
 use Rattle.er_event.specs.declared.steps.Mode.TheVariants as mode
 use Rattle.er_lines.specs.declared.faults.TextKind.{TextKind}
-use Rattle.er_lines.specs.declared.faults.TextKind.TheVariants.{BadName, MissingOperand, BadVerb, ExtraOperand, BadNumber, SizeTooLarge, AddressOutOfRange, LevelTooHigh}
+use Rattle.er_lines.specs.declared.faults.TextKind.TheVariants.{BadName, MissingOperand, BadVerb, ExtraOperand, SizeTooLarge, AddressOutOfRange, LevelTooHigh}
 use Rattle.er_text.specs.declared.verbs.Verb.{Verb}
 use Rattle.er_text.specs.declared.verbs.Verb.TheVariants as verb
 use Rattle.er_text.specs.declared.verbs.Version.{Version}
@@ -16,7 +16,6 @@ use Rattle.er_text.specs.declared.parsing.Action.TheVariants as action
 use Rattle.er_text.specs.declared.parsing.ParsedLine.{ParsedLine}
 use Rattle.er_lines.specs.declared.words.Words.{Words}
 use Rattle.er_lines.specs.Lines.{has_bytes, word_at}
-use Rattle.er_lines.specs.Number.{number_of}
 use Rattle.er_lines.specs.Naming.{name_of, lock_name_of}
 use Rattle.er_text.specs.Naming.{site_name_of}
 use Rattle.er_text.specs.Verbs.{verb_of, least_of, most_of}

@@ -1,5 +1,5 @@
 -- A word is what its bytes spell.
-use Rattle.std.proofs.Common.{◌≡◌, true, codes, refl, sym, ◌∙◌, arith, rules}
+use Rattle.std.proofs.Common.{◌≡◌, true, codes, refl, arith, rules}
 use Rattle.std.proofs.lemmas.Slice.Eq.{text_from_reads}
 use Rattle.er_text.specs.Verbs.{has_levels, is_third}
 use Rattle.er_text.proofs.verbs.verb_of.Goals as goal
