@@ -48,11 +48,7 @@ impl<D> Device<D> {
     pub fn into_inner(self) -> D
         ensures { result ≡ inner_of self }
     {
-        let Device {
-            inner,
-            failed: _,
-            taken: _,
-        } = self;
+        let Device { inner, .. } = self;
         inner
     }
 

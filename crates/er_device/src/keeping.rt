@@ -41,11 +41,9 @@ impl<'d, R> Keeping<'d, R> {
         ensures kept { GoesOn (kept_by self.old) (kept_by self.new) bytes.now }
         ensures device { self.new.device ≡ self.old.device }
     {
-        let is_lost = match &mut self.kept {
-            Some(kept) => kept.extend_from_slice(bytes).is_err(),
-            None => false,
-        };
-        if is_lost {
+        if let Some(kept) = &mut self.kept
+            && kept.extend_from_slice(bytes).is_err()
+        {
             self.kept = None;
         }
     }

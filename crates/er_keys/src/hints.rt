@@ -27,10 +27,8 @@ impl Hints {
     /// What was noted for the key, as a rule.
     #[inline(always)]
     pub fn hint(&self, key: u64) -> usize {
-        match self.noted.get((key % SLOTS) as usize) {
-            Some(&number) => number as usize,
-            None => 0,
-        }
+        let noted = self.noted.get((key % SLOTS) as usize);
+        noted.copied().unwrap_or(0) as usize
     }
 
     /// Notes a number for a key. Without memory it does nothing. No memory holds as many entries as a number of 2^32 or more needs.

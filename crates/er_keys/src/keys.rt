@@ -11,8 +11,8 @@ use std::random::RandomSource;
 /// They change nothing that a map answers.
 #[derive(Clone, Copy, Debug, PartialEq, Eq)]
 pub struct HashKeys {
-    first: u64,
-    second: u64,
+    pub(crate) first: u64,
+    pub(crate) second: u64,
 }
 
 impl HashKeys {
@@ -39,11 +39,6 @@ impl HashKeys {
             first: word_of(&bytes[0..8]),
             second: word_of(&bytes[8..16]),
         }
-    }
-
-    // The two numbers.
-    pub(crate) fn numbers(self) -> (u64, u64) {
-        (self.first, self.second)
     }
 }
 

@@ -23,10 +23,9 @@ pub struct NumberHasher {
 impl NumberHasher {
     /// The hasher of these keys.
     pub fn new(keys: HashKeys) -> NumberHasher {
-        let (first, second) = keys.numbers();
         NumberHasher {
-            high: first ^ 0x9E37_79B9_7F4A_7C15,
-            low: second ^ 0x243F_6A88_85A3_08D3,
+            high: keys.first ^ 0x9E37_79B9_7F4A_7C15,
+            low: keys.second ^ 0x243F_6A88_85A3_08D3,
             mixed: 0,
         }
     }

@@ -36,34 +36,12 @@ pub fn is_comment(bytes: &[u8]) -> bool
     matches!(bytes, [b'#', ..])
 }
 
-fn find_gap(bytes: &[u8]) -> Option<usize>
-    ensures { result ≡ position is_gap bytes.now }
-{
-    bytes
-        .iter()
-        .position(|byte| *byte == b' ' || *byte == b'\t')
-}
-
-fn find_word(bytes: &[u8]) -> Option<usize>
-    ensures { result ≡ position (λ byte. not (is_gap byte)) bytes.now }
-{
-    bytes
-        .iter()
-        .position(|byte| !(*byte == b' ' || *byte == b'\t'))
-}
-
-fn find_space(bytes: &[u8]) -> Option<usize>
-    ensures { result ≡ position is_space bytes.now }
-{
-    bytes.iter().position(|byte| *byte == b' ')
-}
-
 /// What stands before the first space, and what behind it: all of it and nothing if there is none.
 pub fn split_at_space(bytes: &[u8]) -> (&[u8], &[u8])
     ensures before { result.0.now ≡ before_space bytes.now }
     ensures behind { result.1.now ≡ behind_space bytes.now }
 {
-    match find_space(bytes) {
+    match bytes.iter().position(|byte| *byte == b' ') {
         Some(at) => (&bytes[..at], &bytes[at + 1..]),
         None => (bytes, &bytes[bytes.len()..]),
     }
@@ -74,7 +52,10 @@ fn word_len(bytes: &[u8]) -> usize
     ensures place { result ≡ position_or_len is_gap bytes.now }
     ensures bound { result ≤ length bytes.now }
 {
-    find_gap(bytes).unwrap_or(bytes.len())
+    let gap = bytes
+        .iter()
+        .position(|byte| *byte == b' ' || *byte == b'\t');
+    gap.unwrap_or(bytes.len())
 }
 
 /// How many gaps stand in front.
@@ -82,7 +63,10 @@ fn gap_len(bytes: &[u8]) -> usize
     ensures place { result ≡ position_or_len (λ byte. not (is_gap byte)) bytes.now }
     ensures bound { result ≤ length bytes.now }
 {
-    find_word(bytes).unwrap_or(bytes.len())
+    let word = bytes
+        .iter()
+        .position(|byte| !(*byte == b' ' || *byte == b'\t'));
+    word.unwrap_or(bytes.len())
 }
 
 /// The first word, which is empty where there is none, and what follows it.

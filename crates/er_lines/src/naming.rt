@@ -29,17 +29,11 @@ pub fn is_lock_name(word: &[u8]) -> bool
     word != b"none".as_slice() && is_name(word)
 }
 
-fn has_site_bytes(word: &[u8]) -> bool
-    ensures { result ≡ list_all is_site_byte word.now }
-{
-    word.iter().all(|byte| is_site_byte(*byte))
-}
-
 /// Whether a word names a site in a text of the last version, or is `-`.
 pub fn is_site_name(word: &[u8]) -> bool
     ensures { result ≡ is_site_name word.now }
 {
-    !word.is_empty() && word.len() <= 128 && has_site_bytes(word)
+    !word.is_empty() && word.len() <= 128 && word.iter().all(|byte| is_site_byte(*byte))
 }
 
 /// A word of a site's bytes, which are ASCII, as text.

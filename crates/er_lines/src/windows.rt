@@ -97,24 +97,6 @@ impl Window {
         Ok(count)
     }
 
-    /// One read, which leaves at most `most` bytes in the window.
-    fn fill<R: Read>(&mut self, reader: &mut Device<R>, most: usize) -> Result<usize, Failed>
-        requires room { length (items self.old) < most }
-        requires small { length (items self.old) < 65536 }
-        ensures bytes { IfOk result (λ n. (more : List ℕ) × (length more ≡ n) × (items self.new ≡ items self.old ++ more)
-            × Consumes (R.remaining (inner_of reader.old)) (R.remaining (inner_of reader.new)) more) }
-        ensures most { IfOk result (λ n. length (items self.old) + n ≤ most) }
-        ensures end { IfOk result (λ n. n ≡ 0 → IsAtEnd (R.remaining (inner_of reader.new))) }
-        ensures failed { Failing (has_failed reader.old) (has_failed reader.new) result }
-        ensures taken { IfOk result (λ n. taken_of reader.new ≤ taken_of reader.old + n) }
-        ensures taken_err { OnErr result (taken_of reader.new ≡ taken_of reader.old) }
-        ensures kept { OnErr result (items self.new ≡ items self.old) }
-    {
-        self.move_to_front();
-        let stop = self.bytes.len().min(most);
-        self.read(reader, stop)
-    }
-
     /// Reads until the window is full, or has `most` bytes, or the text ends.
     pub(crate) fn fill_up<R: Read>(
         &mut self,
@@ -162,7 +144,9 @@ impl Window {
             if len < bytes.len() {
                 return Ok(LineEnd::Whole(len));
             }
-            if self.fill(reader, most)? == 0 {
+            self.move_to_front();
+            let stop = self.bytes.len().min(most);
+            if self.read(reader, stop)? == 0 {
                 return Ok(LineEnd::Last(len));
             }
         }

@@ -1,10 +1,10 @@
 //! Rules, looked up by site and by words.
-ghost use Rattle.std.specs.Prelude.{◌≡◌, ℕ, List, ◌<◌, ◌≤◌, cond, get_or, length, take, Option, option_copied, Some, None, option_map, string_bytes, bytes_eq, OnOk, OnErr, IfSome};
+ghost use Rattle.std.specs.Prelude.{◌≡◌, ℕ, List, ◌<◌, ◌≤◌, cond, get_or, length, take, Option, option_copied, Some, None, string_bytes, bytes_eq, OnOk, OnErr, IfSome};
 ghost use Rattle.std.proofs.Props.{props};
 ghost use Rattle.std.specs.Option.{option_or};
 ghost use Rattle.std.specs.BTreeMap.{get_by_text};
 ghost use Rattle.er_rules.specs.declared.index.Entry.{Entry};
-ghost use Rattle.er_rules.specs.Targets.{span_of, target_of, same_site};
+ghost use Rattle.er_rules.specs.Targets.{span_of, target_of};
 ghost use Rattle.er_rules.specs.Inner.Index.{least_of, first_of, has_both, is_of_site, is_of_words};
 ghost use Rattle.er_rules.specs.Inner.Reach.{end_at};
 
@@ -106,50 +106,7 @@ impl WordIndex {
     }
 }
 
-/// The first rule of each site.
-#[derive(Drop)]
-struct SiteIndex {
-    named: BTreeMap<String, usize>,
-    missing: Option<usize>,
-}
-
-impl SiteIndex {
-    ghost use Rattle.er_rules.specs.Inner.Sites.{site_rule};
-
-    fn new(alloc: Global) -> SiteIndex
-        ensures { (site : Option (List ℕ)) → site_rule result site ≡ None }
-    {
-        SiteIndex {
-            named: BTreeMap::new(alloc),
-            missing: None,
-        }
-    }
-
-    /// Adds a rule that counts unless an earlier one has its site.
-    fn push(&mut self, name: &Option<String>, rule: usize) -> Put
-        ensures ok { OnOk result ((site : Option (List ℕ)) → site_rule self.new site ≡ option_or (site_rule self.old site) (cond (same_site (option_map string_bytes name.now) site) (Some rule) None)) }
-        ensures err { OnErr result ((site : Option (List ℕ)) → site_rule self.new site ≡ site_rule self.old site) }
-    {
-        match name {
-            Some(name) => push_name(&mut self.named, name, rule),
-            None => {
-                self.missing = self.missing.or(Some(rule));
-                Ok(())
-            }
-        }
-    }
-
-    /// The first rule of the site of this name, or of the missing one.
-    fn rule_of(&self, site: Option<&str>) -> Option<usize>
-        ensures { result ≡ site_rule self.now (option_copied site.entry) }
-    {
-        match site {
-            Some(name) => self.named.get(name).copied(),
-            None => self.missing,
-        }
-    }
-}
-
+/// Adds a rule of the site of this name, which counts unless an earlier one has its site.
 fn push_name(named: &mut BTreeMap<String, usize>, name: &String, rule: usize) -> Put
     ensures ok { OnOk result ((q : List ℕ) → get_by_text named.new q ≡ option_or (get_by_text named.old q) (cond (bytes_eq (string_bytes name.now) q) (Some rule) None)) }
     ensures err { OnErr result ((q : List ℕ) → get_by_text named.new q ≡ get_by_text named.old q) }
@@ -165,7 +122,10 @@ fn push_name(named: &mut BTreeMap<String, usize>, name: &String, rule: usize) ->
 /// of rules, whatever the rules are.
 #[derive(Drop)]
 pub(crate) struct RuleIndex {
-    sites: SiteIndex,
+    /// The first rule of each site.
+    named: BTreeMap<String, usize>,
+    /// The first rule of the missing site.
+    missing: Option<usize>,
     words: WordIndex,
     alloc: Global,
 }
@@ -179,7 +139,8 @@ impl RuleIndex {
         ensures words { (lo hi : ℕ) → rule_of_words result lo hi ≡ None }
     {
         RuleIndex {
-            sites: SiteIndex::new(alloc),
+            named: BTreeMap::new(alloc),
+            missing: None,
             words: WordIndex::new(alloc),
             alloc,
         }
@@ -193,7 +154,11 @@ impl RuleIndex {
         ensures err_words { OnErr result ((lo hi : ℕ) → rule_of_words self.new lo hi ≡ rule_of_words self.old lo hi) }
     {
         match rule {
-            Rule::Site(name) => self.sites.push(name, number),
+            Rule::Site(Some(name)) => push_name(&mut self.named, name, number),
+            Rule::Site(None) => {
+                self.missing = self.missing.or(Some(number));
+                Ok(())
+            }
             Rule::Words(Some(words)) => self.words.push(self.alloc, *words, number),
             Rule::Words(None) => Ok(()),
         }
@@ -203,7 +168,11 @@ impl RuleIndex {
     pub(crate) fn rule_of(&self, site: Option<&str>, lo: Word, hi: Word) -> Option<usize>
         ensures { result ≡ least_of (rule_of_site self.now (option_copied site.entry)) (rule_of_words self.now lo hi) }
     {
-        lesser(self.sites.rule_of(site), self.of_words(lo, hi))
+        let of_words = self.of_words(lo, hi);
+        match site {
+            Some(name) => lesser(self.named.get(name).copied(), of_words),
+            None => lesser(self.missing, of_words),
+        }
     }
 
     /// The first rule whose words have both of these.

@@ -1,12 +1,12 @@
 //! The texts of rules, line by line.
-ghost use Rattle.std.specs.Prelude.{◌≡◌, ◌+◌, ◌^◌, ◌<◌, ◌≤◌, OnOk, IfOk, IfSome, IsErrOf, true, false, option_map, string_bytes};
+ghost use Rattle.std.specs.Prelude.{◌≡◌, ◌+◌, ◌^◌, ◌<◌, ◌≤◌, OnOk, IfOk, IfSome, IsErrOf, true, false};
 ghost use Rattle.er_device.specs.Device.{inner_of, has_failed, taken_of};
 ghost use Rattle.er_lines.specs.Faults.{HasFailedBy};
 ghost use Rattle.er_lines.specs.Lending.{taken_by, lines_left};
 ghost use Rattle.er_lines.specs.Lines.{bytes_past_limit};
 ghost use Rattle.er_lines.specs.Reading.{Reads, Turns};
-ghost use Rattle.er_lines.specs.Words.{seen_name, GivesSite};
-ghost use Rattle.er_rules.specs.Inner.RuleLines.{GivesRun, GivesRule, site_in, site_rule_in, long_run_in, run_rule_in, rule_in, add_line, plain_rule_at, rules_in, rule_view, IsRulesOutcome};
+ghost use Rattle.er_lines.specs.Words.{GivesSite};
+ghost use Rattle.er_rules.specs.Inner.RuleLines.{GivesRun, GivesRule, site_in, site_rule_in, long_run_in, run_rule_in, rule_in, add_line, plain_rule_at, rule_view};
 ghost use Rattle.er_rules.specs.Rules.{target_of, targets_of};
 ghost use Rattle.er_rules.specs.Texts.{TellsRules};
 
@@ -45,7 +45,10 @@ pub fn read_suppressions<R: Read>(
     ensures failed { HasFailedBy (has_failed reader.new) result }
     ensures taken { taken_of reader.new ≤ taken_of reader.old + byte_limit + bytes_past_limit }
 {
-    read_rules(alloc, reader, byte_limit)
+    let mut lines = LineReader::new(alloc, byte_limit, WINDOW_BYTES)?;
+    let mut rules = Suppressions::new(alloc);
+    while next_rule(alloc, &mut lines, reader, &mut rules)? {}
+    Ok(rules)
 }
 
 /// A rule whose name is still a part of its line.
@@ -123,21 +126,13 @@ fn rule_of<'a>(words: &Words<'a>) -> Result<LineRule<'a>, TextKind>
     }
 }
 
-fn owned_name(alloc: Global, name: Option<&str>) -> Result<Option<String>, AllocError>
-    ensures { IfOk result (λ owned. option_map string_bytes owned ≡ seen_name name.entry) }
-{
-    match name {
-        Some(name) => Ok(Some(String::from_str(alloc, name)?)),
-        None => Ok(None),
-    }
-}
-
 /// The rule, with a name of its own.
 fn owned(alloc: Global, rule: &LineRule<'_>) -> Result<Rule, AllocError>
     ensures { IfOk result (λ owned. target_of owned ≡ rule_view rule.now) }
 {
     match *rule {
-        LineRule::Site(name) => Ok(Rule::Site(owned_name(alloc, name)?)),
+        LineRule::Site(Some(name)) => Ok(Rule::Site(Some(String::from_str(alloc, name)?))),
+        LineRule::Site(None) => Ok(Rule::Site(None)),
         LineRule::Words(words) => Ok(Rule::Words(words)),
     }
 }
@@ -188,22 +183,4 @@ fn next_rule<R: Read>(
     add_line(alloc, rules, line, bytes)?;
     lines.pass(front);
     Ok(true)
-}
-
-/// Reads a text to its end, in whatever pieces it comes.
-fn read_rules<R: Read>(
-    alloc: Global,
-    reader: &mut Device<R>,
-    byte_limit: u64,
-) -> Result<Suppressions, ReadFault>
-    requires open { has_failed reader.old ≡ false }
-    requires limit { byte_limit ≤ 2 ^ 62 }
-    ensures outcome { IfSome (R.remaining (inner_of reader.old)) (λ text. IsRulesOutcome (rules_in byte_limit text) result) }
-    ensures failed { HasFailedBy (has_failed reader.new) result }
-    ensures taken { taken_of reader.new ≤ taken_of reader.old + byte_limit + bytes_past_limit }
-{
-    let mut lines = LineReader::new(alloc, byte_limit, WINDOW_BYTES)?;
-    let mut rules = Suppressions::new(alloc);
-    while next_rule(alloc, &mut lines, reader, &mut rules)? {}
-    Ok(rules)
 }

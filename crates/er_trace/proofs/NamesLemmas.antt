@@ -1,5 +1,5 @@
 -- Facts on names that are numbered by first appearance, and on the texts that hold them.
-use Rattle.std.proofs.Common.{String, not, ◌≡◌, ℕ, ◌+◌, Bool, true, false, cond, ◌||◌, List, [], ◌∷◌, ◌++◌, map, Some, None, refl, sym, ap, ◌∙◌}
+use Rattle.std.proofs.Common.{String, not, ◌≡◌, ℕ, ◌+◌, Bool, true, false, cond, ◌||◌, List, [], ◌∷◌, ◌++◌, map, Option, Some, None, IfSome, IfNone, is_some, refl, sym, ap, ◌∙◌}
 use Rattle.std.specs.List.{list_any, position_or_len}
 use Rattle.std.specs.Str.{bytes_eq}
 use Rattle.std.specs.String.{string_bytes, string_eq}
@@ -21,6 +21,15 @@ module _ {Y : Type 0} (name : List ℕ) where
 pub found_place : (b : Bool) (m n : ℕ) → Some n ≡ cond b (Some m) None → n ≡ m
 found_place true m n e = cc
 found_place false m n e = cc
+
+-- the same of an answer that may be none
+pub found_at : (r : Option ℕ) (b known : Bool) (m n : ℕ) → r ≡ cond b (Some m) None → m ≡ n → is_some r ≡ known → IfSome r (λ k. (k ≡ n) × (known ≡ true))
+found_at (Some k) b known m n e same found = (found_place b m k e ∙ same, sym found)
+found_at None b known m n e same found = tt
+
+pub found_none : (r : Option ℕ) (b : Bool) → is_some r ≡ b → IfNone r (b ≡ false)
+found_none (Some n) b found = tt
+found_none None b found = sym found
 
 -- a name that is known leaves the names as they are
 pub with_known : (names : List (List ℕ)) (name : List ℕ) → is_known names name ≡ true → with_name names name ≡ names

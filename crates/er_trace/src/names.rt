@@ -93,10 +93,7 @@ impl NameList {
         ensures none { IfNone result (is_known self.now name.now ≡ false) }
         ensures within { IfSome result (λ n. n < most_names) }
     {
-        match self.names.get_index_of(name) {
-            Some(number) => Some(number),
-            None => None,
-        }
+        self.names.get_index_of(name)
     }
 }
 
@@ -176,13 +173,6 @@ impl CachedNames {
         Ok(number)
     }
 
-    fn name(&self, number: usize) -> &str
-        requires { number < length self.now }
-        ensures { slice_get self.now number ≡ Some result.now }
-    {
-        self.list.name(number)
-    }
-
     /// The numbers here of all those names, by their numbers there. Those of them that are new come behind, in their order.
     fn add(&mut self, others: &CachedNames) -> Result<NewNumbers, AllocError>
         ensures names { OnOk result (self.new ≡ with_names self.old others.now) }
@@ -191,7 +181,7 @@ impl CachedNames {
     {
         let mut numbers = NewNumbers::new(*self.list.names.allocator());
         for at in 0..others.list.len() {
-            let number = self.number(others.name(at))?;
+            let number = self.number(others.list.name(at))?;
             numbers.push(number)?;
         }
         Ok(numbers)
@@ -290,10 +280,8 @@ impl Names {
         ensures some { IfSome result (λ thread. (thread ≡ number_of self.now.threads name.now) × (is_known self.now.threads name.now ≡ true)) }
         ensures none { IfNone result (is_known self.now.threads name.now ≡ false) }
     {
-        match self.threads.list.find(name) {
-            Some(number) => Some(ThreadId::new(number as u32)),
-            None => None,
-        }
+        let number = self.threads.list.find(name)?;
+        Some(ThreadId::new(number as u32))
     }
 
     /// The numbers here of all those names, by their numbers there. Those of them that are new come behind, in their order.
@@ -302,20 +290,10 @@ impl Names {
         ensures numbers { IfOk result (λ numbers. AreNumbers numbers others.now self.new) }
         ensures more { HasMore self.old self.new }
     {
-        let threads = self.threads.add(&others.threads)?;
-        let Ok(locks) = self.locks.add(&others.locks) else {
-            drop(threads);
-            return Err(AllocError);
-        };
-        let Ok(sites) = self.sites.add(&others.sites) else {
-            drop(threads);
-            drop(locks);
-            return Err(AllocError);
-        };
         Ok(NewTable {
-            threads,
-            locks,
-            sites,
+            threads: self.threads.add(&others.threads)?,
+            locks: self.locks.add(&others.locks)?,
+            sites: self.sites.add(&others.sites)?,
         })
     }
 
@@ -324,7 +302,7 @@ impl Names {
         requires { thread < length self.now.threads }
         ensures { slice_get self.now.threads thread ≡ Some result.now }
     {
-        self.threads.name(thread.number() as usize)
+        self.threads.list.name(thread.number() as usize)
     }
 
     /// The name of a lock that was numbered here.
@@ -332,7 +310,7 @@ impl Names {
         requires { lock < length self.now.locks }
         ensures { slice_get self.now.locks lock ≡ Some result.now }
     {
-        self.locks.name(lock.number() as usize)
+        self.locks.list.name(lock.number() as usize)
     }
 
     /// The name of a site that was numbered here. The missing site has none.
@@ -341,7 +319,7 @@ impl Names {
         requires known { site ≤ length self.now.sites }
         ensures { slice_get self.now.sites (site - 1) ≡ Some result.now }
     {
-        self.sites.name(site.number() as usize - 1)
+        self.sites.list.name(site.number() as usize - 1)
     }
 }
 

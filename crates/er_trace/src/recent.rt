@@ -42,7 +42,7 @@ fn packed(bytes: &[u8]) -> u64
 }
 
 /// A name of 1 to 16 bytes: how many there are, the first eight as a number, and the others.
-#[derive(Clone, Copy)]
+#[derive(Clone, Copy, Default, PartialEq)]
 pub(crate) struct ShortName {
     len: usize,
     first: u64,
@@ -84,8 +84,8 @@ impl ShortName {
     }
 }
 
-/// A name and its number. A name of no bytes stands for none.
-#[derive(Clone, Copy)]
+/// A name and its number. A name of no bytes, as there is by default, stands for none.
+#[derive(Clone, Copy, Default)]
 struct Slot {
     name: ShortName,
     number: u32,
@@ -117,14 +117,10 @@ impl RecentNames {
         ensures { (names : List (List ℕ)) → AreRight names self.now → IfSome result (λ number. Knows names (bytes_of name) number) }
     {
         let slot = self.slots.get(name.slot())?;
-        if slot.name.len == name.len
-            && slot.name.first == name.first
-            && slot.name.rest == name.rest
-        {
-            Some(slot.number)
-        } else {
-            None
+        if slot.name != name {
+            return None;
         }
+        Some(slot.number)
     }
 
     /// Puts a name into its slot. Without memory for slots it does nothing.
@@ -144,16 +140,8 @@ impl RecentNames {
     fn make_slots(&mut self)
         ensures { (names : List (List ℕ)) → AreRight names self.old → AreRight names self.new }
     {
-        let none = ShortName {
-            len: 0,
-            first: 0,
-            rest: 0,
-        };
-        let slot = Slot {
-            name: none,
-            number: 0,
-        };
-        if let Ok(slots) = vec![in *self.slots.allocator(); slot; RecentNames::SLOTS] {
+        let none = Slot::default();
+        if let Ok(slots) = vec![in *self.slots.allocator(); none; RecentNames::SLOTS] {
             self.slots = slots;
         }
     }

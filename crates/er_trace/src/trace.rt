@@ -93,15 +93,9 @@ impl Trace {
         ensures err { OnErr result (self.new ≡ self.old) }
     {
         let Step { thread, event } = step;
-        let Ok(()) = self.steps.reserve(1) else {
-            return Err(AllocError);
-        };
-        let Ok(()) = self.lines.reserve(1) else {
-            return Err(AllocError);
-        };
-        let Ok(()) = self.sites.reserve(1) else {
-            return Err(AllocError);
-        };
+        self.steps.reserve(1)?;
+        self.lines.reserve(1)?;
+        self.sites.reserve(1)?;
         self.steps.push_reserved(Step { thread, event });
         self.lines.push_reserved(line);
         self.sites.push_reserved(site);
@@ -133,15 +127,9 @@ impl Trace {
         ensures ok { OnOk result (self.new ≡ with_steps self.old steps.now lines.now sites.now) }
         ensures err { OnErr result (self.new ≡ self.old) }
     {
-        let Ok(()) = self.steps.reserve(steps.len()) else {
-            return Err(AllocError);
-        };
-        let Ok(()) = self.lines.reserve(lines.len()) else {
-            return Err(AllocError);
-        };
-        let Ok(()) = self.sites.extend_from_slice(sites) else {
-            return Err(AllocError);
-        };
+        self.steps.reserve(steps.len())?;
+        self.lines.reserve(lines.len())?;
+        self.sites.extend_from_slice(sites)?;
         let added: Result<(), AllocError> = self.lines.extend_from_slice(lines);
         added.unwrap();
         let added: Result<(), AllocError> = self.steps.extend_from_slice(steps);

@@ -4,7 +4,7 @@ use Rattle.er_rules.specs.Rules.{targets_of}
 use Rattle.er_lines.specs.Lending.{taken_by, lines_from, lines_left}
 use Rattle.er_lines.specs.Reading.{Continues}
 use Rattle.er_rules.specs.Inner.RuleLines.{add_line}
-use Rattle.er_rules.proofs.texts.read_rules.Given as goal
+use Rattle.er_rules.proofs.texts.read_suppressions.Given as goal
 
 abbrev pub invariant-loop-rules : goal.invariant-loop-rules
 invariant-loop-rules g l = record {
