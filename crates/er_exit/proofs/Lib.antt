@@ -1,3 +1,4 @@
 pub mod LineLemmas
 pub mod PlainLemmas
+pub mod SpaceLemmas
 mod WriteLemmas

@@ -59,9 +59,7 @@ pub fn is_ordinary<R: Files>(rt: &R, path: &str) -> bool {
 
 /// Opens an ordinary file. None if it is no such file, or can't be opened.
 pub fn open_ordinary<R: Files>(rt: &R, path: &str) -> Option<R::File> {
-    if !is_ordinary(rt, path) {
-        return None;
-    }
+    let _size = size_of(rt, path)?;
     File::open(rt, path).ok()
 }
 

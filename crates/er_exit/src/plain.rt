@@ -1,22 +1,22 @@
 //! Bytes of files, written so that a terminal takes none of them for a command.
 ghost use Rattle.std.specs.Prelude.{◌≡◌, ◌++◌, ◌<◌, ◌≤◌, length, map, take, OnOk, ◌-◌, IfOk};
-ghost use Rattle.std.specs.Char.{digit_char};
 ghost use Rattle.er_exit.specs.Plain.{fitting, shown, shown_byte};
 ghost use Rattle.er_exit.specs.Quote.{front_mark, start_of};
 ghost use Rattle.er_exit.specs.Written.{line_text};
 
+use er_lines::hex_digit;
 use std::alloc::{AllocError, Global};
 
 /// What it comes to that bytes are put behind others.
 pub(crate) type Put = Result<(), AllocError>;
 
-/// Puts bytes, each as itself if it is printable, and else as an escape.
-pub(crate) fn put_shown(out: &mut Vec<u8>, bytes: &[u8]) -> Put
-    ensures { OnOk result (out.new.items ≡ out.old.items ++ shown bytes.now) }
+/// Puts a space for each column that the bytes take where they are shown.
+fn put_spaces(out: &mut Vec<u8>, bytes: &[u8]) -> Put
+    ensures { OnOk result (out.new.items ≡ out.old.items ++ map (λ byte. 32) (shown bytes.now)) }
 {
     for byte in bytes {
-        let (shown, width) = shown_byte(*byte);
-        out.extend_from_slice(&shown[..width])?;
+        let (_, width) = shown_byte(*byte);
+        out.extend_from_slice(&b"    "[..width])?;
     }
     Ok(())
 }
@@ -39,17 +39,6 @@ fn shown_byte(byte: u8) -> ([u8; 4], usize)
     }
 }
 
-fn hex_digit(digit: u8) -> u8
-    requires { digit < 16 }
-    ensures { result ≡ digit_char digit }
-{
-    if digit < 10 {
-        b'0' + digit
-    } else {
-        b'a' + (digit - 10)
-    }
-}
-
 /// Puts as many of the bytes as fit in so many columns, and two dots if some are left.
 #[tactic(auto, unfolding(crate::specs::Plain::fitting))]
 pub(crate) fn put_fitting(out: &mut Vec<u8>, bytes: &[u8], columns: usize) -> Put
@@ -68,16 +57,6 @@ pub(crate) fn put_fitting(out: &mut Vec<u8>, bytes: &[u8], columns: usize) -> Pu
     }
 }
 
-/// Puts a space for each of the bytes.
-pub(crate) fn put_spaces(out: &mut Vec<u8>, bytes: &[u8]) -> Put
-    ensures { OnOk result (out.new.items ≡ out.old.items ++ map (λ byte. 32) bytes.now) }
-{
-    for _byte in bytes {
-        out.push(b' ')?;
-    }
-    Ok(())
-}
-
 /// Puts the line, cut to 106 columns, and a mark under the byte at a place. Of an empty line it puts nothing.
 pub(crate) fn put_quote(alloc: Global, out: &mut Vec<u8>, line: &[u8], place: usize) -> Put
     requires { place ≤ length line.now }
@@ -88,24 +67,25 @@ pub(crate) fn put_quote(alloc: Global, out: &mut Vec<u8>, line: &[u8], place: us
     }
     let start = start_of(alloc, line, place)?;
     let rest = &line[start..];
-    let indent = indent_of(alloc, rest, start, place - start)?;
     out.extend_from_slice(b"    ")?;
     out.extend_from_slice(front_mark(start))?;
     put_fitting(out, rest, 100)?;
     out.extend_from_slice(b"\n")?;
     out.extend_from_slice(b"    ")?;
-    put_spaces(out, &indent)?;
+    put_spaces(out, front_mark(start))?;
+    put_spaces(out, &rest[..place - start])?;
     out.extend_from_slice(b"^\n")
 }
 
 // From where the line is quoted, so that the place is not too far to the right.
+#[tactic(auto, using(crate::proofs::SpaceLemmas::blank_len))]
 fn start_of(alloc: Global, line: &[u8], place: usize) -> Result<usize, AllocError>
     requires { place ≤ length line.now }
     ensures value { IfOk result (λ start. start ≡ start_of line.now place) }
     ensures within { IfOk result (λ start. start ≤ place) }
 {
     let mut before = Vec::new(alloc);
-    put_shown(&mut before, &line[..place])?;
+    put_spaces(&mut before, &line[..place])?;
     if before.len() <= 90 {
         return Ok(0);
     }
@@ -119,15 +99,4 @@ fn front_mark(start: usize) -> &'static [u8]
         0 => b"".as_slice(),
         _ => b"..".as_slice(),
     }
-}
-
-// What stands in front of the mark's place.
-fn indent_of(alloc: Global, rest: &[u8], start: usize, place: usize) -> Result<Vec<u8>, AllocError>
-    requires { place ≤ length rest.now }
-    ensures { IfOk result (λ indent. indent.items ≡ front_mark start ++ shown (take place rest.now)) }
-{
-    let mut before = Vec::new(alloc);
-    before.extend_from_slice(front_mark(start))?;
-    put_shown(&mut before, &rest[..place])?;
-    Ok(before)
 }

@@ -1,6 +1,5 @@
 -- The bytes of a report: each word here is the text of one thing, and a line ends with its LF.
 use Rattle.std.specs.Prelude.{ℕ, zero, suc, ◌+◌, ◌-◌, ◌*◌, ◌/◌, ◌%◌, Bool, cond, nat_lt, List, [], ◌∷◌, ◌++◌, flat_map, Option, Some, None, codes, decimal}
-use Rattle.std.specs.Char.{digit_char}
 use Rattle.er_trace.specs.Names.{NameTable}
 use Rattle.er_event.specs.Refusal.{text_of, refusal_of}
 use Rattle.er_event.specs.declared.refusals.NoRoom.{NoRoom}
@@ -14,6 +13,7 @@ use Rattle.er_event.specs.declared.steps.WordState.{WordState}
 use Rattle.er_event.specs.declared.steps.WordState.TheVariants.{Virgin, Exclusive, Shared, SharedModified}
 use Rattle.er_trace.specs.Trace.{Recording}
 use Rattle.er_journal.specs.declared.answers.Stopped.{Stopped}
+use Rattle.er_lines.specs.Number.{hex_digits}
 use Rattle.er_report.specs.Report.{Summary, report_of, told}
 use Rattle.er_report.specs.Lines.{LineView, RaceView, RacedView, RefusedView, ShownView}
 use Rattle.er_report.specs.declared.report.Because.{Because}
@@ -32,11 +32,6 @@ pub use Rattle.er_report.specs.Lines.{RacedView, line_view}
 pub use Rattle.er_report.specs.Names.{HasEventNames, HasLockNames, HasNames, HasRaceNames, HasReasonNames, HasStateNames}
 pub use Rattle.er_report.specs.Report.{told}
 pub use Rattle.er_report.specs.Reports.{HaveNames}
-
--- so many lower-case hexadecimal digits, of which the last is the lowest
-unfoldable pub hex_digits : ℕ → ℕ → List ℕ
-hex_digits zero n = []
-hex_digits (suc k) n = hex_digits k (n / 16) ++ digit_char (n % 16) ∷ []
 
 -- the address of a word's first byte
 abbrev pub address_text : ℕ → List ℕ

@@ -21,8 +21,9 @@
 //! ```
 #![tactic(auto)]
 
+pub use er_lines::put_number;
 pub use lines::{ReportKind, bytes_of, put_end, put_lost};
-pub use naming::{event_verb, put_address, put_number, verb};
+pub use naming::{event_verb, put_address, verb};
 pub use pieces::{Piece, put_all};
 pub use report::{Built, Put, WriteFault, report_text, reports_text, write_report, write_text};
 pub use styles::{Style, comma_before, put_escaped, put_short, put_string};

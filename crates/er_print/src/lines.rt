@@ -4,11 +4,12 @@ ghost use Rattle.er_event.specs.Refusal.{text_of};
 ghost use Rattle.er_report.specs.declared.report.Deed.TheVariants as deed;
 ghost use Rattle.er_print.specs.Printed.{HasEventNames, event_text, kind_text, name_at, HasNames, HasRaceNames, HasReasonNames, RacedView, line_view, told, bytes_between, deed_text, place_text, race_label, races_label, reason_text, line_text, stop_text, count_text, counts_text, lost_text, totals_text, end_text};
 
-use crate::naming::{put_address, put_event, put_number};
+use crate::naming::{put_address, put_event};
 use crate::pieces::Piece::{Address, Label, NamedSite, Number, State, Text, Thread, Verb};
 use crate::styles::{Style, put_locks_in, put_site_in};
 use crate::{Put, put};
 use er_event::{Kind, NoRoom, PageRange, Refusal, Step, ThreadId, Word};
+use er_lines::put_number;
 use er_report::{Because, Deed, Line, Race, Report};
 use er_trace::Names;
 

@@ -1,22 +1,12 @@
-//! Numbers, events and states as text. Each is put behind the bytes that are there, with no text of its own in memory.
-ghost use Rattle.std.specs.Prelude.{◌≡◌, ◌++◌, ◌<◌, OnOk, decimal};
-ghost use Rattle.std.specs.Char.{digit_char};
-ghost use Rattle.er_print.specs.Printed.{HasEventNames, HasLockNames, HasStateNames, address_text, candidates_text, event_text, event_verb, hex_digits, kind_text, state_text};
+//! Addresses, events and states as text. Each is put behind the bytes that are there, with no text of its own in memory.
+ghost use Rattle.std.specs.Prelude.{◌≡◌, ◌++◌, OnOk};
+ghost use Rattle.er_print.specs.Printed.{HasEventNames, HasLockNames, HasStateNames, address_text, candidates_text, event_text, event_verb, kind_text, state_text};
 
 use crate::Put;
 use crate::styles::{Style, put_lock_in, put_locks_in};
 use er_event::{Event, Kind, Lockset, Mode, Sync, Word, WordState};
+use er_lines::put_hex;
 use er_trace::Names;
-use itoa::Buffer;
-
-/// Puts a number in decimal, without leading zeros.
-#[inline]
-pub fn put_number(out: &mut Vec<u8>, n: u64) -> Put
-    ensures { OnOk result (out.new.items ≡ out.old.items ++ decimal n) }
-{
-    let mut digits = Buffer::new();
-    out.extend_from_slice(digits.format(n).as_bytes())
-}
 
 /// Puts the address of the word's first byte.
 pub fn put_address(out: &mut Vec<u8>, word: Word) -> Put
@@ -101,27 +91,4 @@ fn put_candidates(out: &mut Vec<u8>, names: &Names, locks: &Lockset) -> Put
 {
     out.extend_from_slice(b", candidates ")?;
     put_locks_in(out, Style::Plain, names, locks.as_slice())
-}
-
-// Puts so many hexadecimal digits, of which the last is the lowest.
-fn put_hex(out: &mut Vec<u8>, count: u32, n: u64) -> Put
-    ensures { OnOk result (out.new.items ≡ out.old.items ++ hex_digits count n) }
-{
-    if count == 0 {
-        return Ok(());
-    }
-    put_hex(out, count - 1, n / 16)?;
-    out.push(hex_digit(n % 16))?;
-    Ok(())
-}
-
-fn hex_digit(digit: u64) -> u8
-    requires { digit < 16 }
-    ensures { result ≡ digit_char digit }
-{
-    if digit < 10 {
-        b'0' + digit as u8
-    } else {
-        b'a' + (digit as u8 - 10)
-    }
 }

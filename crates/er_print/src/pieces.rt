@@ -4,11 +4,12 @@ ghost use Rattle.er_print.specs.Inner.Joined.{joined_text};
 ghost use Rattle.er_print.specs.Pieces.{HasPieceName, HavePieceNames, before_of, piece_text, pieces_text, value_text};
 
 use crate::Put;
-use crate::naming::{put_address, put_event, put_number, put_state, verb};
+use crate::naming::{put_address, put_event, put_state, verb};
 use crate::styles::{
     Style, put_label_in, put_lock_in, put_locks_in, put_name, put_named_site, put_site_in,
 };
 use er_event::{Kind, LockId, ThreadId, Word, WordState};
+use er_lines::put_number;
 use er_trace::Names;
 
 /// A part of a text: a value, with these bytes before it.

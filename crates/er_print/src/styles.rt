@@ -5,8 +5,8 @@ ghost use Rattle.er_print.specs.Values.{between_text, comma_before};
 ghost use Rattle.er_report.specs.Names.{HasLabelName, HasLockName, HasLockNames};
 
 use crate::Put;
-use crate::naming::put_number;
 use er_event::{LockId, Site};
+use er_lines::put_number;
 use er_report::Label;
 use er_trace::Names;
 
