@@ -147,26 +147,26 @@ module _ (names : NameTable) where
   same_rule : (rules : List Target) (r : Target) (place : ℕ) (l : Line) → IsTaken names rules l → is_taken_by names rules place l ≡ is_taken_by names (rules ++ r ∷ []) place l
   same_rule rules r place l = of (race_of l)
     where
-      of : (o : Option KnownRace) → IfSome o (λ race. IsSome (rule_of names rules race.raced)) → is_rule place (first_rule names rules o) ≡ is_rule place (first_rule names (rules ++ r ∷ []) o)
+      of : (o : Option KnownRace) → IfSome o (λ race. IsSome (rule_of names rules race.deed race.site)) → is_rule place (first_rule names rules o) ≡ is_rule place (first_rule names (rules ++ r ∷ []) o)
       of None taken = refl
-      of (Some race) taken = by (rule_of names rules race.raced) refl taken
+      of (Some race) taken = by (rule_of names rules race.deed race.site) refl taken
         where
-          by : (o : Option ℕ) → rule_of names rules race.raced ≡ o → IsSome o → is_rule place (rule_of names rules race.raced) ≡ is_rule place (rule_of names (rules ++ r ∷ []) race.raced)
+          by : (o : Option ℕ) → rule_of names rules race.deed race.site ≡ o → IsSome o → is_rule place (rule_of names rules race.deed race.site) ≡ is_rule place (rule_of names (rules ++ r ∷ []) race.deed race.site)
           by None e some = absurd (cc)
-          by (Some i) e some = ap (is_rule place) e ∙ sym (ap (is_rule place) (place_stays (takes_race names race.raced) rules r i e))
+          by (Some i) e some = ap (is_rule place) e ∙ sym (ap (is_rule place) (place_stays (takes_race names race.deed race.site) rules r i e))
 
   -- and has none of theirs
   not_new : (rules : List Target) (l : Line) → IsTaken names rules l → is_taken_by names rules (length rules) l ≡ false
   not_new rules l = of (race_of l)
     where
-      of : (o : Option KnownRace) → IfSome o (λ race. IsSome (rule_of names rules race.raced)) → is_rule (length rules) (first_rule names rules o) ≡ false
+      of : (o : Option KnownRace) → IfSome o (λ race. IsSome (rule_of names rules race.deed race.site)) → is_rule (length rules) (first_rule names rules o) ≡ false
       of None taken = refl
-      of (Some race) taken = by (rule_of names rules race.raced) refl taken
+      of (Some race) taken = by (rule_of names rules race.deed race.site) refl taken
         where
-          by : (o : Option ℕ) → rule_of names rules race.raced ≡ o → IsSome o → is_rule (length rules) (rule_of names rules race.raced) ≡ false
+          by : (o : Option ℕ) → rule_of names rules race.deed race.site ≡ o → IsSome o → is_rule (length rules) (rule_of names rules race.deed race.site) ≡ false
           by None e some = absurd (cc)
           by (Some i) e some =
-              let below : i < length rules = place_below (takes_race names race.raced) rules i e in
+              let below : i < length rules = place_below (takes_race names race.deed race.site) rules i e in
               let other : (length rules == i) ≡ false = grind (arith, nat_tests) in
               ap (is_rule (length rules)) e ∙ other
 
@@ -250,17 +250,17 @@ counted_on names known lines line taken few counted = of (race_of line) refl
   where
     of : (o : Option KnownRace) → race_of line ≡ o → AreCounts names (lines ++ line ∷ []) (with_race names known o)
     of None e = skipped names known lines line (λ place. ap (λ (o : Option KnownRace). is_rule place (first_rule names (map (known_target names) known) o)) e) counted
-    of (Some race) e = by (rule_of names (map (known_target names) known) race.raced) refl
+    of (Some race) e = by (rule_of names (map (known_target names) known) race.deed race.site) refl
       where
-        at_rules : (rules : List Target) (place : ℕ) (o : Option ℕ) → rule_of names rules race.raced ≡ o → is_taken_by names rules place line ≡ is_rule place o
+        at_rules : (rules : List Target) (place : ℕ) (o : Option ℕ) → rule_of names rules race.deed race.site ≡ o → is_taken_by names rules place line ≡ is_rule place o
         at_rules rules place o is = ap (λ (r : Option KnownRace). is_rule place (first_rule names rules r)) e ∙ ap (is_rule place) is
 
-        by : (o : Option ℕ) → rule_of names (map (known_target names) known) race.raced ≡ o → AreCounts names (lines ++ line ∷ []) (with_race_at o known race)
+        by : (o : Option ℕ) → rule_of names (map (known_target names) known) race.deed race.site ≡ o → AreCounts names (lines ++ line ∷ []) (with_race_at o known race)
         by None none =
             let rules : List Target = map (known_target names) known in
             let r : Target = known_target names race in
             let size : length rules ≡ length known = length-map known (known_target names) in
-            let here : rule_of names (rules ++ r ∷ []) race.raced ≡ Some (length known) = place_new (takes_race names race.raced) rules r none (own names race.raced) ∙ ap Some size in
+            let here : rule_of names (rules ++ r ∷ []) race.deed race.site ≡ Some (length known) = place_new (takes_race names race.deed race.site) rules r none (own names race.deed race.site) ∙ ap Some size in
             let at : (length known == length known) ≡ true = grind (arith, nat_tests) in
             let one : race.races ≡ 1 = sym (ap races_in e) ∙ alone line in
             added names known lines line race r refl taken counted (at_rules (rules ++ r ∷ []) (length known) (Some (length known)) here ∙ at)
@@ -269,7 +269,7 @@ counted_on names known lines line taken few counted = of (race_of line) refl
         by (Some at) some =
             let rules : List Target = map (known_target names) known in
             let size : length rules ≡ length known = length-map known (known_target names) in
-            let low : at < length known = omega (arith, place_below (takes_race names race.raced) rules at some) in
+            let low : at < length known = omega (arith, place_below (takes_race names race.deed race.site) rules at some) in
             let found : slice_get known at ≡ Some (get_or known at race) = slice_get-get_or known at race low in
             subst (λ (o : Option KnownRace). AreCounts names (lines ++ line ∷ []) (with_one_more known at o)) (sym found)
             (counted_at names known lines line at (get_or known at race) found few counted (λ place. at_rules rules place (Some at) some))
@@ -277,7 +277,7 @@ counted_on names known lines line taken few counted = of (race_of line) refl
 -- the rules of the known races, with another and with those of some lines
 one_rule : (names : NameTable) (known : List KnownRace) (o : Option KnownRace) → map (known_target names) (with_race names known o) ≡ with_rule names (map (known_target names) known) o
 one_rule names known None = refl
-one_rule names known (Some race) = by (rule_of names (map (known_target names) known) race.raced)
+one_rule names known (Some race) = by (rule_of names (map (known_target names) known) race.deed race.site)
   where
     same : (place : ℕ) (o : Option KnownRace) → slice_get known place ≡ o → map (known_target names) (with_one_more known place o) ≡ map (known_target names) known
     same place None e = refl

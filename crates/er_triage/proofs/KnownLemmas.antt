@@ -7,13 +7,13 @@ use Rattle.std.proofs.lemmas.List.Folds.{position_or_len_push}
 use Rattle.std.proofs.lemmas.List.Sums.{prefix_len-le-length}
 use Rattle.std.proofs.lemmas.Slice.Eq.{bytes_eq-Decides}
 use Rattle.er_report.specs.Report.{site_name}
+use Rattle.er_report.specs.declared.report.Deed.{Deed}
+use Rattle.er_report.specs.declared.report.Deed.TheVariants.{Access, Reuse}
 use Rattle.er_report.specs.declared.report.Line.{Line}
 use Rattle.er_rules.specs.Rules.{Target, takes, takes_reuse}
 use Rattle.er_trace.specs.Names.{NameTable}
 use Rattle.er_triage.specs.Known.{known_target, race_of, race_target, rule_of, rules_of, takes_race, target_at, with_rule, IsTaken}
 use Rattle.er_triage.specs.declared.known.KnownRace.{KnownRace}
-use Rattle.er_triage.specs.declared.known.Raced.{Raced}
-use Rattle.er_triage.specs.declared.known.Raced.TheVariants.{Access, Reuse}
 
 module _ {X : Type 0} (p : X → Bool) where
   within : (xs : List X) → position_or_len p xs < length xs → IsSome (position p xs)
@@ -53,23 +53,23 @@ own_reuse : (site : Option (List ℕ)) (lo hi : ℕ) → lo ≤ hi → takes_reu
 own_reuse None lo hi ordered = grind (arith, nat_tests, ordered)
 own_reuse (Some name) lo hi ordered = grind (arith, bytes_eq-Decides)
 
-pub own : (names : NameTable) (raced : Raced) → takes_race names raced (race_target names raced) ≡ true
-own names (Access kind word site) = own_access (site_name names site) word
-own names (Reuse range site) = own_reuse (site_name names site) range.lo range.hi range.ordered
+pub own : (names : NameTable) (what : Deed) (site : ℕ) → takes_race names what site (race_target names what site) ≡ true
+own names (Access kind word) site = own_access (site_name names site) word
+own names (Reuse range) site = own_reuse (site_name names site) range.lo range.hi range.ordered
 
 module _ (names : NameTable) where
   -- if there is a race, one of the rules takes it
   abbrev Takes : List Target → Option KnownRace → Type 0
-  Takes rules o = IfSome o (λ race. IsSome (rule_of names rules race.raced))
+  Takes rules o = IfSome o (λ race. IsSome (rule_of names rules race.deed race.site))
 
   -- a rule more takes no race away
   more : (rules : List Target) (t : Target) (o : Option KnownRace) → Takes rules o → Takes (rules ++ t ∷ []) o
   more rules t None taken = tt
-  more rules t (Some race) taken = by_others (takes_race names race.raced) rules t taken
+  more rules t (Some race) taken = by_others (takes_race names race.deed race.site) rules t taken
 
   stays : (rules : List Target) (o other : Option KnownRace) → Takes rules o → Takes (with_rule names rules other) o
   stays rules o None taken = taken
-  stays rules o (Some race) taken = by (is_some (rule_of names rules race.raced))
+  stays rules o (Some race) taken = by (is_some (rule_of names rules race.deed race.site))
     where
       by : (b : Bool) → Takes (cond b rules (rules ++ known_target names race ∷ [])) o
       by true = taken
@@ -83,11 +83,11 @@ module _ (names : NameTable) where
   -- and a race is taken once it was gone over
   now : (rules : List Target) (o : Option KnownRace) → Takes (with_rule names rules o) o
   now rules None = tt
-  now rules (Some race) = by (is_some (rule_of names rules race.raced)) refl
+  now rules (Some race) = by (is_some (rule_of names rules race.deed race.site)) refl
     where
-      by : (b : Bool) → is_some (rule_of names rules race.raced) ≡ b → IsSome (rule_of names (cond b rules (rules ++ known_target names race ∷ [])) race.raced)
+      by : (b : Bool) → is_some (rule_of names rules race.deed race.site) ≡ b → IsSome (rule_of names (cond b rules (rules ++ known_target names race ∷ [])) race.deed race.site)
       by true e = e
-      by false e = by_last (takes_race names race.raced) rules (known_target names race) (own names race.raced)
+      by false e = by_last (takes_race names race.deed race.site) rules (known_target names race) (own names race.deed race.site)
 
   all_from : (lines : List Line) (rules : List Target) (k : ℕ) (d : Line) → k < length lines
       → IsTaken names (fold (λ (rules : List Target) (line : Line). with_rule names rules (race_of line)) rules lines) (slice_index_or lines k d)

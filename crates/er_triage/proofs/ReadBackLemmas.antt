@@ -17,14 +17,14 @@ use Rattle.std.proofs.lemmas.List.Sums.{AllPass-from_list_all, list_all-from_All
 use Rattle.er_event.specs.Span.{Span}
 use Rattle.er_event.specs.declared.steps.Kind.{Kind}
 use Rattle.er_event.specs.declared.steps.Kind.TheVariants.{Read, Write}
-use Rattle.er_print.specs.Printed.{address_text, bytes_between, hex_digits, kind_text, name_at}
+use Rattle.er_print.specs.Printed.{address_text, bytes_between, kind_text, name_at}
 use Rattle.er_report.specs.Report.{site_name}
 use Rattle.er_rules.specs.Rules.{Target, AtSite, AtWords}
 use Rattle.er_text.specs.Events.{run_of}
 use Rattle.er_lines.specs.FirstFault.{IsPlain}
 use Rattle.er_lines.specs.Lines.{Line, Placed, placed_from, lines_of, is_end, is_gap, is_ascii, is_comment, has_bytes, has_content, onto_line, says_something, word_at, words, width}
 use Rattle.er_lines.specs.Naming.{is_name, is_name_byte, is_site_name, is_site_byte}
-use Rattle.er_lines.specs.Number.{number_of, value_in}
+use Rattle.er_lines.specs.Number.{hex_digits, number_of, value_in}
 use Rattle.er_rules.specs.Texts.{AllRule, IsRule, IsRules}
 use Rattle.er_trace.specs.Names.{NameTable}
 use Rattle.er_sites.specs.System.{is_system_name}
@@ -32,8 +32,8 @@ use Rattle.er_triage.specs.Known.{known_target, race_target, target_at}
 use Rattle.er_triage.specs.Sound.{NamesSite, AreSound, IsInMemory, IsSound}
 use Rattle.er_triage.specs.Texts.{comment_text, count_text, hidden_text, known_races_text, known_text, raced_text, target_text}
 use Rattle.er_triage.specs.declared.known.KnownRace.{KnownRace}
-use Rattle.er_triage.specs.declared.known.Raced.{Raced}
-use Rattle.er_triage.specs.declared.known.Raced.TheVariants.{Access, Reuse}
+use Rattle.er_report.specs.declared.report.Deed.{Deed}
+use Rattle.er_report.specs.declared.report.Deed.TheVariants.{Access, Reuse}
 
 -- a byte from a space to `~`
 abbrev is_printed : ℕ → Bool
@@ -364,15 +364,15 @@ kind_piece : (kind : Kind) → IsPiece 5 (kind_text kind)
 kind_piece Read = literal (codes "read") 5 refl refl
 kind_piece Write = literal (codes "write") 5 refl refl
 
-raced_piece : (names : NameTable) (thread : ℕ) (raced : Raced) → AreSound names → thread < length names.threads → IsInMemory raced → IsPiece 170 (raced_text names thread raced)
-raced_piece names thread (Access kind word site) sound named memory =
+raced_piece : (names : NameTable) (thread : ℕ) (what : Deed) → AreSound names → thread < length names.threads → IsInMemory what → IsPiece 170 (raced_text names thread what)
+raced_piece names thread (Access kind word) sound named memory =
     let name : List ℕ = name_at names.threads thread in
     let space : IsPiece 1 (codes " ") = literal (codes " ") 1 refl refl in
     wider 149 170 (name ++ codes " " ++ kind_text kind ++ codes " " ++ address_text word) (omega arith)
     (both 135 14 (name ++ codes " " ++ kind_text kind ++ codes " ") (address_text word)
     (both 134 1 (name ++ codes " " ++ kind_text kind) (codes " ") (both 129 5 (name ++ codes " ") (kind_text kind)
     (both 128 1 name (codes " ") (name_piece names thread sound named) space) (kind_piece kind)) space) (address_piece word memory))
-raced_piece names thread (Reuse range site) sound named memory =
+raced_piece names thread (Reuse range) sound named memory =
     let name : List ℕ = name_at names.threads thread in
     let ordered : range.lo ≤ range.hi = range.ordered in
     let most : range.hi < 2 ^ 46 = memory in
@@ -390,10 +390,10 @@ count_piece names race is =
     (both 8 20 (codes "# races ") (decimal race.races) (literal (codes "# races ") 8 refl refl) (number_piece race.races is.races))
     (literal (codes ", first: line ") 14 refl refl)) (number_piece race.line is.line)
 
-taken_piece : (names : NameTable) (race : KnownRace) → AreSound names → IsSound names race → IsPiece 234 (count_text race ++ codes ", " ++ raced_text names race.thread race.raced)
+taken_piece : (names : NameTable) (race : KnownRace) → AreSound names → IsSound names race → IsPiece 234 (count_text race ++ codes ", " ++ raced_text names race.thread race.deed)
 taken_piece names race sound is =
-    both 64 170 (count_text race ++ codes ", ") (raced_text names race.thread race.raced)
-    (both 62 2 (count_text race) (codes ", ") (count_piece names race is) (literal (codes ", ") 2 refl refl)) (raced_piece names race.thread race.raced sound is.named.0 is.memory)
+    both 64 170 (count_text race ++ codes ", ") (raced_text names race.thread race.deed)
+    (both 62 2 (count_text race) (codes ", ") (count_piece names race is) (literal (codes ", ") 2 refl refl)) (raced_piece names race.thread race.deed sound is.named.0 is.memory)
 
 -- the site of a race is the missing one, or has a name that names a site
 sound_at : (site : Option (List ℕ)) (lo hi : ℕ) → lo ≤ hi → hi < 2 ^ 46 → ((name : List ℕ) → site ≡ Some name → NamesSite name) → IsSoundTarget (target_at site lo hi)
@@ -404,9 +404,9 @@ site_sound : (names : NameTable) (n : ℕ) → AreSound names → (name : List �
 site_sound names zero sound name e = absurd (cc)
 site_sound names (suc k) sound name e = subst NamesSite (get_or_from_slice_get names.sites k name name e) (sound.sites k name (slice_get_within names.sites k name e))
 
-raced_sound : (names : NameTable) (raced : Raced) → AreSound names → IsInMemory raced → IsSoundTarget (race_target names raced)
-raced_sound names (Access kind word site) sound memory = sound_at (site_name names site) word word (omega arith) memory (site_sound names site sound)
-raced_sound names (Reuse range site) sound memory = sound_at (site_name names site) range.lo range.hi range.ordered memory (site_sound names site sound)
+raced_sound : (names : NameTable) (what : Deed) (site : ℕ) → AreSound names → IsInMemory what → IsSoundTarget (race_target names what site)
+raced_sound names (Access kind word) site sound memory = sound_at (site_name names site) word word (omega arith) memory (site_sound names site sound)
+raced_sound names (Reuse range) site sound memory = sound_at (site_name names site) range.lo range.hi range.ordered memory (site_sound names site sound)
 
 split_known : (taken hidden target rest : List ℕ) → (taken ++ 10 ∷ [] ++ hidden ++ target ++ 10 ∷ []) ++ rest ≡ taken ++ 10 ∷ (hidden ++ (target ++ 10 ∷ rest))
 split_known taken hidden target rest = simp append_assoc
@@ -414,9 +414,9 @@ split_known taken hidden target rest = simp append_assoc
 race_read : (names : NameTable) (race : KnownRace) (rest : List ℕ) (targets : List Target) → AreSound names → IsSound names race → AreRead (lines_of rest) targets
     → AreRead (lines_of (known_text names race ++ rest)) (known_target names race ∷ targets)
 race_read names race rest targets sound is more =
-    let taken : List ℕ = count_text race ++ codes ", " ++ raced_text names race.thread race.raced in
+    let taken : List ℕ = count_text race ++ codes ", " ++ raced_text names race.thread race.deed in
     let target : Target = known_target names race in
-    let known : IsSoundTarget target = raced_sound names race.raced sound is.memory in
+    let known : IsSoundTarget target = raced_sound names race.deed race.site sound is.memory in
     subst (λ (text : List ℕ). AreRead (lines_of text) (target ∷ targets)) (sym (split_known taken (hidden_text target) (target_text target) rest))
     (comment_in taken (hidden_text target ++ (target_text target ++ 10 ∷ rest)) (target ∷ targets) (wider 234 1024 taken (omega arith) (taken_piece names race sound is)) refl
     (hidden_read target (target_text target ++ 10 ∷ rest) (target ∷ targets) known (target_read target rest targets known more)))

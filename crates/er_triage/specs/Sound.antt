@@ -2,12 +2,12 @@
 use Rattle.std.specs.Prelude.{◌≡◌, ℕ, ◌^◌, ◌<◌, true, false, List, All, codes}
 use Rattle.std.specs.Str.{bytes_eq}
 use Rattle.er_lines.specs.Naming.{is_name, is_site_name}
+use Rattle.er_report.specs.declared.report.Deed.{Deed}
+use Rattle.er_report.specs.declared.report.Deed.TheVariants.{Access, Reuse}
 use Rattle.er_trace.specs.Names.{NameTable}
 use Rattle.er_triage.specs.Known.{IsNamed}
 use Rattle.er_triage.specs.declared.known.KnownRace.{KnownRace}
 pub use Rattle.er_triage.specs.declared.known.KnownRace.{KnownRace as KnownRaceOf}
-use Rattle.er_triage.specs.declared.known.Raced.{Raced}
-use Rattle.er_triage.specs.declared.known.Raced.TheVariants.{Access, Reuse}
 
 -- the bytes name a site, and are not the dash of the missing one
 abbrev pub NamesSite : List ℕ → Type 0
@@ -19,13 +19,13 @@ pub record AreSound (names : NameTable) : Type 0 where
   pub sites : All NamesSite names.sites
 
 -- its words are words of memory
-abbrev pub IsInMemory : Raced → Type 0
-IsInMemory (Access kind word site) = word < 2 ^ 46
-IsInMemory (Reuse range site) = range.hi < 2 ^ 46
+abbrev pub IsInMemory : Deed → Type 0
+IsInMemory (Access kind word) = word < 2 ^ 46
+IsInMemory (Reuse range) = range.hi < 2 ^ 46
 
 -- the race has names, and its numbers are those of words of memory and of 64 bits
 pub record IsSound (names : NameTable) (race : KnownRace) : Type 0 where
   pub named : IsNamed names race
   pub line : race.line < 2 ^ 64
   pub races : race.races < 2 ^ 64
-  pub memory : IsInMemory race.raced
+  pub memory : IsInMemory race.deed

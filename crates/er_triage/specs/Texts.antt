@@ -1,6 +1,8 @@
 -- The texts of rules, to the byte.
 use Rattle.std.specs.Prelude.{◌≡◌, ◌&&◌, ℕ, zero, suc, All, Bool, true, false, cond, ◌+◌, ◌-◌, ◌*◌, List, [], ◌∷◌, ◌++◌, flat_map, map, slice_get, Option, Some, None, codes, decimal}
 use Rattle.er_print.specs.Printed.{address_text, bytes_between, kind_text, name_at}
+use Rattle.er_report.specs.declared.report.Deed.{Deed}
+use Rattle.er_report.specs.declared.report.Deed.TheVariants.{Access, Reuse}
 use Rattle.er_report.specs.declared.report.Line.{Line}
 use Rattle.er_report.specs.declared.report.Report.{Report}
 use Rattle.er_report.specs.declared.reports.Reports.{Reports}
@@ -10,8 +12,6 @@ use Rattle.er_trace.specs.Names.{NameTable}
 use Rattle.er_triage.specs.Known.{known_target, rules_of, AreCounts}
 use Rattle.er_triage.specs.Sound.{IsSound}
 use Rattle.er_triage.specs.declared.known.KnownRace.{KnownRace}
-use Rattle.er_triage.specs.declared.known.Raced.{Raced}
-use Rattle.er_triage.specs.declared.known.Raced.TheVariants.{Access, Reuse}
 
 -- a rule as a suppression text has it; the size is in bytes
 abbrev pub target_text : Target → List ℕ
@@ -21,9 +21,9 @@ target_text (AtWords None) = codes "words 0 0"
 target_text (AtWords (Some run)) = codes "words " ++ address_text run.first ++ codes " " ++ decimal (4 * (run.last + 1 - run.first))
 
 -- who did what to which word, or gave back which words
-abbrev pub raced_text : NameTable → ℕ → Raced → List ℕ
-raced_text names thread (Access kind word site) = name_at names.threads thread ++ codes " " ++ kind_text kind ++ codes " " ++ address_text word
-raced_text names thread (Reuse range site) = name_at names.threads thread ++ codes " reuse " ++ address_text range.lo ++ codes " " ++ decimal (bytes_between range.lo range.hi)
+abbrev pub raced_text : NameTable → ℕ → Deed → List ℕ
+raced_text names thread (Access kind word) = name_at names.threads thread ++ codes " " ++ kind_text kind ++ codes " " ++ address_text word
+raced_text names thread (Reuse range) = name_at names.threads thread ++ codes " reuse " ++ address_text range.lo ++ codes " " ++ decimal (bytes_between range.lo range.hi)
 
 -- how many races a rule takes, and the line of the first of them
 abbrev pub count_text : KnownRace → List ℕ
@@ -31,7 +31,7 @@ count_text race = codes "# races " ++ decimal race.races ++ codes ", first: line
 
 -- what a rule takes: how many races, and the first of them
 abbrev pub taken_text : NameTable → KnownRace → List ℕ
-taken_text names race = count_text race ++ codes ", " ++ raced_text names race.thread race.raced ++ 10 ∷ []
+taken_text names race = count_text race ++ codes ", " ++ raced_text names race.thread race.deed ++ 10 ∷ []
 
 unfoldable pub comment_text : List ℕ → List ℕ
 comment_text name = codes "# " ++ name ++ codes " is a line of a system header: this rule hides the races of every part of the program that uses it\n"

@@ -1,25 +1,16 @@
 //! A rule for each race that no rule before it takes, and the rules of several files, one behind another.
-ghost use Rattle.std.specs.Prelude.{◌≡◌, ◌++◌, ◌<◌, ◌^◌, All, length, map, slice_get, Some, IfOk, IfSome, OnOk};
+ghost use Rattle.std.specs.Prelude.{◌≡◌, ◌++◌, ◌<◌, ◌≤◌, ◌^◌, All, length, map, slice_get, Some, IfOk, IfSome, OnOk};
 ghost use Rattle.er_rules.specs.Rules.{target_of, targets_of};
-ghost use Rattle.er_triage.specs.Known.{HasNames, HaveNames, NameTable, known_target, lines_in, lines_of, race_of, race_target, raced_of, rule_of, rules_of, AreCounts, HasRacedName, IsTaken};
+ghost use Rattle.er_triage.specs.Known.{HasNames, HaveNames, NameTable, known_target, lines_in, lines_of, race_of, rule_of, rules_of, AreCounts, IsTaken};
 ghost use Rattle.er_triage.specs.Inner.Counting.{with_one_more, with_race, with_races};
 ghost use Rattle.er_triage.specs.Sound.{IsSound};
 
-use er_event::{Kind, PageRange, Site, ThreadId, Word};
+use er_event::{Site, ThreadId};
 use er_print::Put;
 use er_report::{Deed, Line, Report, Reports, name_of};
 use er_rules::{Rule, Suppressions, WordSpan};
 use er_trace::Names;
 use std::alloc::{AllocError, Global};
-
-/// What a race is of.
-#[derive(Clone, Copy, Debug, PartialEq, Eq)]
-pub enum Raced {
-    /// An access: whether it read or wrote, the word that it touched, and where in the program it stands.
-    Access(Kind, Word, Site),
-    /// A reuse, of the words that were given back, and where in the program it stands.
-    Reuse(PageRange, Site),
-}
 
 /// The races that one rule takes, by the first of them.
 #[derive(Clone, Copy, Debug, PartialEq, Eq)]
@@ -28,8 +19,10 @@ pub struct KnownRace {
     pub line: u64,
     /// Whose step it is.
     pub thread: ThreadId,
-    /// What it is of. Its rule is by its site, or by its words at the missing site.
-    pub raced: Raced,
+    /// What it is of.
+    pub deed: Deed,
+    /// Where in the program it stands. Its rule is by this site, or by its words if it is the missing one.
+    pub site: Site,
     /// How many races the rule takes, the first among them, up to the greatest number.
     pub races: u64,
 }
@@ -103,18 +96,10 @@ fn race_of(names: &Names, line: &Line) -> Option<KnownRace>
     Some(KnownRace {
         line: race.line,
         thread: race.thread,
-        raced: raced_of(race.deed, race.site),
+        deed: race.deed,
+        site: race.site,
         races: 1,
     })
-}
-
-fn raced_of(deed: Deed, site: Site) -> Raced
-    ensures { result ≡ raced_of deed site }
-{
-    match deed {
-        Deed::Access(kind, word) => Raced::Access(kind, word, site),
-        Deed::Reuse(range) => Raced::Reuse(range, site),
-    }
 }
 
 // Counts a race at the first rule that takes it, and adds a rule for it if none does.
@@ -131,27 +116,29 @@ fn add_race(
     ensures counted { OnOk result (known.new.items ≡ with_race names.now known.old.items (Some race)) }
     ensures sound { OnOk result (All (IsSound names.now) known.new.items) }
 {
-    match rule_of(rules, names, race.raced) {
+    match rule_of(rules, names, &race) {
         Some(place) => {
             count_race(known, place);
             Ok(())
         }
         None => {
             let alloc = *known.allocator();
-            rules.push(rule_for(alloc, names, race.raced)?)?;
-            Ok(known.push(race)?)
+            rules.push(rule_for(alloc, names, &race)?)?;
+            // Built anew for the prover.
+            Ok(known.push(KnownRace { ..race })?)
         }
     }
 }
 
-fn rule_of(rules: &Suppressions, names: &Names, raced: Raced) -> Option<usize>
-    requires { HasRacedName names.now raced }
-    ensures rule { result ≡ rule_of names.now (targets_of rules.now) raced }
+fn rule_of(rules: &Suppressions, names: &Names, race: &KnownRace) -> Option<usize>
+    requires { race.now.site ≤ length names.now.sites }
+    ensures rule { result ≡ rule_of names.now (targets_of rules.now) race.now.deed race.now.site }
     ensures within { IfSome result (λ rule. rule < length (targets_of rules.now)) }
 {
-    match raced {
-        Raced::Access(_, word, site) => rules.matching_rule(name_of(names, site), word),
-        Raced::Reuse(range, site) => rules.matching_reuse(name_of(names, site), range),
+    let site = name_of(names, race.site);
+    match race.deed {
+        Deed::Access(_, word) => rules.matching_rule(site, word),
+        Deed::Reuse(range) => rules.matching_reuse(site, range),
     }
 }
 
@@ -166,15 +153,15 @@ fn count_race(known: &mut Vec<KnownRace>, place: usize)
     known[place] = race;
 }
 
-pub(crate) fn rule_for(alloc: Global, names: &Names, raced: Raced) -> Result<Rule, AllocError>
-    requires { HasRacedName names.now raced }
-    ensures { IfOk result (λ rule. target_of rule ≡ race_target names.now raced) }
+pub(crate) fn rule_for(alloc: Global, names: &Names, race: &KnownRace) -> Result<Rule, AllocError>
+    requires { race.now.site ≤ length names.now.sites }
+    ensures { IfOk result (λ rule. target_of rule ≡ known_target names.now race.now) }
 {
-    let (site, first, last) = match raced {
-        Raced::Access(_, word, site) => (site, word, word),
-        Raced::Reuse(range, site) => (site, range.lo, range.hi),
+    let (first, last) = match race.deed {
+        Deed::Access(_, word) => (word, word),
+        Deed::Reuse(range) => (range.lo, range.hi),
     };
-    match name_of(names, site) {
+    match name_of(names, race.site) {
         Some(name) => Ok(Rule::Site(Some(String::from_str(alloc, name)?))),
         None => Ok(Rule::Words(Some(WordSpan { first, last }))),
     }

@@ -18,7 +18,7 @@
 //! ```
 #![tactic(auto)]
 
-pub use known::{KnownRace, Raced, append_rules, known_races};
+pub use known::{KnownRace, append_rules, known_races};
 pub use texts::{
     known_races_text, left_out_text, names_of_a_trace_are_sound, put_rule, unused_rules_text,
     written_rules_are_read_back,

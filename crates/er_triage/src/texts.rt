@@ -8,11 +8,11 @@ ghost use Rattle.er_triage.specs.Known.{known_target, IsNamed, NameTable};
 ghost use Rattle.er_triage.specs.Sound.{AreSound, IsSound, KnownRaceOf};
 ghost use Rattle.er_triage.specs.Texts.{comment_text, hidden_text, is_unused, known_text, known_races_text, left_out_text, taken_text, target_text, took_none, unused_from, unused_text};
 
-use crate::known::{KnownRace, Raced, rule_for};
+use crate::known::{KnownRace, rule_for};
 use er_event::Word;
 use er_print::Piece::{Address, Number, Text, Thread, Verb};
 use er_print::{Built, Put, Style, bytes_of, put, put_address, put_number};
-use er_report::{Report, Reports};
+use er_report::{Deed, Report, Reports};
 use er_rules::{Rule, Suppressions, WordSpan};
 use er_sites::is_system_name;
 use er_trace::Names;
@@ -72,7 +72,7 @@ fn put_known(out: &mut Vec<u8>, names: &Names, race: &KnownRace) -> Put
     ensures { OnOk result (out.new.items ≡ out.old.items ++ known_text names.now race.now) }
 {
     put_taken(out, names, race)?;
-    let rule = rule_for(*out.allocator(), names, race.raced)?;
+    let rule = rule_for(*out.allocator(), names, race)?;
     put_hidden(out, &rule)?;
     put_rule(out, &rule)?;
     out.extend_from_slice(b"\n")
@@ -104,12 +104,12 @@ fn put_taken(out: &mut Vec<u8>, names: &Names, race: &KnownRace) -> Put
     requires { IsNamed names.now race.now }
     ensures { OnOk result (out.new.items ≡ out.old.items ++ taken_text names.now race.now) }
 {
-    match race.raced {
-        Raced::Access(kind, word, _) => put!(out, Style::Plain, names;
+    match race.deed {
+        Deed::Access(kind, word) => put!(out, Style::Plain, names;
             Number(b"# races ", race.races), Number(b", first: line ", race.line),
             Thread(b", ", race.thread), Verb(b" ", kind), Address(b" ", word), Text(b"\n")
         ),
-        Raced::Reuse(range, _) => put!(out, Style::Plain, names;
+        Deed::Reuse(range) => put!(out, Style::Plain, names;
             Number(b"# races ", race.races), Number(b", first: line ", race.line),
             Thread(b", ", race.thread), Address(b" reuse ", range.lo),
             Number(b" ", bytes_of(&range)), Text(b"\n")

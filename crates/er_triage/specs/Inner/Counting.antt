@@ -23,7 +23,7 @@ with_race_at (Some place) known race = with_one_more known place (slice_get know
 -- the known races with another, if there is one
 abbrev pub with_race : NameTable → List KnownRace → Option KnownRace → List KnownRace
 with_race names known None = known
-with_race names known (Some race) = with_race_at (rule_of names (map (known_target names) known) race.raced) known race
+with_race names known (Some race) = with_race_at (rule_of names (map (known_target names) known) race.deed race.site) known race
 
 -- with the races of these lines
 abbrev pub with_races : NameTable → List KnownRace → List Line → List KnownRace
