@@ -128,6 +128,10 @@ pub fresh-either : (b : Bool) (workers more : List Worker) (worker : Worker) →
 fresh-either true workers more worker is stands fresh = rw is (fresh-push workers worker fresh stands)
 fresh-either false workers more worker is stands fresh = rw is fresh
 
+-- workers with the same machines are as many
+pub same-long : (one other : List Worker) → machines_of one ≡ machines_of other → length one ≡ length other
+same-long one other same = sym (length-map one (λ (w : Worker). w.machine)) ∙ (ap length same ∙ length-map other (λ (w : Worker). w.machine))
+
 -- a whole list that is written back
 pub whole-back : {A : Type 0} (n : ℕ) (new old : List A) → length new ≡ length old → n ≡ length old → take n (new ++ drop (length new) old) ≡ new
 whole-back n [] [] same is = rw is refl

@@ -47,14 +47,11 @@ impl ReplayConfig {
     }
 
     /// The same configuration, by which pages, threads and sets of locks are found by these keys.
-    pub fn with_keys(self, keys: HashKeys) -> ReplayConfig
+    pub fn with_keys(mut self, keys: HashKeys) -> ReplayConfig
         ensures { (result.shards ≡ self.shards) × (result.max_sets ≡ self.max_sets) }
     {
-        ReplayConfig {
-            shards: self.shards,
-            max_sets: self.max_sets,
-            keys,
-        }
+        self.keys = keys;
+        self
     }
 }
 

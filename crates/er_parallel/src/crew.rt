@@ -3,7 +3,7 @@ ghost use Rattle.std.specs.Prelude.{◌≡◌, ◌⊎◌, ◌<◌, ◌≤◌, �
 ghost use Rattle.er_event.specs.declared.steps.Step.{Step as Steps};
 ghost use Rattle.er_parallel.specs.Crews.{AreNoted, AreUnusual, HasFollowed, HaveAnswered};
 ghost use Rattle.er_parallel.specs.Faults.{MayFail};
-ghost use Rattle.er_parallel.specs.Inner.Crewing.{AreFresh, crewed};
+ghost use Rattle.er_parallel.specs.Inner.Crewing.{AreFresh};
 ghost use Rattle.er_parallel.specs.Inner.Faults.{IsFaultOf, IsLeastFault, IsLesser, NoFaultBelow};
 ghost use Rattle.er_parallel.specs.Inner.Merging.{AreApart, AreMerged, IsLeastHead, IsLesserHead, IsTaken, NoHeadBelow, machines_of};
 ghost use Rattle.er_parallel.specs.Inner.Taking.{HasTaken};
@@ -60,14 +60,12 @@ impl<'t> Crew<'t> {
         ensures fault { IfErr result (λ why. (why ≡ ReplayFault.Memory) ⊎ (why ≡ ReplayFault.WorkerNotStarted)) }
     {
         let ReplayConfig { shards, keys, .. } = config;
-        match start(rt, alloc, table, keys, workers) {
-            Ok(workers) => Ok(Crew {
-                alloc,
-                shards,
-                workers,
-            }),
-            Err(why) => Err(why),
-        }
+        let workers = start(rt, alloc, table, keys, workers)?;
+        Ok(Crew {
+            alloc,
+            shards,
+            workers,
+        })
     }
 
     /// Answers the next steps and returns those whose answers aren't the usual ones, by rising position. Every other step of the batch
@@ -90,41 +88,30 @@ impl<'t> Crew<'t> {
         // The table is full only if some step, as the list stands before it, asks for a set. No worker is lost.
         ensures fault { (past : List Steps) → HaveAnswered self.old past → IfErr result (λ why. MayFail (past ++ steps.now) why) }
     {
-        take_batch(
-            rt,
-            self.alloc,
-            self.shards,
-            self.workers.as_mut_slice(),
-            steps,
-            noting,
-            &OpenGate,
-        )
+        self.take_gated(rt, steps, noting, &OpenGate)
+    }
+
+    /// The same, but each worker first enters the gate of each of its shards, by rising number.
+    pub(crate) fn take_gated<R: Threads + Wait + Sync, G: Gate>(
+        &mut self,
+        rt: &R,
+        steps: &[Step],
+        noting: bool,
+        gate: &G,
+    ) -> Result<Vec<Unusual>, ReplayFault>
+        ensures goes_on { (past : List Steps) → HaveAnswered self.old past → OnOk result (HaveAnswered self.new (past ++ steps.now)) }
+        ensures answers { (past : List Steps) → HaveAnswered self.old past → IfOk result (λ unusual. AreUnusual past steps.now unusual.items) }
+        ensures noted { (past : List Steps) → HaveAnswered self.old past → IsTrue noting → IfOk result (λ unusual. AreNoted past steps.now unusual.items) }
+        ensures fault { (past : List Steps) → HaveAnswered self.old past → IfErr result (λ why. MayFail (past ++ steps.now) why) }
+    {
+        let workers = self.workers.as_mut_slice();
+        answer_each(rt, self.alloc, self.shards, workers, steps, noting, gate);
+        merge(self.alloc, workers)
     }
 }
 
-/// What `take` does, on the workers themselves. Each of them first enters the gate of each of its shards, by rising number.
-pub(crate) fn take_batch<R: Threads + Wait + Sync, G: Gate>(
-    rt: &R,
-    alloc: Global,
-    shards: u32,
-    workers: &mut [Worker<'_>],
-    steps: &[Step],
-    noting: bool,
-    gate: &G,
-) -> Result<Vec<Unusual>, ReplayFault>
-    requires { (1 ≤ shards) × (shards ≤ 64) × (1 ≤ length workers.old) × (length workers.old ≤ 16) }
-    ensures count { length workers.new ≡ length workers.old }
-    ensures goes_on { (past : List Steps) → HaveAnswered (crewed shards workers.old) past → OnOk result (HaveAnswered (crewed shards workers.new) (past ++ steps.now)) }
-    ensures answers { (past : List Steps) → HaveAnswered (crewed shards workers.old) past → IfOk result (λ unusual. AreUnusual past steps.now unusual.items) }
-    ensures noted { (past : List Steps) → HaveAnswered (crewed shards workers.old) past → IsTrue noting → IfOk result (λ unusual. AreNoted past steps.now unusual.items) }
-    ensures fault { (past : List Steps) → HaveAnswered (crewed shards workers.old) past → IfErr result (λ why. MayFail (past ++ steps.now) why) }
-{
-    answer_each(rt, alloc, shards, workers, steps, noting, gate);
-    merge(alloc, workers)
-}
-
-/// Workers that have answered no step. A thread of each makes it. All threads that were started are joined.
-pub(crate) fn start<'t, R: Threads + Wait + Sync>(
+// Workers that have answered no step. A thread of each makes it. All threads that were started are joined.
+fn start<'t, R: Threads + Wait + Sync>(
     rt: &R,
     alloc: Global,
     table: &'t LocksetTable,

@@ -32,7 +32,7 @@ pub use config::{ReplayConfig, ReplayFault};
 pub use crew::Crew;
 pub use er_gate::{Gate, OpenGate, PairGate};
 pub use replay::replay_parallel;
-pub use worker::Unusual;
+pub use worker::{Unusual, usual_answer};
 
 mod config;
 mod crew;

@@ -5,9 +5,8 @@ ghost use Rattle.er_parallel.specs.Crews.{AreUnusual};
 ghost use Rattle.er_parallel.specs.Faults.{AsksForSet};
 ghost use Rattle.er_parallel.specs.Usual.{usual_answers};
 
-use crate::crew::{start, take_batch};
 use crate::worker::usual_answer;
-use crate::{ReplayConfig, ReplayFault, Unusual};
+use crate::{Crew, ReplayConfig, ReplayFault, Unusual};
 use er_event::Step;
 use er_gate::Gate;
 use er_journal::{Answers, Outcome};
@@ -16,7 +15,7 @@ use std::alloc::{AllocError, Global};
 use std::sync::Wait;
 use std::thread::Threads;
 
-/// Answers a list of steps by this number of workers, 1 to 16, as one batch of a [`Crew`](crate::Crew) of its own. A worker first enters
+/// Answers a list of steps by this number of workers, 1 to 16, as one batch of a [`Crew`] of its own. A worker first enters
 /// the gate under the number of each of its shards, by rising number, also if no step is in the shard. Then it goes once over the whole
 /// list, since it needs the locks of every thread.
 ///
@@ -44,18 +43,9 @@ pub fn replay_parallel<G: Gate, R: Threads + Wait + Sync>(
     ensures table_full { IsErrOf result ReplayFault.TableFull → AsksForSet steps.now }
     ensures none_lost { ¬ IsErrOf result ReplayFault.WorkerLost }
 {
-    let ReplayConfig {
-        shards,
-        max_sets,
-        keys,
-        ..
-    } = config;
-    let table = LocksetTable::keyed(alloc, max_sets, keys)?;
-    let mut crew = match start(rt, alloc, &table, keys, workers) {
-        Ok(crew) => crew,
-        Err(fault) => return Err(fault),
-    };
-    let answered = take_batch(rt, alloc, shards, crew.as_mut_slice(), steps, false, gate);
+    let table = LocksetTable::keyed(alloc, config.max_sets, config.keys)?;
+    let mut crew = Crew::new(rt, alloc, &table, config, workers)?;
+    let answered = crew.take_gated(rt, steps, false, gate);
     drop(crew);
     drop(table);
     match answered {

@@ -221,16 +221,9 @@ fn keep(
     ensures full { IsErrOf result NoRoom.TableFull → answer ≡ Err Refusal.TableFull }
 {
     if let Some(cause) = no_room(&answer) {
-        drop(answer);
         return Err(cause);
     }
-    let held = match locks_at_race(alloc, machine, thread, &answer) {
-        Ok(held) => held,
-        Err(refused) => {
-            drop(answer);
-            return Err(NoRoom::from(refused));
-        }
-    };
+    let held = locks_at_race(alloc, machine, thread, &answer)?;
     found.push_back(Unusual { at, answer, held })?;
     Ok(())
 }
@@ -273,7 +266,7 @@ fn locks_at_race(
 
 /// The usual answer to a step.
 #[inline]
-pub(crate) fn usual_answer(step: &Step) -> Result<Reply, Refusal>
+pub fn usual_answer(step: &Step) -> Result<Reply, Refusal>
     ensures { result ≡ usual step.now.event }
 {
     Ok(if is_access(step) {
@@ -317,12 +310,7 @@ fn shard_for(shards: u32, event: Event) -> u32
             let PageRange { lo, .. } = range;
             remainder(lo.page(), shards)
         }
-        Event::Acquire(..)
-        | Event::Release(..)
-        | Event::IgnoreOn
-        | Event::IgnoreOff
-        | Event::Level(_)
-        | Event::Sync(_) => 0,
+        _ => 0,
     }
 }
 

@@ -1,5 +1,5 @@
 use Rattle.er_parallel.proofs.CrewLemmas.{new-crew}
 use Rattle.er_parallel.proofs.crew.Crew.new.Goals as goal
 
-pub returns-in-Ok-clause-none : goal.returns-in-Ok-clause-none
-returns-in-Ok-clause-none g c = new-crew c.args.config.shards c.in-Ok.workers.items c.in-Ok.ensures.fresh
+pub returns-clause-none : goal.returns-clause-none
+returns-clause-none g c = new-crew c.args.config.shards c.in_ok-workers.workers.items c.in_ok-workers.ensures.fresh
