@@ -34,10 +34,8 @@ impl Counter {
     pub(crate) fn get(&self, lock: LockId) -> u32
         ensures { result ≡ slice_index self.now lock }
     {
-        match self.counts.get(lock.number() as usize) {
-            Some(count) => *count,
-            None => 0,
-        }
+        let count = self.counts.get(lock.number() as usize);
+        count.copied().unwrap_or(0)
     }
 
     /// One more. A count that can't be kept is reported as a want of memory.
@@ -50,11 +48,10 @@ impl Counter {
             self.counts.push(1)?;
             return Ok(());
         }
-        let count = self.counts[place];
-        if count == u32::MAX {
+        let Some(more) = self.counts[place].checked_add(1) else {
             return Err(AllocError);
-        }
-        self.counts[place] = count + 1;
+        };
+        self.counts[place] = more;
         Ok(())
     }
 

@@ -84,9 +84,7 @@ impl Inspector {
         ensures { OnOk result (Follows self.old step.now line self.new) }
     {
         if self.threads.follow(self.alloc, step)? {
-            if self.refused.is_none() {
-                self.refused = Some(line);
-            }
+            self.refused = self.refused.or(Some(line));
             return Ok(());
         }
         if self.held_twice.is_none() && self.doubles(step.event) {
