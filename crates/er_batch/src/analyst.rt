@@ -15,6 +15,9 @@ use std::alloc::AllocError;
 use std::sync::Wait;
 use std::thread::Threads;
 
+/// What is returned once the steps of a batch were answered.
+pub type Answered = Result<(), AllocError>;
+
 /// What answers the steps of a trace, batch by batch, and keeps what is to be reported of them.
 ///
 /// An analyst that can't go on keeps why, and answers no later step: the text is read to its end all the same, since a fault of the text
@@ -48,18 +51,15 @@ pub trait Analyst {
         ensures ready { (asked : Asked) (r : Recording) → stands self.old asked r → ready self.new asked r steps.now };
 
     /// Answers the steps of a batch that it is ready for, behind those of the batches before.
-    fn answer<R: Threads + Wait + Sync>(&mut self, rt: &R, trace: &Trace) -> Result<(), AllocError>
+    fn answer<R: Threads + Wait + Sync>(&mut self, rt: &R, trace: &Trace) -> Answered
         requires sync { IsSync R.row }
         ensures goes_on { (asked : Asked) (past : List Steps) (lines sites : List ℕ) (names : NameTable) → KeepsNames names trace.now.names → ready self.old asked (recorded past lines sites names) trace.now.steps
             → OnOk result (stands self.new asked (joined past lines sites trace.now)) };
 
-    /// How many steps it has answered.
-    fn steps(&self) -> u64
-        ensures { result ≡ answered self.now };
-
-    /// How many of them are races that have a line, or the greatest number that there is.
-    fn races(&self) -> u64
-        ensures { found self.now < 2 ^ 64 → result ≡ found self.now };
+    /// How many steps it has answered, and how many of them are races that have a line, or the greatest number that there is.
+    fn counts(&self) -> (u64, u64)
+        ensures steps { result.0 ≡ answered self.now }
+        ensures races { found self.now < 2 ^ 64 → result.1 ≡ found self.now };
 }
 
 /// Two analysts of the same steps. Each batch is answered by the first and then by the second.
@@ -94,21 +94,15 @@ impl<A: Analyst, B: Analyst> Analyst for Pair<A, B> {
         self.first.prepare(rt, steps, beside)
     }
 
-    fn answer<R: Threads + Wait + Sync>(
-        &mut self,
-        rt: &R,
-        trace: &Trace,
-    ) -> Result<(), AllocError> {
+    fn answer<R: Threads + Wait + Sync>(&mut self, rt: &R, trace: &Trace) -> Answered {
         self.first.answer(rt, trace)?;
         self.second.answer(rt, trace)
     }
 
-    fn steps(&self) -> u64 {
-        self.first.steps().max(self.second.steps())
-    }
-
-    fn races(&self) -> u64 {
-        self.first.races().saturating_add(self.second.races())
+    fn counts(&self) -> (u64, u64) {
+        let (steps, races) = self.first.counts();
+        let (others, more) = self.second.counts();
+        (steps.max(others), races.saturating_add(more))
     }
 }
 
@@ -139,28 +133,17 @@ impl<A: Analyst> Analyst for Option<A> {
         }
     }
 
-    fn answer<R: Threads + Wait + Sync>(
-        &mut self,
-        rt: &R,
-        trace: &Trace,
-    ) -> Result<(), AllocError> {
+    fn answer<R: Threads + Wait + Sync>(&mut self, rt: &R, trace: &Trace) -> Answered {
         match self {
             Some(analyst) => analyst.answer(rt, trace),
             None => Ok(()),
         }
     }
 
-    fn steps(&self) -> u64 {
+    fn counts(&self) -> (u64, u64) {
         match self {
-            Some(analyst) => analyst.steps(),
-            None => 0,
-        }
-    }
-
-    fn races(&self) -> u64 {
-        match self {
-            Some(analyst) => analyst.races(),
-            None => 0,
+            Some(analyst) => analyst.counts(),
+            None => (0, 0),
         }
     }
 }

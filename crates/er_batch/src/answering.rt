@@ -46,9 +46,9 @@ pub fn answer_batch<R: Wait>(
     })
 }
 
-// Whether the report says nothing of an answer.
+/// Whether a report says nothing of an answer.
 #[inline(always)]
-fn is_plain(answer: &Result<Reply, Refusal>) -> bool
+pub fn is_plain(answer: &Result<Reply, Refusal>) -> bool
     ensures { result ≡ is_plain answer.now }
 {
     matches!(answer, Ok(Reply::Quiet | Reply::Done | Reply::Ignored))
@@ -142,6 +142,7 @@ fn answer_steps<R: Wait>(
     if !has_room(builder, steps) {
         return Err(AllocError);
     }
+    let names = trace.names();
     let explains = builder.explains();
     let mut plain = 0;
     for (k, step) in steps.iter().enumerate() {
@@ -160,16 +161,7 @@ fn answer_steps<R: Wait>(
             let held = machine.held(step.thread).held();
             let line = trace.lines()[k];
             let site = trace.sites()[k];
-            add_behind(
-                builder,
-                plain,
-                trace.names(),
-                line,
-                site,
-                step,
-                &answer,
-                held,
-            )?;
+            add_behind(builder, plain, names, line, site, step, &answer, held)?;
             plain = 0;
         }
     }

@@ -7,7 +7,6 @@ ghost use Rattle.er_batch.specs.Inner.Items.{AreItems, IsNext};
 ghost use Rattle.er_event.specs.declared.steps.Step.{Step as Steps};
 ghost use Rattle.er_parallel.specs.Crews.{AreNoted, AreUnusual, HaveAnswered, Rise};
 ghost use Rattle.er_parallel.specs.Faults.{MayFail};
-ghost use Rattle.er_parallel.specs.Usual.{usual};
 ghost use Rattle.er_replay.specs.Wants.{is_access};
 ghost use Rattle.er_report.specs.Builder.{IsReported};
 ghost use Rattle.er_report.specs.Names.{HasNames};
@@ -17,9 +16,9 @@ ghost use Rattle.er_text.specs.Batches.{joined};
 ghost use Rattle.er_trace.specs.Trace.{Recording, no_steps};
 
 use crate::answering::{add_behind, has_room};
-use crate::{Analyst, Options};
-use er_event::{Event, Lockset, Refusal, Reply, Step};
-use er_parallel::{Crew, ReplayConfig, ReplayFault, Unusual};
+use crate::{Analyst, Answered, Options};
+use er_event::{Event, Lockset, Step};
+use er_parallel::{Crew, ReplayConfig, ReplayFault, Unusual, usual_answer};
 use er_report::{Report, ReportBuilder};
 use er_rules::Suppressions;
 use er_table::LocksetTable;
@@ -59,16 +58,12 @@ impl<'t, 'r> CrewAnalyst<'t, 'r> {
         requires { (1 ≤ workers) × (workers ≤ 16) }
         ensures stands { (asked : Asked) → asked.rules ≡ targets_of suppressions.now → asked.explain ≡ options.now.explain → IfOk result (λ analyst. HasCrewRun analyst asked no_steps) }
     {
-        let builder = ReportBuilder::explaining_keyed(
-            alloc,
-            suppressions,
-            options.explain,
-            options.keys,
-        )?;
+        let Options { explain, keys, .. } = *options;
+        let builder = ReportBuilder::explaining_keyed(alloc, suppressions, explain, keys)?;
         let config = ReplayConfig {
             shards: options.shards,
             max_sets: options.max_sets,
-            keys: options.keys,
+            keys,
         };
         let crew = Crew::new(rt, alloc, table, config, workers);
         Ok(CrewAnalyst {
@@ -143,11 +138,7 @@ impl<'t, 'r> Analyst for CrewAnalyst<'t, 'r> {
         }
     }
 
-    fn answer<R: Threads + Wait + Sync>(
-        &mut self,
-        _rt: &R,
-        trace: &Trace,
-    ) -> Result<(), AllocError> {
+    fn answer<R: Threads + Wait + Sync>(&mut self, _rt: &R, trace: &Trace) -> Answered {
         let steps = trace.steps();
         prove!(steps.len() == trace.lines().len());
         prove!(steps.len() == trace.sites().len());
@@ -157,12 +148,8 @@ impl<'t, 'r> Analyst for CrewAnalyst<'t, 'r> {
         add_items(self.alloc, &mut self.builder, trace, self.items.as_slice())
     }
 
-    fn steps(&self) -> u64 {
-        self.builder.steps()
-    }
-
-    fn races(&self) -> u64 {
-        self.builder.races()
+    fn counts(&self) -> (u64, u64) {
+        (self.builder.steps(), self.builder.races())
     }
 }
 
@@ -261,32 +248,16 @@ fn add_next(
     let step = &trace.steps()[k];
     let line = trace.lines()[k];
     let site = trace.sites()[k];
+    let names = trace.names();
     match item_at(items, next, k) {
         Some(item) => {
-            add_behind(
-                builder,
-                plain,
-                trace.names(),
-                line,
-                site,
-                step,
-                &item.answer,
-                &item.held,
-            )?;
+            let Unusual { answer, held, .. } = item;
+            add_behind(builder, plain, names, line, site, step, answer, held)?;
             Ok(next + 1)
         }
         None => {
-            let answer = usual_answer(step.event);
-            add_behind(
-                builder,
-                plain,
-                trace.names(),
-                line,
-                site,
-                step,
-                &answer,
-                none,
-            )?;
+            let usual = usual_answer(step);
+            add_behind(builder, plain, names, line, site, step, &usual, none)?;
             Ok(next)
         }
     }
@@ -301,14 +272,4 @@ fn item_at(items: &[Unusual], next: usize, k: usize) -> Option<&Unusual>
         Some(item) if item.at == k => Some(item),
         _ => None,
     }
-}
-
-// The usual answer to a step.
-fn usual_answer(event: Event) -> Result<Reply, Refusal>
-    ensures { result ≡ usual event }
-{
-    Ok(match event {
-        Event::Access(..) => Reply::Quiet,
-        _ => Reply::Done,
-    })
 }

@@ -17,8 +17,8 @@
 //! [`Options`] says how a replay is run, a [`Watch`] sees how far it has come, and a [`Verdict`] is what it comes to.
 #![tactic(auto)]
 
-pub use analyst::{Analyst, Pair};
-pub use answering::{answer_batch, has_room};
+pub use analyst::{Analyst, Answered, Pair};
+pub use answering::{answer_batch, has_room, is_plain};
 pub use crew::CrewAnalyst;
 pub use lockset::LocksetAnalyst;
 pub use options::Options;

@@ -6,7 +6,7 @@ ghost use Rattle.er_report.specs.Report.{report_of, told};
 ghost use Rattle.er_rules.specs.Rules.{targets_of};
 ghost use Rattle.er_trace.specs.Trace.{Recording, no_steps};
 
-use crate::{Analyst, answer_batch};
+use crate::{Analyst, Answered, answer_batch};
 use er_event::{NoRoom, Step};
 use er_replay::Machine;
 use er_report::{Report, ReportBuilder};
@@ -106,20 +106,12 @@ impl<'t, 'r> Analyst for LocksetAnalyst<'t, 'r> {
         beside()
     }
 
-    fn answer<R: Threads + Wait + Sync>(
-        &mut self,
-        rt: &R,
-        trace: &Trace,
-    ) -> Result<(), AllocError> {
+    fn answer<R: Threads + Wait + Sync>(&mut self, rt: &R, trace: &Trace) -> Answered {
         self.stop = answer_batch(rt, &mut self.machine, trace, &mut self.builder, self.stop)?;
         Ok(())
     }
 
-    fn steps(&self) -> u64 {
-        self.builder.steps()
-    }
-
-    fn races(&self) -> u64 {
-        self.builder.races()
+    fn counts(&self) -> (u64, u64) {
+        (self.builder.steps(), self.builder.races())
     }
 }

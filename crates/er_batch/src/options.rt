@@ -59,20 +59,12 @@ impl Options {
         ensures some { 1 ≤ max_sets → max_sets ≤ most_sets → byte_limit ≤ most_bytes → IsSome result }
         ensures none { (max_sets ≡ 0) ⊎ ((most_sets < max_sets) ⊎ (most_bytes < byte_limit)) → IsNone result }
     {
-        let sets_fit = 1 <= max_sets && max_sets <= Options::MOST_SETS;
-        if sets_fit && byte_limit <= Options::MOST_BYTES {
-            Some(Options {
-                max_sets,
-                byte_limit,
-                explain: false,
-                shards: Options::USUAL_SHARDS,
-                workers: 1,
-                strict: false,
-                keys: NameKeys::KNOWN,
-            })
-        } else {
-            None
+        if max_sets < 1 || max_sets > Options::MOST_SETS {
+            return None;
         }
+        let mut options = Options::usual().with_byte_limit(byte_limit)?;
+        options.max_sets = max_sets;
+        Some(options)
     }
 
     /// The most sets of locks, texts of 256 MiB, no explanations and one worker: what the program uses unless something else is asked for.
@@ -97,8 +89,7 @@ impl Options {
     /// The same options, by which each race that is printed is explained, or none is.
     pub fn with_explain(mut self, explain: bool) -> Options
         ensures explain { result.explain ≡ explain }
-        ensures sets { result.max_sets ≡ self.max_sets }
-        ensures bytes { result.byte_limit ≡ self.byte_limit }
+        ensures kept { (result.max_sets ≡ self.max_sets) × (result.byte_limit ≡ self.byte_limit) }
         ensures crew { (result.shards ≡ self.shards) × (result.workers ≡ self.workers) }
         ensures strict { result.strict ≡ self.strict }
     {
@@ -109,9 +100,7 @@ impl Options {
     /// The same options, by which a damaged trace is a fault, or isn't.
     pub fn with_strict(mut self, strict: bool) -> Options
         ensures strict { result.strict ≡ strict }
-        ensures sets { result.max_sets ≡ self.max_sets }
-        ensures bytes { result.byte_limit ≡ self.byte_limit }
-        ensures explain { result.explain ≡ self.explain }
+        ensures kept { (result.max_sets ≡ self.max_sets) × ((result.byte_limit ≡ self.byte_limit) × (result.explain ≡ self.explain)) }
         ensures crew { (result.shards ≡ self.shards) × (result.workers ≡ self.workers) }
     {
         self.strict = strict;
@@ -120,9 +109,7 @@ impl Options {
 
     /// The same options, by which the names and the pages of the trace are hashed by these keys.
     pub fn with_keys(mut self, keys: NameKeys) -> Options
-        ensures sets { result.max_sets ≡ self.max_sets }
-        ensures bytes { result.byte_limit ≡ self.byte_limit }
-        ensures explain { result.explain ≡ self.explain }
+        ensures kept { (result.max_sets ≡ self.max_sets) × ((result.byte_limit ≡ self.byte_limit) × (result.explain ≡ self.explain)) }
         ensures crew { (result.shards ≡ self.shards) × (result.workers ≡ self.workers) }
         ensures strict { result.strict ≡ self.strict }
     {

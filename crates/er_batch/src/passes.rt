@@ -149,10 +149,11 @@ impl<A: Drop> Pass<A> {
         ensures steps { result.steps ≡ A.answered self.now.analyst }
         ensures races { A.found self.now.analyst < 2 ^ 64 → result.races ≡ A.found self.now.analyst }
     {
+        let (steps, races) = self.analyst.counts();
         Progress {
             bytes: reader.taken(),
-            steps: self.analyst.steps(),
-            races: self.analyst.races(),
+            steps,
+            races,
         }
     }
 

@@ -77,7 +77,7 @@ loop-k-preserved g c =
             let site = site-behind w.sites.result.now sites c.args.trace.now.sites (length past) k w.index-sites-k.result w.sites.ensures.value each inside w.index-sites-k.is in
             let reported : IsReported w.add_behind.new.builder r (at + 1) =
             w.in_ok-add_behind.ensures.reported r at come.lags
-            (step-at r at _ _ _ step c.step_noting-answer.result.0 _ (here past) line site w.names.ensures (answered (take at r.steps) come.stands)
+            (step-at r at _ _ _ step c.step_noting-answer.result.0 _ (here past) line site c.names-names.ensures (answered (take at r.steps) come.stands)
             (w.held-held.ensures.locks ∙ ap (λ (h : Holdings). h.held) (w.held.ensures.past (take at r.steps ++ step ∷ []) behind))) in
             let one : at + 1 ≡ length past + (k + 1) = omega arith in
             rw (w.builder-is, w.plain-is)

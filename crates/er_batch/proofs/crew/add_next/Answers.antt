@@ -21,7 +21,7 @@ returns-in_ok-add_behind-in-Some-clause-reported c = λ past lines sites long ea
     let site = site-behind c.sites.result.now sites trace.sites (length past) k c.index-sites-k.result c.sites.ensures.value each inside c.index-sites-k.is in
     let found = c.in-Some.ensures unusual.rise next in
     c.in_ok-add_behind-in-Some.ensures.reported r (length past + k) lags
-    (rw c.names.ensures (with-item past trace.steps r.lines r.sites trace.names c.args.items.now unusual k _ _ step here line site c.args.next c.in-Some.item.now found.0 found.1))
+    (rw c.names-names.ensures (with-item past trace.steps r.lines r.sites trace.names c.args.items.now unusual k _ _ step here line site c.args.next c.in-Some.item.now found.0 found.1))
 
 pub returns-in_ok-add_behind-in-None-clause-reported : goal.returns-in_ok-add_behind-in-None-clause-reported
 returns-in_ok-add_behind-in-None-clause-reported c = λ past lines sites long each unusual next lags.
@@ -35,5 +35,5 @@ returns-in_ok-add_behind-in-None-clause-reported c = λ past lines sites long ea
     let inside : k < length c.sites.result.now = rw (c.sites.ensures.value, c.sites.ensures.one_per_step) c.requires.within in
     let site = site-behind c.sites.result.now sites trace.sites (length past) k c.index-sites-k.result c.sites.ensures.value each inside c.index-sites-k.is in
     c.in_ok-add_behind-in-None.ensures.reported r (length past + k) lags
-    (rw (c.names-in-None.ensures, c.usual_answer-answer.ensures)
+    (rw (c.names-names.ensures, c.usual_answer-usual.ensures)
     (as-usual past trace.steps r.lines r.sites trace.names c.args.items.now unusual k _ _ step here line site c.args.next next (c.in-None.ensures unusual.rise next) c.args.none.now))
