@@ -24,12 +24,8 @@ pub(crate) fn advance(
 {
     match before {
         WordState::Virgin => Ok(WordState::Exclusive(thread)),
-        WordState::Exclusive(owner) => {
-            if *owner == thread {
-                return Ok(WordState::Exclusive(*owner));
-            }
-            Ok(shared_by(kind, locks.copy()?))
-        }
+        WordState::Exclusive(owner) if *owner == thread => Ok(WordState::Exclusive(thread)),
+        WordState::Exclusive(_) => Ok(shared_by(kind, locks.copy()?)),
         WordState::Shared(candidates) => Ok(shared_by(kind, candidates.intersect(locks)?)),
         WordState::SharedModified(candidates) => {
             Ok(WordState::SharedModified(candidates.intersect(locks)?))
@@ -67,10 +63,7 @@ pub(crate) fn reports(before: &WordState, after: &WordState) -> bool
 fn is_racy(state: &WordState) -> bool
     ensures { result ≡ is_racy state.now }
 {
-    match state {
-        WordState::SharedModified(candidates) => candidates.is_empty(),
-        _ => false,
-    }
+    matches!(state, WordState::SharedModified(candidates) if candidates.is_empty())
 }
 
 /// Whether the access between these states emptied the candidate set, or a second thread came by it without a lock.
@@ -86,9 +79,7 @@ fn has_none_left(state: &WordState) -> bool
 {
     match state {
         WordState::Virgin | WordState::Exclusive(_) => false,
-        WordState::Shared(candidates) | WordState::SharedModified(candidates) => {
-            candidates.is_empty()
-        }
+        WordState::Shared(left) | WordState::SharedModified(left) => left.is_empty(),
     }
 }
 
@@ -138,11 +129,7 @@ impl Past {
                     self.access(alloc, locks, line, thread, kind, site)?;
                 }
             }
-            Event::Reuse(range) => {
-                if range.contains(word) {
-                    *self = Past::new(alloc);
-                }
-            }
+            Event::Reuse(range) if range.contains(word) => *self = Past::new(alloc),
             _ => {}
         }
         Ok(())

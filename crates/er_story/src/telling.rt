@@ -66,7 +66,7 @@ fn story_of(
     let lines = trace.lines();
     let held = holding.held().copy()?;
     let write_held = holding.write_held().copy()?;
-    let Told { answer, word } = tell_of(alloc, trace, place, step, holding)?;
+    let (answer, word) = tell_of(alloc, trace, place, step, holding)?;
     Ok(Story {
         line: lines[place],
         step: *step,
@@ -77,12 +77,8 @@ fn story_of(
     })
 }
 
-/// What a step is answered, and what happened to its word.
-#[derive(Drop)]
-struct Told {
-    answer: Result<Reply, Refusal>,
-    word: Option<WordStory>,
-}
+// What a step is answered, and what happened to its word.
+type Told = (Result<Reply, Refusal>, Option<WordStory>);
 
 // Of a step whose thread holds this before it.
 fn tell_of(
@@ -95,35 +91,23 @@ fn tell_of(
     requires step { slice_get trace.now.steps place ≡ Some step.now }
     requires holding { holding.old ≡ holdings_at trace.now.steps step.now.thread place }
     requires within { place < length trace.now.steps }
-    ensures answer { IfOk result (λ told. told.answer ≡ answer trace.now.steps place) }
-    ensures word { IfOk result (λ told. told.word ≡ tale_in trace.now place step.now.event) }
+    ensures answer { IfOk result (λ told. told.0 ≡ answer trace.now.steps place) }
+    ensures word { IfOk result (λ told. told.1 ≡ tale_in trace.now place step.now.event) }
 {
     match step.event {
         Event::Access(kind, word, _) => {
             let past = past_of(alloc, trace, word, place)?;
             let after = state_after(&past.state, holding, step.thread, kind)?;
             let reply = reply_between(holding, &past.state, &after);
-            Ok(Told {
-                answer: Ok(reply),
-                word: Some(past.told(word, after)),
-            })
+            Ok((Ok(reply), Some(past.told(word, after))))
         }
         Event::Show(word) => {
             let past = past_of(alloc, trace, word, place)?;
             let reply = Reply::State(past.state.copy()?);
             let after = past.state.copy()?;
-            Ok(Told {
-                answer: Ok(reply),
-                word: Some(past.told(word, after)),
-            })
+            Ok((Ok(reply), Some(past.told(word, after))))
         }
-        Event::Acquire(..)
-        | Event::Release(..)
-        | Event::Reuse(_)
-        | Event::IgnoreOn
-        | Event::IgnoreOff
-        | Event::Level(_)
-        | Event::Sync(_) => {
+        _ => {
             let told = tell_other(holding, step.event)?;
             Ok(told)
         }
@@ -164,14 +148,14 @@ fn cover(holding: &Held, kind: Kind) -> &Lockset
 fn tell_other(holding: &mut Held, event: Event) -> Made<Told>
     requires { has_word event ≡ false }
     ensures other { has_word event ≡ false }
-    ensures answer { IfOk result (λ told. told.answer ≡ answer_unless (refused_by holding.old event) Done) }
-    ensures word { IfOk result (λ told. told.word ≡ None) }
+    ensures answer { IfOk result (λ told. told.0 ≡ answer_unless (refused_by holding.old event) Done) }
+    ensures word { IfOk result (λ told. told.1 ≡ None) }
 {
     let answer = match holding.follow(event)? {
         Some(why) => Err(why),
         None => Ok(Reply::Done),
     };
-    Ok(Told { answer, word: None })
+    Ok((answer, None))
 }
 
 // What the thread holds after the first `end` steps.

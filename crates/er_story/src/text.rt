@@ -74,13 +74,7 @@ fn put_deed(out: &mut Vec<u8>, names: &Names, event: Event) -> Put
             put_all(out, Style::Plain, names, &pieces)
         }
         Event::Show(word) => put_all(out, Style::Plain, names, &[Address(b"show ", word)]),
-        Event::Acquire(..)
-        | Event::Release(..)
-        | Event::Reuse(_)
-        | Event::IgnoreOn
-        | Event::IgnoreOff
-        | Event::Level(_)
-        | Event::Sync(_) => put_all(out, Style::Plain, names, &[Asked(b"", &event)]),
+        _ => put_all(out, Style::Plain, names, &[Asked(b"", &event)]),
     }
 }
 

@@ -52,10 +52,10 @@ returns-in_ok-after-in-Show-clause-word c =
     (c.in_ok-after-in-Show.ensures ∙ ap (λ (q : PastView). q.state) c.past-in-Show.view_is))
     ∙ ap (tale_in c.args.trace.now c.args.place) (sym c.in-Show.is)
 
-pub returns-in_ok-told-in-Acquire : goal.returns-in_ok-told-in-Acquire
-returns-in_ok-told-in-Acquire c =
+pub returns-in_ok-told-in_default : goal.returns-in_ok-told-in_default
+returns-in_ok-told-in_default c =
     record {
-      answer = other-answer c.args.trace.now c.args.place c.args.step.now c.args.holding.now c.in_ok-told-in-Acquire.told.answer c.requires.step c.requires.holding
-          c.in_ok-told-in-Acquire.ensures.other c.in_ok-told-in-Acquire.ensures.answer;
-      word = other-tale c.args.trace.now c.args.place c.args.step.now.event c.in_ok-told-in-Acquire.told.word c.in_ok-told-in-Acquire.ensures.other c.in_ok-told-in-Acquire.ensures.word;
+      answer = other-answer c.args.trace.now c.args.place c.args.step.now c.args.holding.now c.in_ok-told-in_default.told.0 c.requires.step c.requires.holding
+          c.in_ok-told-in_default.ensures.other c.in_ok-told-in_default.ensures.answer;
+      word = other-tale c.args.trace.now c.args.place c.args.step.now.event c.in_ok-told-in_default.told.1 c.in_ok-told-in_default.ensures.other c.in_ok-told-in_default.ensures.word;
     }
