@@ -2,7 +2,7 @@
 ghost use Rattle.std.specs.Prelude.{◌≡◌, ◌+◌, ◌++◌, ◌<◌, ◌≤◌, ◌^◌, [], ℕ, List, cond, length, IfErr, OnOk};
 ghost use Rattle.er_event.specs.declared.steps.Step.{Step as Steps};
 ghost use Rattle.er_order.specs.Races.{order_answer};
-ghost use Rattle.er_report.specs.Builder.{IsBuiltBy, IsStepBy, is_plain};
+ghost use Rattle.er_report.specs.Builder.{IsBuiltBy, IsStepBy};
 ghost use Rattle.er_report.specs.Names.{HasSiteName};
 ghost use Rattle.er_report.specs.Report.{is_printed_by};
 ghost use Rattle.er_text.specs.Batches.{joined};
@@ -14,9 +14,9 @@ ghost use Rattle.er_unordered.specs.Stops.{IsStopIn};
 
 use crate::machine::{OrderAnswer, OrderMachine};
 use crate::reasons::{Tag, Told};
-use er_batch::has_room;
+use er_batch::{has_room, is_plain};
 use er_clock::NoTick;
-use er_event::{Lockset, Refusal, Reply, Site, Step};
+use er_event::{Lockset, Site, Step};
 use er_report::{ReportBuilder, view_of};
 use er_trace::{Names, Trace};
 use std::alloc::AllocError;
@@ -41,6 +41,7 @@ pub(crate) fn answer_steps<T: Tag>(
     if !has_room(builder, steps) {
         return Err(NoTick::OutOfMemory);
     }
+    let names = trace.names();
     for (k, step) in steps.iter().enumerate() {
         machine.look_ahead(steps, k);
         let line = trace.lines()[k];
@@ -50,16 +51,7 @@ pub(crate) fn answer_steps<T: Tag>(
         } else {
             let held = machine.held(step.thread).held();
             let site = trace.sites()[k];
-            add_told(
-                builder,
-                told,
-                trace.names(),
-                line,
-                site,
-                step,
-                &answer,
-                held,
-            )?;
+            add_told(builder, told, names, line, site, step, &answer, held)?;
         }
     }
     Ok(())
@@ -92,12 +84,4 @@ fn add_told<T: Tag>(
         T::tell(answer.rival, told)?;
     }
     Ok(())
-}
-
-// Whether the report says nothing of an answer.
-#[inline(always)]
-fn is_plain(answer: &Result<Reply, Refusal>) -> bool
-    ensures { result ≡ is_plain answer.now }
-{
-    matches!(answer, Ok(Reply::Quiet | Reply::Done | Reply::Ignored))
 }

@@ -19,7 +19,7 @@ ghost use Rattle.er_unordered.specs.Stops.{IsStopIn};
 use crate::answering::answer_steps;
 use crate::machine::OrderMachine;
 use crate::reasons::Told;
-use er_batch::Analyst;
+use er_batch::{Analyst, Answered};
 use er_clock::NoTick;
 use er_event::{Event, Step};
 use er_report::{Because, Report, ReportBuilder};
@@ -123,11 +123,7 @@ impl<'r> Analyst for OrderAnalyst<'r> {
         beside()
     }
 
-    fn answer<R: Threads + Wait + Sync>(
-        &mut self,
-        _rt: &R,
-        trace: &Trace,
-    ) -> Result<(), AllocError> {
+    fn answer<R: Threads + Wait + Sync>(&mut self, _rt: &R, trace: &Trace) -> Answered {
         self.has_order = with_order(self.has_order, trace.steps());
         if self.stop.is_some() {
             return Ok(());
@@ -142,12 +138,8 @@ impl<'r> Analyst for OrderAnalyst<'r> {
         }
     }
 
-    fn steps(&self) -> u64 {
-        self.report.steps()
-    }
-
-    fn races(&self) -> u64 {
-        self.report.races()
+    fn counts(&self) -> (u64, u64) {
+        (self.report.steps(), self.report.races())
     }
 }
 

@@ -61,7 +61,7 @@ loop-k-preserved g c =
             let site = site-behind w.sites-else-is_plain.result.now sites c.args.trace.now.sites (length past) k w.index-sites-k.result w.sites-else-is_plain.ensures.value each inside w.index-sites-k.is in
             let given =
             step-here g.T.Tag.tag_of g.T.Tag.told_of c.look_ahead.new.self c.step.new.self c.loop-k.builder c.loop-k.told r at step (here past) come c.in_ok-answer.answer.reply c.in_ok-answer.answer.rival (slice_index c.lines-in-loop-k.result.now k) (line past lines long) c.in_ok-answer.ensures.answer c.in_ok-answer.ensures.named goes_on
-            _ _ _ site w.names.ensures (λ past tags stands. w.held-held.ensures.locks ∙ ap (λ (h : Holdings). h.held) (w.held.ensures past tags stands)) in
+            _ _ _ site c.names-names.ensures (λ past tags stands. w.held-held.ensures.locks ∙ ap (λ (h : Holdings). h.held) (w.held.ensures past tags stands)) in
             rw (w.builder-is, w.told-is)
             (subst (λ (n : ℕ). HasComeTo g.T.Tag.tag_of g.T.Tag.told_of c.step.new.self w.add_told.new.builder w.add_told.new.told r n) one
             (come-to g.T.Tag.tag_of g.T.Tag.told_of c.look_ahead.new.self c.step.new.self c.loop-k.builder c.loop-k.told r at step (here past) come c.in_ok-answer.answer.reply c.in_ok-answer.answer.rival (slice_index c.lines-in-loop-k.result.now k) (line past lines long) c.in_ok-answer.ensures.answer c.in_ok-answer.ensures.named goes_on
