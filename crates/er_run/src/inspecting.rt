@@ -6,12 +6,12 @@ ghost use Rattle.er_text.specs.Ending.{IsEndingOf};
 ghost use Rattle.er_trace.specs.Names.{NameTable};
 ghost use Rattle.er_trace.specs.Trace.{no_steps};
 
-use er_batch::Analyst;
+use er_batch::{Analyst, Answered};
 use er_damage::{Damage, Inspector};
 use er_event::Step;
 use er_text::Ending;
 use er_trace::Trace;
-use std::alloc::{AllocError, Global};
+use std::alloc::Global;
 use std::sync::Wait;
 use std::thread::Threads;
 
@@ -70,11 +70,7 @@ impl Analyst for Inspection {
         beside()
     }
 
-    fn answer<R: Threads + Wait + Sync>(
-        &mut self,
-        _rt: &R,
-        trace: &Trace,
-    ) -> Result<(), AllocError> {
+    fn answer<R: Threads + Wait + Sync>(&mut self, _rt: &R, trace: &Trace) -> Answered {
         let steps = trace.steps();
         let lines = trace.lines();
         match &mut self.inspector {
@@ -83,11 +79,7 @@ impl Analyst for Inspection {
         }
     }
 
-    fn steps(&self) -> u64 {
-        0
-    }
-
-    fn races(&self) -> u64 {
-        0
+    fn counts(&self) -> (u64, u64) {
+        (0, 0)
     }
 }

@@ -164,18 +164,11 @@ fn lockset_if<'t, 'r>(
     ensures stands { (asked : Asked) → asked.analysis ≡ analysis → asked.rules ≡ targets_of suppressions.now → asked.explain ≡ options.now.explain
         → IfOk result (λ lockset. StandsIf (λ (one : Ran). HasRunFor one asked no_steps) (asks_locks asked.analysis) lockset) }
 {
-    if analysis.asks_locks() {
-        let lockset = LocksetAnalyst::new(
-            alloc,
-            table,
-            suppressions,
-            options.explain,
-            options.keys,
-        )?;
-        Ok(Some(lockset))
-    } else {
-        Ok(None)
+    if !analysis.asks_locks() {
+        return Ok(None);
     }
+    let lockset = LocksetAnalyst::new(alloc, table, suppressions, options.explain, options.keys)?;
+    Ok(Some(lockset))
 }
 
 // Happens-before, if it is asked for.
@@ -188,12 +181,11 @@ fn ordering_if<'r>(
     ensures stands { (asked : Asked) → asked.analysis ≡ analysis → asked.rules ≡ targets_of suppressions.now → asked.explain ≡ options.now.explain
         → IfOk result (λ ordering. StandsIf (λ (one : OrderRan). HasOrdered one asked no_steps) (asks_order asked.analysis) ordering) }
 {
-    if analysis.asks_order() {
-        let ordering = OrderAnalyst::new(alloc, suppressions, options.explain, options.keys)?;
-        Ok(Some(ordering))
-    } else {
-        Ok(None)
+    if !analysis.asks_order() {
+        return Ok(None);
     }
+    let ordering = OrderAnalyst::new(alloc, suppressions, options.explain, options.keys)?;
+    Ok(Some(ordering))
 }
 
 // The reports of the text that was read, or its damage, if the replay is strict and there is any, or why an analysis has stopped.

@@ -173,18 +173,12 @@ pub fn verdict_of(reports: &Reports) -> Verdict
 fn has_stopped(report: &Option<Report>) -> bool
     ensures { result ≡ is_some (stop_in report.now) }
 {
-    match report {
-        Some(report) => report.stop.is_some(),
-        None => false,
-    }
+    matches!(report, Some(report) if report.stop.is_some())
 }
 
 // Whether there is a report and it has races.
 fn has_races(report: &Option<Report>) -> bool
     ensures { result ≡ has_races report.now }
 {
-    match report {
-        Some(report) => report.races > 0,
-        None => false,
-    }
+    matches!(report, Some(report) if report.races > 0)
 }
