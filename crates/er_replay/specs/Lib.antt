@@ -1,3 +1,4 @@
 pub mod Standing
 pub mod Stops
+pub mod Usual
 pub mod Wants
