@@ -15,7 +15,7 @@ ghost use Rattle.er_report.specs.Report.{Answering, RacesHaveLines, told, answer
 ghost use Rattle.er_rules.specs.Rules.{Target, targets_of};
 
 use crate::explainer::Explainer;
-use crate::reasons::{explain_lines, give_reasons};
+use crate::reasons::give_reasons;
 use crate::rules::first_rule;
 use crate::{Because, Line, Made, Report};
 use er_event::{Event, Lockset, NoRoom, Refusal, Reply, Site, Step};
@@ -193,7 +193,9 @@ impl<'r> ReportBuilder<'r> {
             ..
         } = self;
         report.stop = stop;
-        explain_lines(explainer, &mut report.lines);
+        if let Some(explainer) = explainer {
+            give_reasons(explainer.into_told(), &mut report.lines);
+        }
         report
     }
 

@@ -95,10 +95,7 @@ impl Explainer {
     fn reasons_for(&self, racing: Option<Word>) -> Made<Vec<Because>>
         ensures { IfOk result (λ reasons. reasons.items ≡ word_reasons (book_in self.now.books) racing) }
     {
-        let Some(word) = racing else {
-            return Ok(Vec::new(self.alloc));
-        };
-        match self.books.joining(word) {
+        match racing.and_then(|word| self.books.joining(word)) {
             Some(joint) => reasons_of(self.alloc, joint),
             None => Ok(Vec::new(self.alloc)),
         }
@@ -141,19 +138,12 @@ fn reasons_of(alloc: Global, joint: &Joint<Access<u64>>) -> Made<Vec<Because>>
 fn put_found(reasons: &mut Vec<Because>, label: Label, found: Option<Access<u64>>) -> Made<()>
     ensures { OnOk result (reasons.new.items ≡ reasons.old.items ++ told_found label found) }
 {
-    if let Some(
-        Access {
-            at: line,
-            thread,
-            kind,
-        },
-    ) = found
-    {
+    if let Some(access) = found {
         reasons.push(Because {
             label,
-            line,
-            thread,
-            kind,
+            line: access.at,
+            thread: access.thread,
+            kind: access.kind,
         })?;
     }
     Ok(())

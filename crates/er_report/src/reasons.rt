@@ -4,19 +4,8 @@ ghost use Rattle.std.specs.Vec.Iter.{into_iter_items};
 ghost use Rattle.er_report.specs.Inner.Explained.{line_told, lines_kept, next_told, told_left, with_told};
 ghost use Rattle.er_report.specs.Lines.{line_view};
 
-use crate::explainer::Explainer;
 use crate::{Because, Line};
 use std::vec::IntoIter;
-
-/// Gives each line of a race its reasons, if they were wanted.
-pub(crate) fn explain_lines(explainer: Option<Explainer>, lines: &mut [Line])
-    ensures { map line_view lines.new ≡ lines_kept explainer (map line_view lines.old) }
-{
-    match explainer {
-        Some(explainer) => give_reasons(explainer.into_told(), lines),
-        None => {}
-    }
-}
 
 /// Gives each line of a race its reasons, one after another.
 pub(crate) fn give_reasons(told: Vec<Vec<Because>>, lines: &mut [Line])

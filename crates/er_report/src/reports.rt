@@ -20,20 +20,14 @@ impl Analysis {
     pub fn asks_locks(self) -> bool
         ensures { result ≡ asks_locks self }
     {
-        match self {
-            Analysis::Lockset | Analysis::Both => true,
-            Analysis::HappensBefore => false,
-        }
+        matches!(self, Analysis::Lockset | Analysis::Both)
     }
 
     /// Whether it has a report by happens-before.
     pub fn asks_order(self) -> bool
         ensures { result ≡ asks_order self }
     {
-        match self {
-            Analysis::HappensBefore | Analysis::Both => true,
-            Analysis::Lockset => false,
-        }
+        matches!(self, Analysis::HappensBefore | Analysis::Both)
     }
 }
 

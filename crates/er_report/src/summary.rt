@@ -60,10 +60,8 @@ fn stop_line(trace: &Trace, stopped: Option<Stopped>) -> Option<(u64, NoRoom)>
     requires { IfSome stopped (λ stop. stop.at < length trace.now.steps) }
     ensures { result ≡ stop_line trace.now stopped }
 {
-    match stopped {
-        Some(Stopped { at, cause }) => Some((trace.lines()[at as usize], cause)),
-        None => None,
-    }
+    let Stopped { at, cause } = stopped?;
+    Some((trace.lines()[at as usize], cause))
 }
 
 // Adds the steps that were answered to a report that has none yet. Before the first step no thread holds a lock.
