@@ -89,15 +89,13 @@ impl Follower {
         ensures places { OnOk result ((l : ℕ) → place_in self.new.places l
             ≡ cond (nat_eq line l) (Some (record { line = line; thread = thread; kind = kind; site = site; held = (held_by self.old.threads thread).held; write_held = (held_by self.old.threads thread).write_held })) (place_in self.old.places l)) }
     {
-        let held = self.threads.locks_of(self.alloc, thread)?;
-        let write_held = self.threads.cover_of(self.alloc, thread, Kind::Write)?;
         let place = Place {
             line,
             thread,
             kind,
             site,
-            held,
-            write_held,
+            held: self.threads.locks_of(self.alloc, thread)?,
+            write_held: self.threads.cover_of(self.alloc, thread, Kind::Write)?,
         };
         drop(self.places.insert(line, place)?);
         Ok(())

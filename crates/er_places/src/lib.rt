@@ -1,7 +1,8 @@
 //! Where the accesses on given lines of a trace stood, and which locks their threads held.
 //!
 //! Begin with [`places_of_reports`]. It reads a trace text once more and gives the [`Places`] of the accesses that the reasons of the reports'
-//! first races name. [`Places::of_reason`] is the place of the access that a reason names.
+//! first races name. [`Places::of_reason`] is the place of the access that a reason names, and [`Places::of_race`] that of a race's own access.
+//! The calls of a binary trace come by [`Places::with_calls`], and [`Places::calls_of`] gives those that led to a place.
 //!
 //! What it promises, by the names of clauses: of a text that is a trace, the places are those of the accesses on the wanted lines, and
 //! each is what the definitions give of the steps before it (`found`); a fault of the text is the text's first fault (`fault`). A place

@@ -77,20 +77,11 @@ impl Places {
     }
 
     /// The same places, with these calls in place of those that were known.
-    pub fn with_calls(self, calls: Calls) -> Self
+    pub fn with_calls(mut self, calls: Calls) -> Self
         ensures { result ≡ record self { calls = calls } }
     {
-        let Places {
-            by_line,
-            trace,
-            calls: known,
-        } = self;
-        drop(known);
-        Places {
-            by_line,
-            trace,
-            calls,
-        }
+        self.calls = calls;
+        self
     }
 
     /// The calls that led to the access at a place, innermost first: a number for each. There is none if they or the place aren't known.
@@ -117,17 +108,6 @@ impl Places {
         self.trace.names()
     }
 
-    /// The place of the access on this line, by this thread and of this kind, if it is known.
-    pub fn of_access(&self, line: u64, thread: ThreadId, kind: Kind) -> Option<&Place>
-        ensures place { option_copied result ≡ access_place self.now line thread kind }
-        ensures named { IfSome (option_copied result) (HasPlaceNames self.now.names) }
-    {
-        match self.by_line.get(&line) {
-            Some(place) if fits(thread, kind, place) => Some(place),
-            _ => None,
-        }
-    }
-
     /// The place of the access that a reason names, if it is known.
     pub fn of_reason(&self, because: &Because) -> Option<&Place>
         ensures place { option_copied result ≡ reason_place self.now because.now }
@@ -146,6 +126,17 @@ impl Places {
             Deed::Reuse(_) => None,
         }
     }
+
+    // The place of the access on this line, by this thread and of this kind, if it is known.
+    fn of_access(&self, line: u64, thread: ThreadId, kind: Kind) -> Option<&Place>
+        ensures place { option_copied result ≡ access_place self.now line thread kind }
+        ensures named { IfSome (option_copied result) (HasPlaceNames self.now.names) }
+    {
+        match self.by_line.get(&line) {
+            Some(place) if fits(thread, kind, place) => Some(place),
+            _ => None,
+        }
+    }
 }
 
 /// What the numbers of a report are called, and where the accesses of its reasons stood.
@@ -160,9 +151,5 @@ pub struct Legend<'a> {
 fn fits(thread: ThreadId, kind: Kind, place: &Place) -> bool
     ensures { result ≡ fits thread kind place.now }
 {
-    let same_kind = match (place.kind, kind) {
-        (Kind::Read, Kind::Read) | (Kind::Write, Kind::Write) => true,
-        _ => false,
-    };
-    place.thread == thread && same_kind
+    place.thread == thread && place.kind == kind
 }

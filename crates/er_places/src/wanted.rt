@@ -89,17 +89,11 @@ impl Wanted {
     fn add_report(&mut self, alloc: Global, report: &Option<Report>) -> Put
         ensures { OnOk result ((line : ℕ) → is_wanted self.new line ≡ (is_wanted self.old line || asked_in report.now line)) }
     {
-        match report {
-            Some(report) => self.add_reasons(alloc, &report.lines),
-            None => Ok(()),
-        }
-    }
-
-    fn add_reasons(&mut self, alloc: Global, lines: &[Line]) -> Put
-        ensures { OnOk result ((line : ℕ) → is_wanted self.new line ≡ (is_wanted self.old line || is_asked lines.now line)) }
-    {
+        let Some(report) = report else {
+            return Ok(());
+        };
         let mut sites = HashSet::with_hasher(alloc, *self.lines.hasher());
-        for line in lines {
+        for line in &report.lines {
             self.add_line(&mut sites, line)?;
         }
         Ok(())
