@@ -8,7 +8,7 @@ use Rattle.er_event.specs.declared.steps.Kind.{Kind}
 use Rattle.er_event.specs.declared.steps.Kind.TheVariants as kind
 use Rattle.er_trace.specs.Names.{NameTable}
 use Rattle.er_places.specs.Places.{PlaceTable, call_name}
-use Rattle.er_places.specs.Reasons.{access_place}
+use Rattle.er_places.specs.Reasons.{race_place}
 pub use Rattle.er_places.specs.Places.{calls_of}
 pub use Rattle.er_places.specs.Places.{HasPlaceNames}
 pub use Rattle.er_places.specs.Reasons.{reason_place}
@@ -55,13 +55,8 @@ row_text names row =
 
 -- what an access did
 abbrev pub did_text : Kind → List ℕ
-did_text kind.Read = codes " read it"
-did_text kind.Write = codes " wrote it"
-
--- and that of the race did to the word
-abbrev pub access_text : Kind → List ℕ
-access_text kind.Read = codes " read the word at "
-access_text kind.Write = codes " wrote the word at "
+did_text kind.Read = codes " read"
+did_text kind.Write = codes " wrote"
 
 -- the line of the trace
 abbrev pub line_text : ℕ → List ℕ
@@ -93,14 +88,18 @@ abbrev pub is_weak_at : Option Place → ℕ → Bool
 is_weak_at None lock = false
 is_weak_at (Some place) lock = not (has place.write_held lock)
 
--- a lock that is held and does not protect is held only to read, and so is one that isn't held to write at the place of the race
-abbrev pub mode_text : RaceView → Option Place → ℕ → List ℕ
-mode_text race own lock = cond (list_any (is_without race.line lock) race.explained || is_weak_at own lock) (codes ", but only to read") []
+-- a lock that isn't held to write at the place of the race is held only to read, and so is one that is held and does not protect
+abbrev pub is_weak : RaceView → Option Place → ℕ → Bool
+is_weak race own lock = is_weak_at own lock || list_any (is_without race.line lock) race.explained
+
+-- such a lock is marked
+abbrev pub mode_text : Bool → List ℕ
+mode_text only_to_read = cond only_to_read (codes ", but only to read") []
 
 -- a lock that the thread of a race held
 abbrev pub held_text : NameTable → RaceView → Option Place → ℕ → List ℕ
 held_text names race own lock =
-    codes "  " ++ thread_in style.Short names race.thread ++ codes " held " ++ lock_in style.Short names lock ++ mode_text race own lock ++ codes "\n"
+    codes "  " ++ thread_in style.Short names race.thread ++ codes " held " ++ lock_in style.Short names lock ++ mode_text (is_weak race own lock) ++ codes "\n"
 
 -- these locks that it held, or that it held none
 abbrev pub holds_text : NameTable → RaceView → Option Place → List ℕ → List ℕ
@@ -109,28 +108,20 @@ holds_text names race own (lock ∷ locks) = flat_map (held_text names race own)
 
 -- what an access has to do with a race: it was early, it was made without a lock, or nothing orders it
 abbrev pub story_text : NameTable → ℕ → Kind → Label → List ℕ
-story_text names thread kind label.First = thread_in style.Short names thread ++ codes " used it first: it" ++ did_text kind
-story_text names thread kind label.Joined = thread_in style.Short names thread ++ codes " was the second: it" ++ did_text kind
+story_text names thread kind label.First = thread_in style.Short names thread ++ codes " used it first: it" ++ did_text kind ++ codes " it"
+story_text names thread kind label.Joined = thread_in style.Short names thread ++ codes " was the second: it" ++ did_text kind ++ codes " it"
 story_text names thread kind label.Write = thread_in style.Short names thread ++ codes " has written it since then"
 story_text names thread kind (label.Uncovered lock) =
-    lock_in style.Short names lock ++ codes " did not protect it when " ++ thread_in style.Short names thread ++ did_text kind
-story_text names thread kind label.Unordered = codes "nothing orders this before it: " ++ thread_in style.Short names thread ++ did_text kind
-
--- a lock that is held only to read is marked
-abbrev pub read_text : List ℕ → ℕ → List ℕ
-read_text writes lock = cond (has writes lock) [] (codes ", but only to read")
+    lock_in style.Short names lock ++ codes " did not protect it when " ++ thread_in style.Short names thread ++ did_text kind ++ codes " it"
+story_text names thread kind label.Unordered = codes "nothing orders this before it: " ++ thread_in style.Short names thread ++ did_text kind ++ codes " it"
 
 -- a lock that the thread of a reason held, if these are held to write
 unfoldable pub kept_text : NameTable → List ℕ → ℕ → List ℕ
-kept_text names writes lock = codes "    holding " ++ lock_in style.Short names lock ++ read_text writes lock ++ codes "\n"
+kept_text names writes lock = codes "    holding " ++ lock_in style.Short names lock ++ mode_text (not (has writes lock)) ++ codes "\n"
 
--- the site of an access that was made with locks; the missing one is left out
-abbrev pub at_text : NameTable → ℕ → List ℕ
-at_text names site = cond (site == 0) [] (codes "    at " ++ site_in style.Short names site ++ codes "\n")
-
--- and of one that was made without
-abbrev pub bare_text : NameTable → ℕ → List ℕ
-bare_text names site = cond (site == 0) (codes "    holding no lock\n") (codes "    at " ++ site_in style.Short names site ++ codes ", holding no lock\n")
+-- the site of an access and what stands behind it; for the missing site this stands alone
+abbrev pub at_text : NameTable → ℕ → List ℕ → List ℕ → List ℕ
+at_text names site alone behind = cond (site == 0) alone (codes "    at " ++ site_in style.Short names site ++ behind)
 
 -- where a call that led to an access stands
 abbrev pub call_text : PlaceTable → ℕ → List ℕ
@@ -147,9 +138,9 @@ called_text table calls = flat_map (call_text table) (take 8 calls) ++ more_call
 
 -- where an access stood, the calls that led there, and these locks that its thread held
 abbrev pub stood_text : PlaceTable → Place → List ℕ → List ℕ
-stood_text table place [] = bare_text table.names place.site ++ called_text table (calls_of table (Some place))
+stood_text table place [] = at_text table.names place.site (codes "    holding no lock\n") (codes ", holding no lock\n") ++ called_text table (calls_of table (Some place))
 stood_text table place (lock ∷ locks) =
-    at_text table.names place.site ++ called_text table (calls_of table (Some place)) ++ flat_map (kept_text table.names place.write_held) (lock ∷ locks)
+    at_text table.names place.site [] (codes "\n") ++ called_text table (calls_of table (Some place)) ++ flat_map (kept_text table.names place.write_held) (lock ∷ locks)
 
 -- if that is known
 abbrev pub known_text : PlaceTable → Option Place → List ℕ
@@ -210,13 +201,13 @@ title_text names table race = 10 ∷ [] ++ met_text names table.names race.site 
 -- the access of a race
 abbrev pub head_text : NameTable → RaceView → Kind → ℕ → List ℕ
 head_text names race kind word =
-    codes "  " ++ thread_in style.Short names race.thread ++ access_text kind ++ address_text word ++ codes " (line " ++ decimal race.line ++ codes ")\n"
+    codes "  " ++ thread_in style.Short names race.thread ++ did_text kind ++ codes " the word at " ++ address_text word ++ codes " (line " ++ decimal race.line ++ codes ")\n"
 
 -- with the calls that led to it, its locks and its reasons
 abbrev pub access_story : NameTable → PlaceTable → RaceView → Kind → ℕ → List ℕ
 access_story names table race kind word =
-    head_text names race kind word ++ called_text table (calls_of table (access_place table race.line race.thread kind))
-    ++ holds_text names race (access_place table race.line race.thread kind) race.held ++ flat_map (reason_text names table race.line) race.explained ++ so_text race.explained
+    head_text names race kind word ++ called_text table (calls_of table (race_place table race))
+    ++ holds_text names race (race_place table race) race.held ++ flat_map (reason_text names table race.line) race.explained ++ so_text race.explained
 
 -- who gave back how much memory
 abbrev pub given_back_text : NameTable → RaceView → PageRange → List ℕ

@@ -10,7 +10,7 @@
 #![tactic(auto)]
 
 pub use counts::{Counts, count_races};
-pub use names::{access_text, is_system_name};
+pub use names::{did_text, is_system_name};
 pub use row::SiteRow;
 pub use table::site_rows;
 pub use text::sites_text;

@@ -1,7 +1,7 @@
 //! Names and numbers, in columns. Of a long name only the end is put, so that lines stay short.
 ghost use Rattle.std.specs.Prelude.{◌≡◌, ◌++◌, ◌≤◌, length, OnOk};
 ghost use Rattle.er_sites.specs.System.{is_system_name, is_system_site};
-ghost use Rattle.er_sites.specs.Text.{site_within, pair_text, column_text, access_text, did_text};
+ghost use Rattle.er_sites.specs.Text.{site_within, pair_text, column_text, did_text};
 
 use er_event::{Kind, Site};
 use er_print::{Put, put_number, put_short};
@@ -33,10 +33,7 @@ pub(crate) fn is_system_site(names: &Names, site: Site) -> bool
     requires { site ≤ length names.now.sites }
     ensures { result ≡ is_system_site names.now site }
 {
-    match name_of(names, site) {
-        Some(name) => is_system_name(name),
-        None => false,
-    }
+    name_of(names, site).is_some_and(is_system_name)
 }
 
 /// Puts two sites, each with its own names.
@@ -69,21 +66,11 @@ pub(crate) fn put_column(out: &mut Vec<u8>, n: u64) -> Put
 }
 
 /// What an access did.
-pub(crate) fn did_text(kind: Kind) -> &'static [u8]
+pub fn did_text(kind: Kind) -> &'static [u8]
     ensures { result.now ≡ did_text kind }
 {
     match kind {
-        Kind::Read => b" read it".as_slice(),
-        Kind::Write => b" wrote it".as_slice(),
-    }
-}
-
-/// What the access of a race did to the word.
-pub fn access_text(kind: Kind) -> &'static [u8]
-    ensures { result.now ≡ access_text kind }
-{
-    match kind {
-        Kind::Read => b" read the word at ".as_slice(),
-        Kind::Write => b" wrote the word at ".as_slice(),
+        Kind::Read => b" read".as_slice(),
+        Kind::Write => b" wrote".as_slice(),
     }
 }

@@ -1,6 +1,6 @@
 //! Where the access of a reason stood, what its thread held, and the calls that led there.
 ghost use Rattle.std.specs.Prelude.{◌≡◌, ◌++◌, ◌≤◌, flat_map, length, OnOk};
-ghost use Rattle.er_sites.specs.Text.{HasLockName, HasLockNames, HasPlaceNames, at_text, bare_text, call_text, called_text, kept_text, read_text, stood_text, where_text};
+ghost use Rattle.er_sites.specs.Text.{HasLockName, HasLockNames, HasPlaceNames, at_text, call_text, called_text, kept_text, mode_text, stood_text, where_text};
 
 use er_event::{LockId, Lockset, Site};
 use er_places::{Place, Places};
@@ -29,11 +29,17 @@ fn put_place(out: &mut Vec<u8>, places: &Places, place: &Place) -> Put
     let (names, calls) = (places.names(), places.calls_of(Some(place)));
     match place.held.as_slice() {
         [] => {
-            put_bare(out, names, place.site)?;
+            put_at(
+                out,
+                names,
+                place.site,
+                b"    holding no lock\n",
+                b", holding no lock\n",
+            )?;
             put_called(out, places, calls)
         }
         locks => {
-            put_at(out, names, place.site)?;
+            put_at(out, names, place.site, b"", b"\n")?;
             put_called(out, places, calls)?;
             put_kept_locks(out, names, &place.write_held, locks)
         }
@@ -58,39 +64,22 @@ fn put_calls(out: &mut Vec<u8>, places: &Places, calls: &[u32]) -> Put
     ensures { OnOk result (out.new.items ≡ out.old.items ++ flat_map (call_text places.now) calls.now) }
 {
     for call in calls {
-        put_call(out, places, *call)?;
+        put!(out, Style::Short, places.names();
+            Name(b"    called at ", places.call_name(*call)), Text(b"\n")
+        )?;
     }
     Ok(())
 }
 
-fn put_call(out: &mut Vec<u8>, places: &Places, call: u32) -> Put
-    ensures { OnOk result (out.new.items ≡ out.old.items ++ call_text places.now call) }
-{
-    put!(out, Style::Short, places.names();
-        Name(b"    called at ", places.call_name(call)), Text(b"\n")
-    )
-}
-
-// Puts the site of an access without a lock.
-fn put_bare(out: &mut Vec<u8>, names: &Names, site: Site) -> Put
+// Puts the site of an access and what stands behind it, and of the missing site what stands alone.
+fn put_at(out: &mut Vec<u8>, names: &Names, site: Site, alone: &[u8], behind: &[u8]) -> Put
     requires { site ≤ length names.now.sites }
-    ensures { OnOk result (out.new.items ≡ out.old.items ++ bare_text names.now site) }
+    ensures { OnOk result (out.new.items ≡ out.old.items ++ at_text names.now site alone.now behind.now) }
 {
     if site.number() == 0 {
-        return out.extend_from_slice(b"    holding no lock\n");
+        return out.extend_from_slice(alone);
     }
-    put!(out, Style::Short, names; At(b"    at ", site), Text(b", holding no lock\n"))
-}
-
-// Puts the site of an access with locks.
-fn put_at(out: &mut Vec<u8>, names: &Names, site: Site) -> Put
-    requires { site ≤ length names.now.sites }
-    ensures { OnOk result (out.new.items ≡ out.old.items ++ at_text names.now site) }
-{
-    if site.number() == 0 {
-        return Ok(());
-    }
-    put!(out, Style::Short, names; At(b"    at ", site), Text(b"\n"))
+    put!(out, Style::Short, names; At(b"    at ", site), Text(behind))
 }
 
 fn put_kept_locks(out: &mut Vec<u8>, names: &Names, write_held: &Lockset, locks: &[LockId]) -> Put
@@ -108,16 +97,17 @@ fn put_kept(out: &mut Vec<u8>, names: &Names, write_held: &Lockset, lock: LockId
     requires { HasLockName names.now lock }
     ensures { OnOk result (out.new.items ≡ out.old.items ++ kept_text names.now write_held.now lock) }
 {
-    let mode = read_text(write_held, lock);
+    let mode = mode_text(!write_held.contains(lock));
     put!(out, Style::Short, names; Lock(b"    holding ", lock), Text(mode), Text(b"\n"))
 }
 
-fn read_text(write_held: &Lockset, lock: LockId) -> &'static [u8]
-    ensures { result.now ≡ read_text write_held.now lock }
+/// What is said of a lock, if it was held only to read.
+pub(crate) fn mode_text(only_to_read: bool) -> &'static [u8]
+    ensures { result.now ≡ mode_text only_to_read }
 {
-    if write_held.contains(lock) {
-        b"".as_slice()
-    } else {
+    if only_to_read {
         b", but only to read".as_slice()
+    } else {
+        b"".as_slice()
     }
 }

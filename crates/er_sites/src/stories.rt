@@ -1,14 +1,14 @@
 //! One race in sentences.
-ghost use Rattle.std.specs.Prelude.{◌≡◌, ◌++◌, ◌≤◌, flat_map, length, option_and_then, option_copied, OnOk, Some};
+ghost use Rattle.std.specs.Prelude.{◌≡◌, ◌++◌, ◌≤◌, flat_map, length, option_and_then, option_copied, IfSome, OnOk, Some};
 ghost use Rattle.std.specs.List.{list_any};
-ghost use Rattle.er_sites.specs.Text.{HasLockName, HasNames, HasPlaceNames, HasRaceNames, HasReasonNames, line_view, race_of, reason_place, access_story, deed_text, example_text, given_back_text, head_text, held_text, holds_text, is_weak_at, lacks_lock, line_text, lone_text, may_meet, met, met_text, mode_text, title_text, reason_text, reuse_story, reuse_text, so_text, story_text, is_without};
+ghost use Rattle.er_sites.specs.Text.{HasLockName, HasNames, HasPlaceNames, HasRaceNames, HasReasonNames, line_view, race_of, reason_place, access_story, example_text, head_text, held_text, holds_text, is_weak, is_weak_at, lacks_lock, may_meet, met, met_text, title_text, reason_text, reuse_story, reuse_text, so_text, story_text, is_without};
 
-use crate::names::{access_text, did_text, put_pair};
-use crate::standing::{put_called, put_where};
+use crate::names::{did_text, put_pair};
+use crate::standing::{mode_text, put_called, put_where};
 use er_event::{Kind, LockId, PageRange, Site, Word};
 use er_places::{Legend, Place};
 use er_print::Piece::{Address, Lock, Number, Site as At, Text, Thread};
-use er_print::{Put, Style, bytes_of, put, put_all};
+use er_print::{Put, Style, bytes_of, put};
 use er_report::{Because, Deed, Label, Line, Race};
 use er_trace::Names;
 
@@ -20,17 +20,11 @@ pub(crate) fn put_example(out: &mut Vec<u8>, legend: &Legend, line: &Line) -> Pu
     let Some(race) = line.race() else {
         return Ok(());
     };
+    let deed = race.deed;
     put_title(out, legend, &race)?;
-    put_deed(out, legend, &race)
-}
-
-fn put_deed(out: &mut Vec<u8>, legend: &Legend, race: &Race<'_>) -> Put
-    requires { HasRaceNames legend.now.names.now race.now }
-    ensures { OnOk result (out.new.items ≡ out.old.items ++ deed_text legend.now.names.now legend.now.places.now race.now race.now.deed) }
-{
-    match race.deed {
-        Deed::Access(kind, word) => put_access(out, legend, race, kind, word),
-        Deed::Reuse(range) => put_reuse(out, legend, race, &range),
+    match deed {
+        Deed::Access(kind, word) => put_access(out, legend, &race, kind, word),
+        Deed::Reuse(range) => put_reuse(out, legend, &race, &range),
     }
 }
 
@@ -86,32 +80,39 @@ fn put_met(out: &mut Vec<u8>, legend: &Legend, site: Site, met: Option<Because>)
     requires { site ≤ length legend.now.names.now.sites }
     ensures { OnOk result (out.new.items ≡ out.old.items ++ met_text legend.now.names.now legend.now.places.now.names site (option_and_then (reason_place legend.now.places.now) met)) }
 {
+    let places = legend.places;
     match met {
-        Some(because) => put_beside(out, legend, site, &because),
-        None => put_all(out, Style::Short, legend.names, &[At(b"", site)]),
+        Some(because) => {
+            put_sites(
+                out,
+                legend.names,
+                places.names(),
+                site,
+                places.of_reason(&because),
+            )
+        }
+        None => put_sites(out, legend.names, places.names(), site, None),
     }
 }
 
-fn put_beside(out: &mut Vec<u8>, legend: &Legend, site: Site, because: &Because) -> Put
-    requires { site ≤ length legend.now.names.now.sites }
-    ensures { OnOk result (out.new.items ≡ out.old.items ++ met_text legend.now.names.now legend.now.places.now.names site (reason_place legend.now.places.now because.now)) }
-{
-    match legend.places.of_reason(because) {
-        Some(place) => put_sites(out, legend.names, legend.places.names(), site, place),
-        None => put_all(out, Style::Short, legend.names, &[At(b"", site)]),
-    }
-}
-
-// Puts the site of a race, and that of this place if it is known and another one.
-fn put_sites(out: &mut Vec<u8>, names: &Names, others: &Names, site: Site, place: &Place) -> Put
+// Puts the site of a race, and that of the other access if it is known and another one.
+fn put_sites(
+    out: &mut Vec<u8>,
+    names: &Names,
+    others: &Names,
+    site: Site,
+    other: Option<&Place>,
+) -> Put
     requires site { site ≤ length names.now.sites }
-    requires place { HasPlaceNames others.now place.now }
-    ensures { OnOk result (out.new.items ≡ out.old.items ++ met_text names.now others.now site (Some place.now)) }
+    requires place { IfSome (option_copied other) (HasPlaceNames others.now) }
+    ensures { OnOk result (out.new.items ≡ out.old.items ++ met_text names.now others.now site (option_copied other.entry)) }
 {
-    if place.site.number() == 0 || place.site == site {
-        return put_all(out, Style::Short, names, &[At(b"", site)]);
+    match other {
+        Some(place) if place.site.number() != 0 && place.site != site => {
+            put_pair(out, names, others, site, place.site)
+        }
+        _ => put!(out, Style::Short, names; At(b"", site)),
     }
-    put_pair(out, names, others, site, place.site)
 }
 
 fn put_access(out: &mut Vec<u8>, legend: &Legend, race: &Race<'_>, kind: Kind, word: Word) -> Put
@@ -119,7 +120,7 @@ fn put_access(out: &mut Vec<u8>, legend: &Legend, race: &Race<'_>, kind: Kind, w
     ensures { OnOk result (out.new.items ≡ out.old.items ++ access_story legend.now.names.now legend.now.places.now race.now kind word) }
 {
     put_head(out, legend.names, race, kind, word)?;
-    let own = legend.places.of_access(race.line, race.thread, kind);
+    let own = legend.places.of_race(race);
     put_called(out, legend.places, legend.places.calls_of(own))?;
     put_locks(out, legend.names, race, own)?;
     put_reasons(out, legend, race)?;
@@ -131,7 +132,7 @@ fn put_head(out: &mut Vec<u8>, names: &Names, race: &Race<'_>, kind: Kind, word:
     ensures { OnOk result (out.new.items ≡ out.old.items ++ head_text names.now race.now kind word) }
 {
     put!(out, Style::Short, names;
-        Thread(b"  ", race.thread), Text(access_text(kind)), Address(b"", word),
+        Thread(b"  ", race.thread), Text(did_text(kind)), Address(b" the word at ", word),
         Number(b" (line ", race.line), Text(b")\n")
     )
 }
@@ -162,20 +163,16 @@ fn put_held(
     ensures { OnOk result (out.new.items ≡ out.old.items ++ held_text names.now race.now (option_copied own.entry) lock) }
 {
     put!(out, Style::Short, names;
-        Thread(b"  ", race.thread), Lock(b" held ", lock), Text(mode_text(race, own, lock)),
-        Text(b"\n")
+        Thread(b"  ", race.thread), Lock(b" held ", lock),
+        Text(mode_text(is_weak(race, own, lock))), Text(b"\n")
     )
 }
 
-// That a lock was held only to read, if it didn't protect the access on the line or wasn't held to write at its place.
-fn mode_text(race: &Race<'_>, own: Option<&Place>, lock: LockId) -> &'static [u8]
-    ensures { result.now ≡ mode_text race.now (option_copied own.entry) lock }
+// Whether a lock was held only to read: it wasn't held to write at the place of the race, or a reason says that it didn't protect the race.
+fn is_weak(race: &Race<'_>, own: Option<&Place>, lock: LockId) -> bool
+    ensures { result ≡ is_weak race.now (option_copied own.entry) lock }
 {
-    if is_unprotected(race.line, race.explained, lock) || is_weak_at(own, lock) {
-        b", but only to read".as_slice()
-    } else {
-        b"".as_slice()
-    }
+    is_weak_at(own, lock) || is_unprotected(race.line, race.explained, lock)
 }
 
 fn is_weak_at(own: Option<&Place>, lock: LockId) -> bool
@@ -211,20 +208,14 @@ pub(crate) fn put_reuse_story(out: &mut Vec<u8>, legend: &Legend, line: &Line) -
     requires { HasNames legend.now.names.now line.now }
     ensures { OnOk result (out.new.items ≡ out.old.items ++ reuse_story legend.now.names.now legend.now.places.now (race_of (line_view line.now))) }
 {
-    match line.race() {
-        Some(race) => put_lone(out, legend, &race),
-        None => Ok(()),
-    }
-}
-
-fn put_lone(out: &mut Vec<u8>, legend: &Legend, race: &Race<'_>) -> Put
-    requires { HasRaceNames legend.now.names.now race.now }
-    ensures { OnOk result (out.new.items ≡ out.old.items ++ lone_text legend.now.names.now legend.now.places.now race.now race.now.site race.now.deed) }
-{
-    match race.deed {
+    let Some(race) = line.race() else {
+        return Ok(());
+    };
+    let deed = race.deed;
+    match deed {
         Deed::Reuse(range) if race.site.number() == 0 => {
             put!(out, Style::Short, legend.names; Address(b"", range.lo), Text(b":\n"))?;
-            put_reuse(out, legend, race, &range)?;
+            put_reuse(out, legend, &race, &range)?;
             out.extend_from_slice(b"\n")
         }
         _ => Ok(()),
@@ -236,18 +227,11 @@ fn put_reuse(out: &mut Vec<u8>, legend: &Legend, race: &Race<'_>, range: &PageRa
     requires { HasRaceNames legend.now.names.now race.now }
     ensures { OnOk result (out.new.items ≡ out.old.items ++ reuse_text legend.now.names.now legend.now.places.now race.now range.now) }
 {
-    put_given_back(out, legend.names, race, range)?;
-    put_reasons(out, legend, race)
-}
-
-fn put_given_back(out: &mut Vec<u8>, names: &Names, race: &Race<'_>, range: &PageRange) -> Put
-    requires { HasRaceNames names.now race.now }
-    ensures { OnOk result (out.new.items ≡ out.old.items ++ given_back_text names.now race.now range.now) }
-{
-    put!(out, Style::Short, names;
+    put!(out, Style::Short, legend.names;
         Thread(b"  ", race.thread), Number(b" gave back ", bytes_of(range)),
         Number(b" bytes (line ", race.line), Text(b")\n")
-    )
+    )?;
+    put_reasons(out, legend, race)
 }
 
 fn put_reasons(out: &mut Vec<u8>, legend: &Legend, race: &Race<'_>) -> Put
@@ -266,7 +250,7 @@ fn put_reason(out: &mut Vec<u8>, legend: &Legend, line: u64, because: &Because) 
 {
     out.extend_from_slice(b"  ")?;
     put_story(out, legend.names, because)?;
-    put_line(out, legend.names, because.line)?;
+    put!(out, Style::Short, legend.names; Number(b" (line ", because.line), Text(b")\n"))?;
     put_where(out, legend.places, line, because)
 }
 
@@ -277,27 +261,21 @@ fn put_story(out: &mut Vec<u8>, names: &Names, because: &Because) -> Put
     let (thread, did) = (because.thread, did_text(because.kind));
     match because.label {
         Label::First => put!(out, Style::Short, names;
-            Thread(b"", thread), Text(b" used it first: it"), Text(did)
+            Thread(b"", thread), Text(b" used it first: it"), Text(did), Text(b" it")
         ),
         Label::Joined => put!(out, Style::Short, names;
-            Thread(b"", thread), Text(b" was the second: it"), Text(did)
+            Thread(b"", thread), Text(b" was the second: it"), Text(did), Text(b" it")
         ),
         Label::Write => {
             put!(out, Style::Short, names; Thread(b"", thread), Text(b" has written it since then"))
         }
         Label::Uncovered(lock) => put!(out, Style::Short, names;
-            Lock(b"", lock), Thread(b" did not protect it when ", thread), Text(did)
+            Lock(b"", lock), Thread(b" did not protect it when ", thread), Text(did), Text(b" it")
         ),
         Label::Unordered => put!(out, Style::Short, names;
-            Thread(b"nothing orders this before it: ", thread), Text(did)
+            Thread(b"nothing orders this before it: ", thread), Text(did), Text(b" it")
         ),
     }
-}
-
-fn put_line(out: &mut Vec<u8>, names: &Names, line: u64) -> Put
-    ensures { OnOk result (out.new.items ≡ out.old.items ++ line_text line) }
-{
-    put!(out, Style::Short, names; Number(b" (line ", line), Text(b")\n"))
 }
 
 // Puts what follows from the reasons, if they are known.

@@ -108,10 +108,7 @@ fn find_sites(alloc: Global, lines: &[Line]) -> Result<Found, AllocError>
 fn example_at(examples: &[Option<usize>], site: usize) -> Option<usize>
     ensures { result ≡ slice_index_or examples.now site None }
 {
-    match examples.get(site) {
-        Some(place) => *place,
-        None => None,
-    }
+    examples.get(site).copied().unwrap_or(None)
 }
 
 // The place of the first race at each site among the lines, by the number of the site.

@@ -4,4 +4,4 @@ use Rattle.er_sites.proofs.standing.put_kept.Goals as goal
 
 pub returns : goal.returns
 unfolding kept_text
-returns c = rw (← c.read_text-mode.ensures) c.put.ensures.joined
+returns c = rw (← c.contains.ensures, ← c.mode_text-mode.ensures) c.put.ensures.joined
