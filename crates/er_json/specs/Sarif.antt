@@ -23,11 +23,11 @@ use Rattle.er_report.specs.declared.report.Report.{Report}
 use Rattle.er_report.specs.declared.reports.Reports.{Reports}
 use Rattle.er_rules.specs.Rules.{Target, AtSite, AtWords}
 use Rattle.er_json.specs.Places.{file_end}
-use Rattle.er_json.specs.Uris.{uri_text}
+use Rattle.er_json.specs.Uris.{uri_byte}
 use Rattle.er_print.specs.declared.lines.ReportKind.{ReportKind}
 use Rattle.er_print.specs.declared.lines.ReportKind.TheVariants.{Lockset, Unordered}
 use Rattle.er_sites.specs.Table.{reads_at, reuses_at, writes_at}
-use Rattle.er_sites.specs.Text.{access_text}
+use Rattle.er_sites.specs.Text.{did_text}
 use Rattle.er_trace.specs.Names.{NameTable}
 use Rattle.er_triage.specs.Texts.{target_text}
 
@@ -37,7 +37,7 @@ verb_of (deed.Access kind word) = kind_text kind
 verb_of (deed.Reuse range) = codes "reuse"
 
 abbrev pub deed_words : Deed → List ℕ
-deed_words (deed.Access kind word) = access_text kind ++ address_text word
+deed_words (deed.Access kind word) = did_text kind ++ codes " the word at " ++ address_text word
 deed_words (deed.Reuse range) = codes " gave back " ++ decimal (bytes_between range.lo range.hi) ++ codes " bytes at " ++ address_text range.lo
 
 -- what the results of a run begin with: the front of a rule
@@ -57,7 +57,7 @@ name_member site = codes "{\"logicalLocations\":[{\"fullyQualifiedName\":" ++ st
 -- and of another the file ends at the colon
 unfoldable pub file_member : List ℕ → ℕ → List ℕ
 file_member site n =
-    codes "{\"physicalLocation\":{\"artifactLocation\":{\"uri\":" ++ uri_text (take n site) ++ codes "},\"region\":{\"startLine\":" ++ drop (n + 1) site ++ codes "}}"
+    codes "{\"physicalLocation\":{\"artifactLocation\":{\"uri\":\"" ++ flat_map uri_byte (take n site) ++ codes "\"},\"region\":{\"startLine\":" ++ drop (n + 1) site ++ codes "}}"
 
 abbrev pub place_by : List ℕ → Option ℕ → List ℕ
 place_by site None = name_member site

@@ -1,5 +1,5 @@
 -- The file of a site as a URI.
-use Rattle.std.specs.Prelude.{ℕ, ◌+◌, ◌/◌, ◌%◌, ◌==◌, ◌||◌, ◌&&◌, Bool, nat_le, nat_lt, cond, List, [], ◌∷◌, ◌++◌, flat_map, codes}
+use Rattle.std.specs.Prelude.{ℕ, ◌+◌, ◌/◌, ◌%◌, ◌==◌, ◌||◌, ◌&&◌, Bool, nat_le, nat_lt, cond, List, [], ◌∷◌, codes}
 use Rattle.std.specs.List.{list_any}
 
 -- a letter or a digit, or a sign that stands for itself in a path of a URI; a colon does so only behind a scheme
@@ -12,10 +12,6 @@ is_path_byte byte =
 abbrev pub digit_byte : ℕ → ℕ
 digit_byte digit = cond (nat_lt digit 10) (48 + digit) (55 + digit)
 
--- a byte of a path, or its escape
+-- a byte of a path, or its escape; neither needs an escape of JSON
 abbrev pub uri_byte : ℕ → List ℕ
 uri_byte byte = cond (is_path_byte byte) (byte ∷ []) (37 ∷ digit_byte (byte / 16) ∷ digit_byte (byte % 16) ∷ [])
-
--- a file as a string with its URI; no byte of it needs an escape of JSON
-unfoldable pub uri_text : List ℕ → List ℕ
-uri_text file = 34 ∷ flat_map uri_byte file ++ 34 ∷ []

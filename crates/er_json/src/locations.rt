@@ -1,12 +1,12 @@
 //! Where in the program accesses stand, what their threads held, and the reasons of a result.
-ghost use Rattle.std.specs.Prelude.{◌≡◌, ◌++◌, ◌<◌, ◌≤◌, codes, flat_map, length, All, IfSome, OnOk};
+ghost use Rattle.std.specs.Prelude.{◌≡◌, ◌++◌, ◌<◌, ◌≤◌, codes, flat_map, length, option_copied, All, IfSome, OnOk};
 ghost use Rattle.std.specs.List.{list_all};
 ghost use Rattle.er_json.specs.Places.{colon_below, file_end, is_digit, is_line};
 ghost use Rattle.er_json.specs.Sarif.{HasLockName, HasLockNames, HasPlaceNames, HasReasonNames, file_member, holding_words, location_member, lock_words, locks_words, mode_words, name_member, open_location, opening_of, opening_text, reason_place, reason_text, sentence_words, values_text};
-ghost use Rattle.er_json.specs.Uris.{digit_byte, is_path_byte, uri_byte, uri_text};
+ghost use Rattle.er_json.specs.Uris.{digit_byte, is_path_byte, uri_byte};
 
-use er_event::{LockId, Lockset, Site};
-use er_places::{Legend, Places};
+use er_event::{LockId, Lockset};
+use er_places::{Legend, Place};
 use er_print::Piece::{Label, Lock, Number, Text, Thread, Verb};
 use er_print::{Put, Style, comma_before, put, put_string};
 use er_report::Because;
@@ -28,16 +28,9 @@ pub(crate) fn put_location(out: &mut Vec<u8>, site: &[u8]) -> Put
 pub(crate) fn open_location(out: &mut Vec<u8>, site: &[u8]) -> Put
     ensures { OnOk result (out.new.items ≡ out.old.items ++ open_location site.now) }
 {
-    match file_end(site) {
-        Some(place) => put_file(out, site, place),
-        None => put_name(out, site),
+    if let Some(place) = file_end(site) {
+        return put_file(out, site, place);
     }
-}
-
-#[tactic(auto, unfolding(crate::specs::Sarif::name_member))]
-fn put_name(out: &mut Vec<u8>, site: &[u8]) -> Put
-    ensures { OnOk result (out.new.items ≡ out.old.items ++ name_member site.now) }
-{
     out.extend_from_slice(b"{\"logicalLocations\":[{\"fullyQualifiedName\":")?;
     put_string(out, site)?;
     out.extend_from_slice(b"}]")?;
@@ -49,9 +42,9 @@ fn put_file(out: &mut Vec<u8>, site: &[u8], place: usize) -> Put
     requires { place < length site.now }
     ensures { OnOk result (out.new.items ≡ out.old.items ++ file_member site.now place) }
 {
-    out.extend_from_slice(b"{\"physicalLocation\":{\"artifactLocation\":{\"uri\":")?;
-    put_uri(out, &site[..place])?;
-    out.extend_from_slice(b"},\"region\":{\"startLine\":")?;
+    out.extend_from_slice(b"{\"physicalLocation\":{\"artifactLocation\":{\"uri\":\"")?;
+    put_path(out, &site[..place])?;
+    out.extend_from_slice(b"\"},\"region\":{\"startLine\":")?;
     out.extend_from_slice(&site[place + 1..])?;
     out.extend_from_slice(b"}}")?;
     Ok(())
@@ -74,9 +67,11 @@ fn put_reason(out: &mut Vec<u8>, legend: &Legend, because: &Because) -> Put
     requires { HasReasonNames legend.now.names.now because.now }
     ensures { OnOk result (out.new.items ≡ out.old.items ++ reason_text legend.now.names.now legend.now.places.now because.now) }
 {
-    put_opening(out, legend.places, because)?;
+    let names = legend.places.names();
+    let place = legend.places.of_reason(because);
+    put_opening(out, names, place)?;
     put_sentence(out, legend.names, because)?;
-    put_holding(out, legend.places, because)?;
+    put_holding(out, names, place)?;
     out.extend_from_slice(b"\"}}")?;
     Ok(())
 }
@@ -94,40 +89,31 @@ fn put_sentence(out: &mut Vec<u8>, names: &Names, because: &Because) -> Put
 }
 
 // Opens the location of a reason, with its site if that is known.
-fn put_opening(out: &mut Vec<u8>, places: &Places, because: &Because) -> Put
-    ensures { OnOk result (out.new.items ≡ out.old.items ++ opening_text places.now.names (reason_place places.now because.now)) }
-{
-    match places.of_reason(because) {
-        Some(place) => put_site(out, places.names(), place.site),
-        None => out.extend_from_slice(b"{"),
-    }
-}
-
 #[tactic(auto, unfolding(crate::specs::Sarif::opening_of))]
-fn put_site(out: &mut Vec<u8>, names: &Names, site: Site) -> Put
-    requires { site ≤ length names.now.sites }
-    ensures { OnOk result (out.new.items ≡ out.old.items ++ opening_of names.now site) }
+fn put_opening(out: &mut Vec<u8>, names: &Names, place: Option<&Place>) -> Put
+    requires { IfSome (option_copied place) (HasPlaceNames names.now) }
+    ensures { OnOk result (out.new.items ≡ out.old.items ++ opening_text names.now (option_copied place.entry)) }
 {
-    if site.number() == 0 {
-        return out.extend_from_slice(b"{");
+    match place {
+        Some(place) if place.site.number() > 0 => {
+            open_location(out, names.site_name(place.site).as_bytes())?;
+            out.extend_from_slice(b",")
+        }
+        _ => out.extend_from_slice(b"{"),
     }
-    open_location(out, names.site_name(site).as_bytes())?;
-    out.extend_from_slice(b",")
 }
 
 // Puts what the thread of a reason held, if that is known.
 #[tactic(auto, unfolding(crate::specs::Sarif::holding_words))]
-fn put_holding(out: &mut Vec<u8>, places: &Places, because: &Because) -> Put
-    ensures { OnOk result (out.new.items ≡ out.old.items ++ holding_words places.now.names (reason_place places.now because.now)) }
+fn put_holding(out: &mut Vec<u8>, names: &Names, place: Option<&Place>) -> Put
+    requires { IfSome (option_copied place) (HasPlaceNames names.now) }
+    ensures { OnOk result (out.new.items ≡ out.old.items ++ holding_words names.now (option_copied place.entry)) }
 {
-    match places.of_reason(because) {
-        Some(place) => {
-            out.extend_from_slice(b", holding")?;
-            let held = place.held.as_slice();
-            put_locks(out, places.names(), &place.write_held, held)
-        }
-        None => Ok(()),
-    }
+    let Some(place) = place else {
+        return Ok(());
+    };
+    out.extend_from_slice(b", holding")?;
+    put_locks(out, names, &place.write_held, place.held.as_slice())
 }
 
 fn put_locks(out: &mut Vec<u8>, names: &Names, writes: &Lockset, locks: &[LockId]) -> Put
@@ -211,22 +197,7 @@ fn is_line(text: &[u8]) -> bool
 fn are_digits(text: &[u8]) -> bool
     ensures { result ≡ list_all is_digit text.now }
 {
-    text.iter().all(|byte| is_digit(*byte))
-}
-
-fn is_digit(byte: u8) -> bool
-    ensures { result ≡ is_digit byte }
-{
-    b'0' <= byte && byte <= b'9'
-}
-
-#[tactic(auto, unfolding(crate::specs::Uris::uri_text))]
-fn put_uri(out: &mut Vec<u8>, file: &[u8]) -> Put
-    ensures { OnOk result (out.new.items ≡ out.old.items ++ uri_text file.now) }
-{
-    out.extend_from_slice(b"\"")?;
-    put_path(out, file)?;
-    out.extend_from_slice(b"\"")
+    text.iter().all(|byte| byte.is_ascii_digit())
 }
 
 fn put_path(out: &mut Vec<u8>, file: &[u8]) -> Put

@@ -11,7 +11,7 @@ use er_places::Legend;
 use er_print::Piece::{Address, Locks, Name, Number, Site, Text, Thread};
 use er_print::{Put, ReportKind, Style, bytes_of, put, verb};
 use er_report::{Deed, Line, Race};
-use er_sites::{Counts, access_text};
+use er_sites::{Counts, did_text};
 use er_trace::Names;
 use std::alloc::AllocError;
 
@@ -116,7 +116,7 @@ fn put_deed(out: &mut Vec<u8>, names: &Names, deed: Deed) -> Put
 {
     match deed {
         Deed::Access(kind, word) => {
-            put!(out, Style::InString, names; Address(access_text(kind), word))
+            put!(out, Style::InString, names; Text(did_text(kind)), Address(b" the word at ", word))
         }
         Deed::Reuse(range) => put!(out, Style::InString, names;
             Number(b" gave back ", bytes_of(&range)), Address(b" bytes at ", range.lo)

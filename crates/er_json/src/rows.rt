@@ -131,18 +131,11 @@ fn put_calls(out: &mut Vec<u8>, places: &Places, calls: &[u32]) -> Put
         return Ok(());
     }
     out.extend_from_slice(b",\"calls\":[")?;
-    put_call_names(out, places, calls)?;
-    out.extend_from_slice(b"]")
-}
-
-fn put_call_names(out: &mut Vec<u8>, places: &Places, calls: &[u32]) -> Put
-    ensures { OnOk result (out.new.items ≡ out.old.items ++ values_text (call_text places.now) calls.now) }
-{
     for (place, call) in calls.iter().enumerate() {
         out.extend_from_slice(comma_before(place))?;
         put_string(out, places.call_name(*call))?;
     }
-    Ok(())
+    out.extend_from_slice(b"]")
 }
 
 #[tactic(auto, unfolding(crate::specs::Document::place_member))]

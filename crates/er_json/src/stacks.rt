@@ -14,7 +14,7 @@ pub(crate) fn put_stacks(out: &mut Vec<u8>, places: &Places, race: &Race<'_>) ->
     ensures { OnOk result (out.new.items ≡ out.old.items ++ stacks_member (stacks_text places.now race.now)) }
 {
     let mut stacks = Vec::new(*out.allocator());
-    put_stack_if(&mut stacks, places, places.of_race(race))?;
+    put_stack(&mut stacks, places, places.of_race(race))?;
     put_reason_stacks(&mut stacks, places, race.line, race.explained)?;
     let [_, stacks @ ..] = stacks.as_slice() else {
         return Ok(());
@@ -29,36 +29,23 @@ fn put_reason_stacks(out: &mut Vec<u8>, places: &Places, line: u64, explained: &
     ensures { OnOk result (out.new.items ≡ out.old.items ++ flat_map (reason_stack places.now line) explained.now) }
 {
     for because in explained {
-        put_reason_stack(out, places, line, because)?;
+        if because.line != line {
+            put_stack(out, places, places.of_reason(because))?;
+        }
     }
     Ok(())
 }
 
-fn put_reason_stack(out: &mut Vec<u8>, places: &Places, line: u64, because: &Because) -> Put
-    ensures { OnOk result (out.new.items ≡ out.old.items ++ reason_stack places.now line because.now) }
-{
-    if because.line == line {
-        return Ok(());
-    }
-    put_stack_if(out, places, places.of_reason(because))
-}
-
-fn put_stack_if(out: &mut Vec<u8>, places: &Places, place: Option<&Place>) -> Put
+// Puts a stack behind a comma, if there is a call.
+#[tactic(auto, unfolding(crate::specs::Sarif::stack_text))]
+fn put_stack(out: &mut Vec<u8>, places: &Places, place: Option<&Place>) -> Put
     requires { IfSome (option_copied place) (HasPlaceNames places.now.names) }
     ensures { OnOk result (out.new.items ≡ out.old.items ++ stack_if places.now (option_copied place.entry)) }
 {
-    match place {
-        Some(place) => put_stack(out, places, place, places.calls_of(Some(place))),
-        None => Ok(()),
-    }
-}
-
-// Puts a stack behind a comma, if there is a call.
-#[tactic(auto, unfolding(crate::specs::Sarif::stack_text))]
-fn put_stack(out: &mut Vec<u8>, places: &Places, place: &Place, calls: &[u32]) -> Put
-    requires { HasPlaceNames places.now.names place.now }
-    ensures { OnOk result (out.new.items ≡ out.old.items ++ stack_text places.now place.now calls.now) }
-{
+    let Some(place) = place else {
+        return Ok(());
+    };
+    let calls = places.calls_of(Some(place));
     if calls.is_empty() {
         return Ok(());
     }

@@ -1,5 +1,6 @@
 -- The four parts, one behind another.
 use Rattle.std.proofs.Common.{codes}
+use Rattle.er_places.specs.Places.{PlaceTable}
 use Rattle.er_places.specs.Reasons.{reason_place}
 use Rattle.er_json.proofs.PutLemmas.{put_four}
 use Rattle.er_json.specs.Sarif.{holding_words, opening_text, reason_text, sentence_words}
@@ -8,6 +9,9 @@ use Rattle.er_json.proofs.locations.put_reason.Goals as goal
 pub returns : goal.returns
 unfolding reason_text
 returns c =
-    put_four _ _ _ _ _ (opening_text c.args.legend.now.places.now.names (reason_place c.args.legend.now.places.now c.args.because.now)) (sentence_words c.args.legend.now.names.now c.args.because.now)
-    (holding_words c.args.legend.now.places.now.names (reason_place c.args.legend.now.places.now c.args.because.now)) (codes "\"}}") c.in_ok-put_opening.ensures c.in_ok-put_sentence.ensures
-    c.in_ok-put_holding.ensures c.in_ok-extend_from_slice.ensures.items
+    let table : PlaceTable = c.args.legend.now.places.now in
+    let place = c.of_reason-place.ensures.place in
+    put_four _ _ _ _ _ (opening_text table.names (reason_place table c.args.because.now)) (sentence_words c.args.legend.now.names.now c.args.because.now)
+    (holding_words table.names (reason_place table c.args.because.now)) (codes "\"}}")
+    (rw (c.names-names.ensures, place) at c.in_ok-put_opening.ensures) c.in_ok-put_sentence.ensures
+    (rw (c.names-names.ensures, place) at c.in_ok-put_holding.ensures) c.in_ok-extend_from_slice.ensures.items

@@ -1,7 +1,7 @@
 -- The four parts, one behind another.
-use Rattle.std.proofs.Common.{◌≡◌, ◌==◌, ◌∙◌, ℕ, false, List, [], ◌∷◌, ◌++◌, length, flat_map, codes, decimal, refl, ap}
+use Rattle.std.proofs.Common.{◌≡◌, ◌==◌, ◌∙◌, ℕ, false, List, [], ◌∷◌, ◌++◌, length, flat_map, Option, option_copied, codes, decimal, refl, sym, ap}
 use Rattle.er_json.proofs.PutLemmas.{put_four}
-use Rattle.er_json.specs.Sarif.{call_frame, frame_text, stack_text}
+use Rattle.er_json.specs.Sarif.{call_frame, frame_text, stack_if, stack_text}
 use Rattle.er_places.specs.Places.{PlaceTable}
 use Rattle.er_places.specs.declared.places.Place.{Place}
 use Rattle.er_print.specs.Printed.{site_text}
@@ -19,8 +19,14 @@ stack_some table place (call ∷ calls) some = refl
 
 pub returns : goal.returns
 returns c =
-    let site = c.deref.ensures.value ∙ c.in_ok-put.ensures.joined ∙ ap (λ (start : List ℕ). start ++ site_in style.Plain c.names.result.now c.args.place.now.site) c.new-site.ensures.items
-    ∙ ap (λ (names : NameTable). site_in style.Plain names c.args.place.now.site) c.names.ensures in
-    rw (stack_some c.args.places.now c.args.place.now c.args.calls.now c.if-is_empty.ensures)
+    let table : PlaceTable = c.args.places.now in
+    let place : Place = c.in-Some.place.now in
+    let calls : List ℕ = c.calls_of-calls.result.now in
+    let site = c.deref.ensures.value ∙ c.in_ok-put.ensures.joined ∙ ap (λ (start : List ℕ). start ++ site_in style.Plain c.names.result.now place.site) c.new-site.ensures.items
+    ∙ ap (λ (names : NameTable). site_in style.Plain names place.site) c.names.ensures in
+    let stack : c.extend_from_slice.new.self.items ≡ c.args.out.now.items ++ stack_text table place calls =
+    rw (stack_some table place calls c.if-is_empty.ensures)
     (put_four _ _ _ _ _ _ _ _ _ c.in_ok-put-2.ensures.joined (c.in_ok-put_frame.ensures ∙ ap (λ (site : List ℕ). c.put-2.new.out.items ++ frame_text site) site)
-    c.in_ok-put_calls.ensures c.in_ok-extend_from_slice.ensures.items)
+    c.in_ok-put_calls.ensures c.in_ok-extend_from_slice.ensures.items) in
+    stack ∙ ap (λ (calls : List ℕ). c.args.out.now.items ++ stack_text table place calls) c.calls_of-calls.ensures
+    ∙ ap (λ (known : Option Place). c.args.out.now.items ++ stack_if table known) (sym (ap option_copied c.in-Some.is))
