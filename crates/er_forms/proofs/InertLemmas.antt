@@ -1,5 +1,5 @@
 -- A block has no less-than sign, byte by byte.
-use Rattle.std.proofs.Common.{◌≡◌, ◌≢◌, ◌==◌, ℕ, Bool, true, false, cond, List, [], ◌∷◌, All, codes, refl}
+use Rattle.std.proofs.Common.{◌≡◌, ◌≢◌, ◌==◌, ℕ, Bool, true, false, cond, List, [], ◌∷◌, codes, refl}
 use Rattle.std.proofs.lemmas.List.Elements.{All-append, All-cons, All-from_recursion, All-nil}
 use Rattle.std.proofs.lemmas.Bool.{eqb-false}
 use Rattle.er_forms.specs.Page.{IsInert, block_text, inert}

@@ -111,11 +111,9 @@ pub fn excerpt_around(
     if next_line <= line {
         return Ok(None);
     }
-    let site = String::from_str(alloc, site)?;
-    let text = String::from_utf8_lossy(alloc, &kept)?;
     Ok(Some(Excerpt {
-        site,
+        site: String::from_str(alloc, site)?,
         first_line,
-        text,
+        text: String::from_utf8_lossy(alloc, &kept)?,
     }))
 }

@@ -43,18 +43,12 @@ fn put_block(out: &mut Vec<u8>, json: &[u8]) -> Put
     ensures { OnOk result (out.new.items ≡ out.old.items ++ block_text json.now) }
 {
     for byte in json {
-        put_inert(out, *byte)?;
+        match *byte {
+            b'<' => out.extend_from_slice(b"\\u003c")?,
+            byte => out.push(byte)?,
+        }
     }
     Ok(())
-}
-
-fn put_inert(out: &mut Vec<u8>, byte: u8) -> Put
-    ensures { OnOk result (out.new.items ≡ out.old.items ++ inert byte) }
-{
-    match byte {
-        b'<' => out.extend_from_slice(b"\\u003c"),
-        _ => Ok(out.push(byte)?),
-    }
 }
 
 #[tactic(auto, unfolding(crate::specs::Page::excerpts_text))]
@@ -63,19 +57,12 @@ fn excerpts_text(alloc: Global, excerpts: &[Excerpt]) -> Built
 {
     let mut json = Vec::new(alloc);
     json.extend_from_slice(b"[")?;
-    put_excerpts(&mut json, excerpts)?;
+    for (place, excerpt) in excerpts.iter().enumerate() {
+        json.extend_from_slice(comma_before(place))?;
+        put_excerpt(&mut json, excerpt)?;
+    }
     json.extend_from_slice(b"]")?;
     Ok(json)
-}
-
-fn put_excerpts(out: &mut Vec<u8>, excerpts: &[Excerpt]) -> Put
-    ensures { OnOk result (out.new.items ≡ out.old.items ++ values_text excerpt_text excerpts.now) }
-{
-    for (place, excerpt) in excerpts.iter().enumerate() {
-        out.extend_from_slice(comma_before(place))?;
-        put_excerpt(out, excerpt)?;
-    }
-    Ok(())
 }
 
 #[tactic(auto, unfolding(crate::specs::Page::excerpt_text))]
@@ -95,18 +82,12 @@ fn put_source(out: &mut Vec<u8>, text: &[u8]) -> Put
     ensures { OnOk result (out.new.items ≡ out.old.items ++ flat_map source_byte text.now) }
 {
     for byte in text {
-        put_source_byte(out, *byte)?;
+        match *byte {
+            b'\n' => out.extend_from_slice(b"\\n")?,
+            b'\t' => out.extend_from_slice(b"\\t")?,
+            0..=31 => out.extend_from_slice(b" ")?,
+            byte => put_escaped(out, &[byte])?,
+        }
     }
     Ok(())
-}
-
-fn put_source_byte(out: &mut Vec<u8>, byte: u8) -> Put
-    ensures { OnOk result (out.new.items ≡ out.old.items ++ source_byte byte) }
-{
-    match byte {
-        b'\n' => out.extend_from_slice(b"\\n"),
-        b'\t' => out.extend_from_slice(b"\\t"),
-        0..=31 => out.extend_from_slice(b" "),
-        _ => put_escaped(out, &[byte]),
-    }
 }

@@ -1,5 +1,5 @@
 -- The parts of the page, one behind another.
-use Rattle.std.proofs.Common.{◌≡◌, ◌++◌, ◌∙◌, ℕ, List, ap}
+use Rattle.std.proofs.Common.{◌++◌, ◌∙◌, ℕ, List, ap}
 use Rattle.er_forms.specs.Page.{block_text, html_reports}
 use Rattle.er_forms.proofs.JoinLemmas.{ten_parts}
 use Rattle.er_forms.proofs.page.html_text.Goals as goal

@@ -1,7 +1,0 @@
-use Rattle.std.proofs.Common.{◌≡◌, ◌++◌, take}
-use Rattle.er_forms.specs.Page.{excerpt_text}
-use Rattle.er_print.specs.Values.{values_text}
-use Rattle.er_forms.proofs.page.put_excerpts.Given as goal
-
-abbrev pub invariant-loop-place : goal.invariant-loop-place
-invariant-loop-place l = l.out.items ≡ l.fn.out.items ++ values_text excerpt_text (take l.place l.excerpts)
