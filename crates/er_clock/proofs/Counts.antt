@@ -1,20 +1,10 @@
 -- How the counts in tables of clocks go through joins and ticks.
-use Rattle.std.proofs.Common.{◌≡◌, ℕ, ◌+◌, ◌<◌, ◌≤◌, max, Bool, true, false, ◌&&◌, cond, ◌==◌, refl, ap, ap₂, sym, ◌∙◌, arith}
+use Rattle.std.proofs.Common.{◌≡◌, ℕ, ◌+◌, ◌<◌, max, Bool, true, false, ◌&&◌, cond, ◌==◌, refl, ap, ap₂, sym, ◌∙◌, arith}
 use Rattle.std.proofs.lemmas.Bool.{eqb-true, and_parts}
 use Rattle.er_order.proofs.ClockSteps.{flip}
 use Rattle.er_clock.specs.Clock.{Counts, count_in}
 use Rattle.er_clock.specs.Table.{known_by}
 use Rattle.er_clock.specs.Counts.{ClockMap, own_begun, known_to}
-
--- a tick of a thread in the clock of this number
-pub known-ticked : (old new : ClockMap) (number thread : ℕ) →
-    ((n u : ℕ) → known_by new n u ≡ cond (number == n) (known_by old n u + cond (thread == u) 1 0) (known_by old n u)) →
-    (n u : ℕ) → known_by new n u ≡ known_by old n u + cond (number == n && thread == u) 1 0
-known-ticked old new number thread is n u = is n u ∙ by (number == n) (known_by old n u)
-  where
-    by : (b : Bool) (x : ℕ) → cond b (x + cond (thread == u) 1 0) x ≡ x + cond (b && thread == u) 1 0
-    by true x = refl
-    by false x = omega arith
 
 -- a clock with the thread's own count risen takes the place of the thread's
 pub risen : (at joined after : ClockMap) (from number : ℕ) (next : Counts) → number ≡ from → ((u : ℕ) → known_by joined from u ≡ known_by at from u) →
@@ -48,38 +38,17 @@ pub taken-to : (old new : ClockMap) (t u c : ℕ) (b : Bool) →
 taken-to old new t u c true is = omega (arith, is)
 taken-to old new t u c false is = omega (arith, is)
 
--- a first tick changes nothing that is known
-pub begun-same : (old new : ClockMap) (thread : ℕ) → known_by old thread thread ≡ 0 →
-    ((t u : ℕ) → known_by new t u ≡ known_by old t u + cond (thread == t && thread == u) 1 0) → (t u : ℕ) → known_to new t u ≡ known_to old t u
-begun-same old new thread none is t u = by (thread == t && thread == u) refl
+-- a clock with a thread's first count alone, taken into the thread's, changes nothing that is known
+pub begun-same : (old new : ClockMap) (thread : ℕ) (first : Counts) → ((u : ℕ) → count_in first u ≡ own_begun thread u) →
+    ((t u : ℕ) → known_by new t u ≡ cond (t == thread) (max (known_by old t u) (count_in first u)) (known_by old t u)) → (t u : ℕ) → known_to new t u ≡ known_to old t u
+begun-same old new thread first own is t u = taken-to old new t u (count_in first u) (t == thread) (is t u) ∙ by (t == thread) refl
   where
-    at : (x y : ℕ) → thread ≡ x → thread ≡ y → known_by old x y + 1 ≡ max (known_by old x y) (own_begun x y)
-    at x y one two = rw (← one, ← two) (begun (thread == thread) (Rattle.std.proofs.lemmas.Bool.eq-eqb thread thread refl))
-      where
-        begun : (b : Bool) → b ≡ true → known_by old thread thread + 1 ≡ max (known_by old thread thread) (cond b 1 0)
-        begun true e = omega (arith, none)
-        begun false e = cc
+    twice : (x o c : ℕ) → c ≡ o → max (max x o) c ≡ max x o
+    twice x o c same = omega (arith, same)
 
-    upto : (x y z o : ℕ) → x ≡ y + 1 → y + 1 ≡ max y o → o ≤ 1 → max x o ≡ max y o
-    upto x y z o is has low = omega arith
-
-    by : (b : Bool) → (thread == t && thread == u) ≡ b → known_to new t u ≡ known_to old t u
-    by true e =
-        let both = and_parts (thread == t) (thread == u) e in
-        let next : known_by new t u ≡ known_by old t u + 1 = is t u ∙ ap (λ d. known_by old t u + cond d 1 0) e in
-        let first = at t u (eqb-true thread t both.0) (eqb-true thread u both.1) in
-        begun_is (t == u) next first
-      where
-        begun_is : (o : Bool) → known_by new t u ≡ known_by old t u + 1 → known_by old t u + 1 ≡ max (known_by old t u) (cond o 1 0) →
-            max (known_by new t u) (cond o 1 0) ≡ max (known_by old t u) (cond o 1 0)
-        begun_is true next first = omega arith
-        begun_is false next first = omega arith
-    by false e =
-        let stay : known_by new t u ≡ known_by old t u = is t u ∙ ap (λ d. known_by old t u + cond d 1 0) e ∙ none_more (known_by old t u) in
-        ap (λ k. max k (own_begun t u)) stay
-      where
-        none_more : (x : ℕ) → x + 0 ≡ x
-        none_more x = omega arith
+    by : (b : Bool) → (t == thread) ≡ b → cond b (max (known_to old t u) (count_in first u)) (known_to old t u) ≡ known_to old t u
+    by true e = twice (known_by old t u) (own_begun t u) (count_in first u) (own u ∙ ap (λ x. own_begun x u) (sym (eqb-true t thread e)))
+    by false e = refl
 
 -- what a ready thread hands on is what it knows
 pub ready-known : (at : ClockMap) (thread : ℕ) → 0 < known_by at thread thread → (u : ℕ) → known_by at thread u ≡ known_to at thread u

@@ -114,10 +114,7 @@ impl Clocks {
         ensures others { (limit : Limits) → IsErrOf result (NoTick.Beyond limit) → limit ≡ Limit.Count }
     {
         match event {
-            Event::Acquire(lock, mode) => {
-                self.acquire(thread, lock, mode)?;
-                Ok(())
-            }
+            Event::Acquire(lock, mode) => Ok(self.acquire(thread, lock, mode)?),
             Event::Release(lock, mode) => self.release(thread, lock, mode),
             Event::Sync(sync) => self.synchronize(thread, sync),
             Event::Access(..)
@@ -144,10 +141,7 @@ impl Clocks {
                 self.threads
                     .give(thread, &mut self.objects, object.number(), false)
             }
-            Sync::Await(object) => {
-                self.await_signals(thread, object)?;
-                Ok(())
-            }
+            Sync::Await(object) => Ok(self.await_signals(thread, object)?),
         }
     }
 

@@ -1,11 +1,10 @@
 //! Clocks by number.
-ghost use Rattle.std.specs.Prelude.{◌≡◌, ◌↔◌, ◌≤◌, ◌<◌, ◌^◌, ◌-◌, ◌+◌, ◌==◌, ℕ, max, cond, IsTrue, OnOk, OnErr, IsErrOf};
+ghost use Rattle.std.specs.Prelude.{◌≡◌, ◌≤◌, ◌<◌, ◌==◌, ℕ, max, cond, IsTrue, OnOk, OnErr};
 ghost use Rattle.er_clock.specs.Clock.{count_in, Joins, Stays};
 ghost use Rattle.er_clock.specs.Table.{known_by};
 
-use crate::clock::{Clock, Limit, NoTick};
+use crate::clock::Clock;
 use crate::room::Room;
-use er_event::ThreadId;
 use er_keys::{HashKeys, Hints, NumberHasher, index_of};
 use indexmap::IndexMap;
 use std::alloc::{AllocError, Global};
@@ -33,8 +32,6 @@ impl Model for ClockTable {
 }
 
 impl ClockTable {
-    ghost use Rattle.er_clock.specs.declared.clock.Limit.{Limit as Limits};
-
     /// All are empty. Numbers are hashed by these keys.
     pub(crate) fn new(alloc: Global, keys: HashKeys) -> Self
         ensures { (n u : ℕ) → known_by result n u ≡ 0 }
@@ -84,33 +81,6 @@ impl ClockTable {
                 self.places.note(key, self.clocks.len());
                 self.clocks.insert(key, clock)?;
                 Ok(())
-            }
-        }
-    }
-
-    /// Adds one to the count of the thread in the clock of this number. `Limit::Count`: the count is 2^32 - 1. After an error all clocks are as
-    /// they were.
-    pub(crate) fn tick(&mut self, number: u32, thread: ThreadId, room: &Room) -> Result<(), NoTick>
-        ensures ok { OnOk result ((n u : ℕ) → known_by self.new n u ≡ cond (number == n) (known_by self.old n u + cond (thread == u) 1 0) (known_by self.old n u)) }
-        ensures err { OnErr result ((n u : ℕ) → known_by self.new n u ≡ known_by self.old n u) }
-        ensures full { IsErrOf result (NoTick.Beyond Limit.Count) → known_by self.old number thread ≡ 2 ^ 32 - 1 }
-        ensures others { (limit : Limits) → IsErrOf result (NoTick.Beyond limit) → limit ≡ Limit.Count }
-    {
-        let key = number as u64;
-        match index_of(&self.clocks, self.places.hint(key), key) {
-            Some(index) => {
-                self.places.note(key, index);
-                let known = &mut self.clocks[index];
-                known.tick(thread, room)
-            }
-            None => {
-                let mut clock = Clock::new(room.alloc);
-                clock.tick(thread, room)?;
-                self.places.note(key, self.clocks.len());
-                match self.clocks.insert(key, clock) {
-                    Ok(_) => Ok(()),
-                    Err(_) => Err(NoTick::OutOfMemory),
-                }
             }
         }
     }

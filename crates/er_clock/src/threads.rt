@@ -222,23 +222,30 @@ fn prepare(
     ensures full { IsErrOf result (NoTick.Beyond Limit.Count) → known_to table.old thread thread ≡ 2 ^ 32 - 1 }
     ensures others { (limit : Limits) → IsErrOf result (NoTick.Beyond limit) → limit ≡ Limit.Count }
 {
-    begin(table, thread, room)?;
+    begin(table, next, thread, room)?;
     next.clear();
     next.join(table.get(thread.number()), room)?;
     next.tick(thread, room)
 }
 
-// Puts the thread's own count into its clock, where it isn't yet.
-fn begin(table: &mut ClockTable, thread: ThreadId, room: &Room) -> Result<(), NoTick>
+// Puts the thread's own count into its clock, where it isn't yet. `next` is of no more use.
+fn begin(
+    table: &mut ClockTable,
+    next: &mut Clock,
+    thread: ThreadId,
+    room: &Room,
+) -> Result<(), NoTick>
     ensures same { (t u : ℕ) → known_to table.new t u ≡ known_to table.old t u }
     ensures begun { OnOk result (0 < known_by table.new thread thread) }
     ensures full { IsErrOf result (NoTick.Beyond Limit.Count) → known_to table.old thread thread ≡ 2 ^ 32 - 1 }
     ensures others { (limit : Limits) → IsErrOf result (NoTick.Beyond limit) → limit ≡ Limit.Count }
 {
-    let number = thread.number();
-    let count = table.get(number).count(thread);
-    if count == 0 {
-        return table.tick(number, thread, room);
+    let count = table.get(thread.number()).count(thread);
+    if count > 0 {
+        return Ok(());
     }
+    next.clear();
+    next.tick(thread, room)?;
+    join(table, thread, next, room)?;
     Ok(())
 }

@@ -1,38 +1,27 @@
-use Rattle.std.proofs.Common.{◌≡◌, ◌<◌, ◌+◌, ◌&&◌, ◌==◌, ℕ, Bool, true, false, cond, OnOk, ap, sym, ◌∙◌, refl, arith}
-use Rattle.std.proofs.lemmas.Bool.{eq-eqb, and_from}
-use Rattle.er_event.proofs.Results.{on_ok}
+use Rattle.std.proofs.Common.{◌≡◌, ℕ, max, cond, ap, ◌∙◌, refl, arith}
+use Rattle.std.proofs.lemmas.Bool.{eq-eqb}
+use Rattle.er_clock.specs.Clock.{count_in}
 use Rattle.er_clock.specs.Table.{known_by}
 use Rattle.er_clock.specs.Counts.{own_begun}
-use Rattle.er_clock.proofs.Counts.{known-ticked, begun-same}
-use Rattle.er_clock.proofs.Outcomes.{either_way}
+use Rattle.er_clock.proofs.Counts.{begun-same}
 use Rattle.er_clock.proofs.threads.begin.Goals as goal
+use Rattle.er_clock.proofs.threads.begin.Goals.{After-join}
 
-module _ (c : goal.After-tick) where
-  -- the count is 0
-  none : known_by c.args.table.now c.args.thread c.args.thread ≡ 0
-  none =
-      ap (λ number. known_by c.args.table.now number c.args.thread) (sym c.number-number.ensures.value)
-      ∙ sym (c.get.ensures c.args.thread) ∙ sym c.count-count.ensures.value ∙ c.if-count-eq0.true
+-- the clock that is taken in has the thread's first count alone
+own : (c : After-join) (u : ℕ) → count_in c.tick.new.self u ≡ own_begun c.args.thread u
+own c u = let one = c.in_ok-tick.ensures.ok u in let none = c.clear.ensures u in omega (arith, one, none)
 
-  -- and a tick makes it 1
-  one : ((t u : ℕ) → known_by c.tick.new.self t u ≡ known_by c.args.table.now t u + cond (c.args.thread == t && c.args.thread == u) 1 0) →
-      known_by c.tick.new.self c.args.thread c.args.thread ≡ 1
-  one ticks =
-      let itself = eq-eqb c.args.thread c.args.thread refl in
-      ticks c.args.thread c.args.thread ∙ ap (λ b. known_by c.args.table.now c.args.thread c.args.thread + cond b 1 0) (and_from _ _ itself itself)
-      ∙ ap (λ k. k + 1) none
+pub returns-clause-same : goal.returns-clause-same
+returns-clause-same c = begun-same c.args.table.now c.join.new.table c.args.thread c.tick.new.self (own (goal.at.returns-clause-same c).After-join) c.in_ok-join.ensures.ok
 
-  ticked : OnOk c.tick.result ((t u : ℕ) → known_by c.tick.new.self t u ≡ known_by c.args.table.now t u + cond (c.args.thread == t && c.args.thread == u) 1 0)
-  ticked =
-      on_ok c.tick.result _ _ c.tick.ensures.ok (λ new t u.
-      known-ticked c.args.table.now c.tick.new.self c.number-number.result c.args.thread new t u
-      ∙ ap (λ number. known_by c.args.table.now t u + cond (number == t && c.args.thread == u) 1 0) c.number-number.ensures.value)
+pub returns-clause-begun : goal.returns-clause-begun
+returns-clause-begun c =
+    let itself = eq-eqb c.args.thread c.args.thread refl in
+    let taken : known_by c.join.new.table c.args.thread c.args.thread ≡ max (known_by c.args.table.now c.args.thread c.args.thread) (count_in c.tick.new.self c.args.thread) =
+    c.in_ok-join.ensures.ok c.args.thread c.args.thread
+    ∙ ap (λ b. cond b (max (known_by c.args.table.now c.args.thread c.args.thread) (count_in c.tick.new.self c.args.thread)) (known_by c.args.table.now c.args.thread c.args.thread)) itself in
+    let first : count_in c.tick.new.self c.args.thread ≡ 1 = own (goal.at.returns-clause-begun c).After-join c.args.thread ∙ ap (λ b. cond b 1 0) itself in
+    omega (arith, taken, first)
 
-pub returns-then-count-eq0-clause-same : goal.returns-then-count-eq0-clause-same
-returns-then-count-eq0-clause-same c t u =
-    either_way c.tick.result _ _ _ (ticked c) c.tick.ensures.err
-    (λ ticks. begun-same c.args.table.now c.tick.new.self c.args.thread (none c) ticks t u)
-    (λ same. ap (λ k. Rattle.std.proofs.Common.max k (own_begun t u)) (same t u))
-
-pub returns-then-count-eq0-clause-begun : goal.returns-then-count-eq0-clause-begun
-returns-then-count-eq0-clause-begun c = on_ok c.tick.result _ _ (ticked c) (λ ticks. let first = one c ticks in omega (arith, first))
+pub returns-in_err-join-clause-same : goal.returns-in_err-join-clause-same
+returns-in_err-join-clause-same c t u = ap (λ k. max k (own_begun t u)) (c.in_err-join.ensures.err t u)

@@ -1,4 +1,4 @@
-use Rattle.std.proofs.Common.{◌≡◌, ◌∙◌, true, false, Some, refl, ap, sym, rules, tests}
+use Rattle.std.proofs.Common.{◌≡◌, ◌∙◌, false, Some, refl, ap, sym, rules, tests}
 use Rattle.er_order.specs.Clocks.{clocks_after}
 use Rattle.er_order.specs.Order.{Effect, Local, Acquired, Released, Started, Joined, Signalled, Awaited, sync_of}
 use Rattle.er_order.proofs.ClockSteps.{local}
