@@ -66,67 +66,67 @@ no_place test lo hi place past none i = by (nat_le i hi) refl
 
 -- the lowest place in a block is the lowest word of the block
 pub lowest_word : (number : ℕ) (places words : ℕ → Bool) (place : Option ℕ)
-    → ((i : ℕ) → places i ≡ true → i < 128)
-    → ((w : ℕ) → number ≡ w / 128 → words w ≡ places (w % 128))
-    → ((w : ℕ) → nat_eq number (w / 128) ≡ false → words w ≡ false)
-    → IsLowest places place → IsLowest words (option_map (λ i. number * 128 + i) place)
-lowest_word number places words None short here else none = λ w. by w (nat_eq number (w / 128)) refl
+    → ((i : ℕ) → places i ≡ true → i < 32)
+    → ((w : ℕ) → number ≡ w / 32 → words w ≡ places (w % 32))
+    → ((w : ℕ) → nat_eq number (w / 32) ≡ false → words w ≡ false)
+    → IsLowest places place → IsLowest words (option_map (λ i. number * 32 + i) place)
+lowest_word number places words None short here else none = λ w. by w (nat_eq number (w / 32)) refl
   where
-    by : (w : ℕ) (b : Bool) → nat_eq number (w / 128) ≡ b → words w ≡ false
-    by w true e = here w (eqb-true number (w / 128) e) ∙ none (w % 128)
+    by : (w : ℕ) (b : Bool) → nat_eq number (w / 32) ≡ b → words w ≡ false
+    by w true e = here w (eqb-true number (w / 32) e) ∙ none (w % 32)
     by w false e = else w e
 lowest_word number places words (Some i) short here else lowest =
-    (here (number * 128 + i) (sym (in_block number i within)) ∙ (ap places (at_place number i within) ∙ lowest.0), below)
+    (here (number * 32 + i) (sym (in_block number i within)) ∙ (ap places (at_place number i within) ∙ lowest.0), below)
   where
-    within : i < 128
+    within : i < 32
     within = short i lowest.0
 
-    lower : (w : ℕ) → w < number * 128 + i → number ≡ w / 128 → w % 128 < i
+    lower : (w : ℕ) → w < number * 32 + i → number ≡ w / 32 → w % 32 < i
     lower w under e = omega (arith, under, e)
 
-    below : (w : ℕ) → w < number * 128 + i → words w ≡ false
-    below w under = by (nat_eq number (w / 128)) refl
+    below : (w : ℕ) → w < number * 32 + i → words w ≡ false
+    below w under = by (nat_eq number (w / 32)) refl
       where
-        by : (b : Bool) → nat_eq number (w / 128) ≡ b → words w ≡ false
-        by true e = let at = eqb-true number (w / 128) e in here w at ∙ lowest.1 (w % 128) (lower w under at)
+        by : (b : Bool) → nat_eq number (w / 32) ≡ b → words w ≡ false
+        by true e = let at = eqb-true number (w / 32) e in here w at ∙ lowest.1 (w % 32) (lower w under at)
         by false e = else w e
 
 -- the lowest word of the blocks before this number, or else of the block of this number, is the lowest of both
 module _ (number : ℕ) (before here both : ℕ → Bool)
-    (before_none : (w : ℕ) → number ≤ w / 128 → before w ≡ false)
-    (both_before : (w : ℕ) → w / 128 < number → both w ≡ before w)
-    (both_here : (w : ℕ) → number ≡ w / 128 → both w ≡ here w)
-    (both_none : (w : ℕ) → number < w / 128 → both w ≡ false)
-    (here_else : (w : ℕ) → nat_eq number (w / 128) ≡ false → here w ≡ false) where
-  in_before : (w : ℕ) → before w ≡ true → w / 128 < number
-  in_before w is = by (nat_lt (w / 128) number) refl
+    (before_none : (w : ℕ) → number ≤ w / 32 → before w ≡ false)
+    (both_before : (w : ℕ) → w / 32 < number → both w ≡ before w)
+    (both_here : (w : ℕ) → number ≡ w / 32 → both w ≡ here w)
+    (both_none : (w : ℕ) → number < w / 32 → both w ≡ false)
+    (here_else : (w : ℕ) → nat_eq number (w / 32) ≡ false → here w ≡ false) where
+  in_before : (w : ℕ) → before w ≡ true → w / 32 < number
+  in_before w is = by (nat_lt (w / 32) number) refl
     where
-      by : (b : Bool) → nat_lt (w / 128) number ≡ b → w / 128 < number
+      by : (b : Bool) → nat_lt (w / 32) number ≡ b → w / 32 < number
       by true e = grind (arith, nat_tests)
       by false e = absurd (true≢false (sym is ∙ before_none w (grind (arith, nat_tests))))
 
-  in_here : (w : ℕ) → here w ≡ true → number ≡ w / 128
-  in_here w is = by (nat_eq number (w / 128)) refl
+  in_here : (w : ℕ) → here w ≡ true → number ≡ w / 32
+  in_here w is = by (nat_eq number (w / 32)) refl
     where
-      by : (b : Bool) → nat_eq number (w / 128) ≡ b → number ≡ w / 128
-      by true e = eqb-true number (w / 128) e
+      by : (b : Bool) → nat_eq number (w / 32) ≡ b → number ≡ w / 32
+      by true e = eqb-true number (w / 32) e
       by false e = absurd (true≢false (sym is ∙ here_else w e))
 
   neither : (w : ℕ) → before w ≡ false → here w ≡ false → both w ≡ false
-  neither w early late = by (nat_lt (w / 128) number) refl
+  neither w early late = by (nat_lt (w / 32) number) refl
     where
-      by_here : (b : Bool) → nat_eq number (w / 128) ≡ b → nat_lt (w / 128) number ≡ false → both w ≡ false
-      by_here true e past = both_here w (eqb-true number (w / 128) e) ∙ late
+      by_here : (b : Bool) → nat_eq number (w / 32) ≡ b → nat_lt (w / 32) number ≡ false → both w ≡ false
+      by_here true e past = both_here w (eqb-true number (w / 32) e) ∙ late
       by_here false e past = both_none w (grind (arith, nat_tests))
 
-      by : (b : Bool) → nat_lt (w / 128) number ≡ b → both w ≡ false
+      by : (b : Bool) → nat_lt (w / 32) number ≡ b → both w ≡ false
       by true e = both_before w (grind (arith, nat_tests)) ∙ early
-      by false e = by_here (nat_eq number (w / 128)) refl e
+      by false e = by_here (nat_eq number (w / 32)) refl e
 
-  lower_block : (k w : ℕ) → k < w → w / 128 < number → k / 128 < number
+  lower_block : (k w : ℕ) → k < w → w / 32 < number → k / 32 < number
   lower_block k w below early = omega (arith, below, early)
 
-  lower_or_same : (k w : ℕ) → k < w → number ≡ w / 128 → k / 128 ≤ number
+  lower_or_same : (k w : ℕ) → k < w → number ≡ w / 32 → k / 32 ≤ number
   lower_or_same k w below at = omega (arith, below, at)
 
   pub lowest_of_both : (first second : Option ℕ) → IsLowest before first → IsLowest here second → IsLowest both (option_or first second)
@@ -140,58 +140,58 @@ module _ (number : ℕ) (before here both : ℕ → Bool)
 module _ {A : Type 0} where
   -- a block was found
   pub lowest_in_block : (all : AllWords A) (number lo hi : ℕ) (was : BlockWords A) (clock : ℕ → ℕ) (place : Option ℕ)
-      → Some was ≡ lookup (nat_eq number) all.blocks → hi < 128
-      → IsLowest (λ i. (nat_le lo i && nat_le i hi) && is_raced clock (stored_beside all.lists (number * 128 + i) (word_at was i)) Write) place
-      → IsLowest (λ w. is_place_in number lo hi w && is_raced clock (stored_among all w) Write) (option_map (λ i. number * 128 + i) place)
+      → Some was ≡ lookup (nat_eq number) all.blocks → hi < 32
+      → IsLowest (λ i. (nat_le lo i && nat_le i hi) && is_raced clock (stored_beside all.lists (number * 32 + i) (word_at was i)) Write) place
+      → IsLowest (λ w. is_place_in number lo hi w && is_raced clock (stored_among all w) Write) (option_map (λ i. number * 32 + i) place)
   unfolding stored_among
   lowest_in_block all number lo hi was clock place found within lowest =
       lowest_word number _ _ place short here else lowest
     where
-      short_by : (i : ℕ) (b : Bool) → ((nat_le lo i && nat_le i hi) && b) ≡ true → i < 128
+      short_by : (i : ℕ) (b : Bool) → ((nat_le lo i && nat_le i hi) && b) ≡ true → i < 32
       short_by i true e = grind (arith, nat_tests)
       short_by i false e = grind (arith, nat_tests)
 
-      short : (i : ℕ) → ((nat_le lo i && nat_le i hi) && is_raced clock (stored_beside all.lists (number * 128 + i) (word_at was i)) Write) ≡ true → i < 128
-      short i e = short_by i (is_raced clock (stored_beside all.lists (number * 128 + i) (word_at was i)) Write) e
+      short : (i : ℕ) → ((nat_le lo i && nat_le i hi) && is_raced clock (stored_beside all.lists (number * 32 + i) (word_at was i)) Write) ≡ true → i < 32
+      short i e = short_by i (is_raced clock (stored_beside all.lists (number * 32 + i) (word_at was i)) Write) e
 
-      is_word : (w : ℕ) → number ≡ w / 128 → w ≡ number * 128 + w % 128
+      is_word : (w : ℕ) → number ≡ w / 32 → w ≡ number * 32 + w % 32
       is_word w at = omega (arith, at)
 
-      here_in : (w : ℕ) → number ≡ w / 128 → nat_eq number (w / 128) ≡ true
+      here_in : (w : ℕ) → number ≡ w / 32 → nat_eq number (w / 32) ≡ true
       here_in w at = grind (arith, nat_tests)
 
-      here : (w : ℕ) → number ≡ w / 128
+      here : (w : ℕ) → number ≡ w / 32
           → (is_place_in number lo hi w && is_raced clock (stored_beside all.lists w (word_among all.blocks w)) Write)
-          ≡ ((nat_le lo (w % 128) && nat_le (w % 128) hi) && is_raced clock (stored_beside all.lists (number * 128 + w % 128) (word_at was (w % 128))) Write)
+          ≡ ((nat_le lo (w % 32) && nat_le (w % 32) hi) && is_raced clock (stored_beside all.lists (number * 32 + w % 32) (word_at was (w % 32))) Write)
       here w at =
-          ap (λ b. (b && (nat_le lo (w % 128) && nat_le (w % 128) hi)) && is_raced clock (stored_beside all.lists w (word_among all.blocks w)) Write) (here_in w at)
-          ∙ (λ k. (nat_le lo (w % 128) && nat_le (w % 128) hi) && is_raced clock (stored_beside all.lists (is_word w at k) (word_in_block (same_block w at k) (w % 128))) Write)
+          ap (λ b. (b && (nat_le lo (w % 32) && nat_le (w % 32) hi)) && is_raced clock (stored_beside all.lists w (word_among all.blocks w)) Write) (here_in w at)
+          ∙ (λ k. (nat_le lo (w % 32) && nat_le (w % 32) hi) && is_raced clock (stored_beside all.lists (is_word w at k) (word_in_block (same_block w at k) (w % 32))) Write)
         where
-          same_block : (w : ℕ) → number ≡ w / 128 → lookup (nat_eq (w / 128)) all.blocks ≡ Some was
+          same_block : (w : ℕ) → number ≡ w / 32 → lookup (nat_eq (w / 32)) all.blocks ≡ Some was
           same_block w at = ap (λ q. lookup (nat_eq q) all.blocks) (sym at) ∙ sym found
 
-      else : (w : ℕ) → nat_eq number (w / 128) ≡ false → (is_place_in number lo hi w && is_raced clock (stored_beside all.lists w (word_among all.blocks w)) Write) ≡ false
-      else w apart = ap (λ b. (b && (nat_le lo (w % 128) && nat_le (w % 128) hi)) && is_raced clock (stored_beside all.lists w (word_among all.blocks w)) Write) apart
+      else : (w : ℕ) → nat_eq number (w / 32) ≡ false → (is_place_in number lo hi w && is_raced clock (stored_beside all.lists w (word_among all.blocks w)) Write) ≡ false
+      else w apart = ap (λ b. (b && (nat_le lo (w % 32) && nat_le (w % 32) hi)) && is_raced clock (stored_beside all.lists w (word_among all.blocks w)) Write) apart
 
   -- and what is found at its place is found of the word
   pub named_in_block : (all : AllWords A) (number lo hi : ℕ) (was : BlockWords A) (clock : ℕ → ℕ) (place : Option (ℕ × A))
-      → Some was ≡ lookup (nat_eq number) all.blocks → hi < 128
-      → IsLowest (λ i. (nat_le lo i && nat_le i hi) && is_raced clock (stored_beside all.lists (number * 128 + i) (word_at was i)) Write) (option_map (λ (found : ℕ × A). found.0) place)
-      → IfSome place (λ found. Some found.1 ≡ tag_found clock (stored_beside all.lists (number * 128 + found.0) (word_at was found.0)) Write)
-      → IfSome {T = ℕ × A} (option_map (λ (found : ℕ × A). (number * 128 + found.0, found.1)) place) (λ found. Some found.1 ≡ tag_found clock (stored_among all found.0) Write)
+      → Some was ≡ lookup (nat_eq number) all.blocks → hi < 32
+      → IsLowest (λ i. (nat_le lo i && nat_le i hi) && is_raced clock (stored_beside all.lists (number * 32 + i) (word_at was i)) Write) (option_map (λ (found : ℕ × A). found.0) place)
+      → IfSome place (λ found. Some found.1 ≡ tag_found clock (stored_beside all.lists (number * 32 + found.0) (word_at was found.0)) Write)
+      → IfSome {T = ℕ × A} (option_map (λ (found : ℕ × A). (number * 32 + found.0, found.1)) place) (λ found. Some found.1 ≡ tag_found clock (stored_among all found.0) Write)
   unfolding stored_among
   named_in_block all number lo hi was clock None found within lowest named = tt
   named_in_block all number lo hi was clock (Some (i, a)) found within lowest named =
-      named ∙ (λ k. tag_found clock (stored_beside all.lists (number * 128 + i) (word_in_block (same_block k) (sym (at_place number i short) k))) Write)
+      named ∙ (λ k. tag_found clock (stored_beside all.lists (number * 32 + i) (word_in_block (same_block k) (sym (at_place number i short) k))) Write)
     where
-      short : i < 128
-      short = short_by (is_raced clock (stored_beside all.lists (number * 128 + i) (word_at was i)) Write) lowest.0
+      short : i < 32
+      short = short_by (is_raced clock (stored_beside all.lists (number * 32 + i) (word_at was i)) Write) lowest.0
         where
-          short_by : (b : Bool) → ((nat_le lo i && nat_le i hi) && b) ≡ true → i < 128
+          short_by : (b : Bool) → ((nat_le lo i && nat_le i hi) && b) ≡ true → i < 32
           short_by true e = grind (arith, nat_tests)
           short_by false e = grind (arith, nat_tests)
 
-      same_block : Some was ≡ lookup (nat_eq ((number * 128 + i) / 128)) all.blocks
+      same_block : Some was ≡ lookup (nat_eq ((number * 32 + i) / 32)) all.blocks
       same_block = found ∙ ap (λ q. lookup (nat_eq q) all.blocks) (sym (in_block number i short))
 
   -- or there is none
@@ -205,25 +205,25 @@ module _ {A : Type 0} where
 
   -- the blocks of a range, one after another
   abbrev pub IsLowestBelow : AllWords A → PageRange → (ℕ → ℕ) → ℕ → Option ℕ → Type 0
-  IsLowestBelow old range clock number found = IsLowest (λ w. (is_within w range && nat_lt (w / 128) number) && is_raced clock (stored_among old w) Write) found
+  IsLowestBelow old range clock number found = IsLowest (λ w. (is_within w range && nat_lt (w / 32) number) && is_raced clock (stored_among old w) Write) found
 
-  pub lowest_start : (old : AllWords A) (range : PageRange) (clock : ℕ → ℕ) (number : ℕ) → number ≡ range.lo / 128 → IsLowestBelow old range clock number None
+  pub lowest_start : (old : AllWords A) (range : PageRange) (clock : ℕ → ℕ) (number : ℕ) → number ≡ range.lo / 32 → IsLowestBelow old range clock number None
   lowest_start old range clock number is w = ap (λ b. b && is_raced clock (stored_among old w) Write) none
     where
-      none : (is_within w range && nat_lt (w / 128) number) ≡ false
+      none : (is_within w range && nat_lt (w / 32) number) ≡ false
       none = grind (arith, nat_tests)
 
   pub lowest_more : (old now : AllWords A) (range : PageRange) (clock : ℕ → ℕ) (number lo hi : ℕ) (first second : Option ℕ)
-      → ((w : ℕ) → number ≡ w / 128 → nat_le lo (w % 128) ≡ nat_le range.lo w)
-      → ((w : ℕ) → number ≡ w / 128 → nat_le (w % 128) hi ≡ nat_le w range.hi)
-      → ((w : ℕ) → number ≡ w / 128 → stored_among now w ≡ stored_among old w)
+      → ((w : ℕ) → number ≡ w / 32 → nat_le lo (w % 32) ≡ nat_le range.lo w)
+      → ((w : ℕ) → number ≡ w / 32 → nat_le (w % 32) hi ≡ nat_le w range.hi)
+      → ((w : ℕ) → number ≡ w / 32 → stored_among now w ≡ stored_among old w)
       → IsLowestBelow old range clock number first
       → IsLowest (λ w. is_place_in number lo hi w && is_raced clock (stored_among now w) Write) second
       → IsLowestBelow old range clock (number + 1) (option_or first second)
   lowest_more old now range clock number lo hi first second low high as_before found more =
       lowest_of_both number _ _ _ before_none both_before both_here both_none here_else first second found more
     where
-      by_bound : (w : ℕ) (b c : Bool) → nat_lt (w / 128) number ≡ b → b ≡ c → ((is_within w range && nat_lt (w / 128) number) && is_raced clock (stored_among old w) Write) ≡ ((is_within w range && c) && is_raced clock (stored_among old w) Write)
+      by_bound : (w : ℕ) (b c : Bool) → nat_lt (w / 32) number ≡ b → b ≡ c → ((is_within w range && nat_lt (w / 32) number) && is_raced clock (stored_among old w) Write) ≡ ((is_within w range && c) && is_raced clock (stored_among old w) Write)
       by_bound w b c e is = ap (λ b. (is_within w range && b) && is_raced clock (stored_among old w) Write) (e ∙ is)
 
       and_none : (w : ℕ) → ((is_within w range && false) && is_raced clock (stored_among old w) Write) ≡ false
@@ -233,51 +233,51 @@ module _ {A : Type 0} where
           no_more true = refl
           no_more false = refl
 
-      not_before : (w : ℕ) → number ≤ w / 128 → nat_lt (w / 128) number ≡ false
+      not_before : (w : ℕ) → number ≤ w / 32 → nat_lt (w / 32) number ≡ false
       not_before w past = grind (arith, nat_tests)
 
-      before_none : (w : ℕ) → number ≤ w / 128 → ((is_within w range && nat_lt (w / 128) number) && is_raced clock (stored_among old w) Write) ≡ false
+      before_none : (w : ℕ) → number ≤ w / 32 → ((is_within w range && nat_lt (w / 32) number) && is_raced clock (stored_among old w) Write) ≡ false
       before_none w past = by_bound w false false (not_before w past) refl ∙ and_none w
 
-      same_bound : (w : ℕ) → w / 128 < number → nat_lt (w / 128) (number + 1) ≡ nat_lt (w / 128) number
+      same_bound : (w : ℕ) → w / 32 < number → nat_lt (w / 32) (number + 1) ≡ nat_lt (w / 32) number
       same_bound w early = grind (arith, nat_tests)
 
-      both_before : (w : ℕ) → w / 128 < number
-          → ((is_within w range && nat_lt (w / 128) (number + 1)) && is_raced clock (stored_among old w) Write) ≡ ((is_within w range && nat_lt (w / 128) number) && is_raced clock (stored_among old w) Write)
+      both_before : (w : ℕ) → w / 32 < number
+          → ((is_within w range && nat_lt (w / 32) (number + 1)) && is_raced clock (stored_among old w) Write) ≡ ((is_within w range && nat_lt (w / 32) number) && is_raced clock (stored_among old w) Write)
       both_before w early = ap (λ b. (is_within w range && b) && is_raced clock (stored_among old w) Write) (same_bound w early)
 
-      past_bound : (w : ℕ) → number < w / 128 → nat_lt (w / 128) (number + 1) ≡ false
+      past_bound : (w : ℕ) → number < w / 32 → nat_lt (w / 32) (number + 1) ≡ false
       past_bound w late = grind (arith, nat_tests)
 
-      both_none : (w : ℕ) → number < w / 128 → ((is_within w range && nat_lt (w / 128) (number + 1)) && is_raced clock (stored_among old w) Write) ≡ false
+      both_none : (w : ℕ) → number < w / 32 → ((is_within w range && nat_lt (w / 32) (number + 1)) && is_raced clock (stored_among old w) Write) ≡ false
       both_none w late = ap (λ b. (is_within w range && b) && is_raced clock (stored_among old w) Write) (past_bound w late) ∙ and_none w
 
-      here_else : (w : ℕ) → nat_eq number (w / 128) ≡ false → (is_place_in number lo hi w && is_raced clock (stored_among now w) Write) ≡ false
-      here_else w apart = ap (λ b. (b && (nat_le lo (w % 128) && nat_le (w % 128) hi)) && is_raced clock (stored_among now w) Write) apart
+      here_else : (w : ℕ) → nat_eq number (w / 32) ≡ false → (is_place_in number lo hi w && is_raced clock (stored_among now w) Write) ≡ false
+      here_else w apart = ap (λ b. (b && (nat_le lo (w % 32) && nat_le (w % 32) hi)) && is_raced clock (stored_among now w) Write) apart
 
-      at_bound : (w : ℕ) → number ≡ w / 128 → nat_lt (w / 128) (number + 1) ≡ true
+      at_bound : (w : ℕ) → number ≡ w / 32 → nat_lt (w / 32) (number + 1) ≡ true
       at_bound w at = grind (arith, nat_tests)
 
-      at_number : (w : ℕ) → number ≡ w / 128 → nat_eq number (w / 128) ≡ true
+      at_number : (w : ℕ) → number ≡ w / 32 → nat_eq number (w / 32) ≡ true
       at_number w at = grind (arith, nat_tests)
 
       and_true : (b : Bool) → (b && true) ≡ b
       and_true true = refl
       and_true false = refl
 
-      both_here : (w : ℕ) → number ≡ w / 128
-          → ((is_within w range && nat_lt (w / 128) (number + 1)) && is_raced clock (stored_among old w) Write) ≡ (is_place_in number lo hi w && is_raced clock (stored_among now w) Write)
+      both_here : (w : ℕ) → number ≡ w / 32
+          → ((is_within w range && nat_lt (w / 32) (number + 1)) && is_raced clock (stored_among old w) Write) ≡ (is_place_in number lo hi w && is_raced clock (stored_among now w) Write)
       both_here w at =
           ap (λ b. b && is_raced clock (stored_among old w) Write) (ap (λ b. is_within w range && b) (at_bound w at) ∙ and_true (is_within w range))
           ∙ (λ k. (sym (low w at) k && sym (high w at) k) && is_raced clock (sym (as_before w at) k) Write)
-          ∙ ap (λ b. (b && (nat_le lo (w % 128) && nat_le (w % 128) hi)) && is_raced clock (stored_among now w) Write) (sym (at_number w at))
+          ∙ ap (λ b. (b && (nat_le lo (w % 32) && nat_le (w % 32) hi)) && is_raced clock (stored_among now w) Write) (sym (at_number w at))
 
   -- where the blocks before this one were reset
   module _ (old now : AllWords A) (range : PageRange) (clock : ℕ → ℕ) (number lo hi : ℕ) (so_far : AreResetTo old now range number) where
-    as_before : (w : ℕ) → number ≡ w / 128 → stored_among now w ≡ stored_among old w
+    as_before : (w : ℕ) → number ≡ w / 32 → stored_among now w ≡ stored_among old w
     as_before w at = so_far w ∙ ap (λ b. cond b (Accesses untouched) (stored_among old w)) (ap (λ b. is_within w range && b) not_before ∙ no_more (is_within w range))
       where
-        not_before : nat_lt (w / 128) number ≡ false
+        not_before : nat_lt (w / 32) number ≡ false
         not_before = grind (arith, nat_tests)
 
         no_more : (b : Bool) → (b && false) ≡ false
@@ -285,8 +285,8 @@ module _ {A : Type 0} where
         no_more false = refl
 
     pub lowest_next : (first second : Option ℕ)
-        → ((w : ℕ) → number ≡ w / 128 → nat_le lo (w % 128) ≡ nat_le range.lo w)
-        → ((w : ℕ) → number ≡ w / 128 → nat_le (w % 128) hi ≡ nat_le w range.hi)
+        → ((w : ℕ) → number ≡ w / 32 → nat_le lo (w % 32) ≡ nat_le range.lo w)
+        → ((w : ℕ) → number ≡ w / 32 → nat_le (w % 32) hi ≡ nat_le w range.hi)
         → IsLowestBelow old range clock number first
         → IsLowest (λ w. is_place_in number lo hi w && is_raced clock (stored_among now w) Write) second
         → IsLowestBelow old range clock (number + 1) (option_or first second)
@@ -296,20 +296,20 @@ module _ {A : Type 0} where
     pub named_before : (found : Option (ℕ × A)) → IsLowest (λ w. is_place_in number lo hi w && is_raced clock (stored_among now w) Write) (option_map (λ (found : ℕ × A). found.0) found)
         → IfSome found (λ found. Some found.1 ≡ tag_found clock (stored_among now found.0) Write) → IfSome found (λ found. Some found.1 ≡ tag_found clock (stored_among old found.0) Write)
     named_before None lowest named = tt
-    named_before (Some (w, a)) lowest named = named ∙ ap (λ stored. tag_found clock stored Write) (as_before w (in_number (nat_eq number (w / 128)) refl lowest.0))
+    named_before (Some (w, a)) lowest named = named ∙ ap (λ stored. tag_found clock stored Write) (as_before w (in_number (nat_eq number (w / 32)) refl lowest.0))
       where
-        in_number : (b : Bool) → nat_eq number (w / 128) ≡ b → ((b && (nat_le lo (w % 128) && nat_le (w % 128) hi)) && is_raced clock (stored_among now w) Write) ≡ true → number ≡ w / 128
-        in_number true e is = eqb-true number (w / 128) e
+        in_number : (b : Bool) → nat_eq number (w / 32) ≡ b → ((b && (nat_le lo (w % 32) && nat_le (w % 32) hi)) && is_raced clock (stored_among now w) Write) ≡ true → number ≡ w / 32
+        in_number true e is = eqb-true number (w / 32) e
         in_number false e is = cc
 
-  pub lowest_end : (old : AllWords A) (range : PageRange) (clock : ℕ → ℕ) (number : ℕ) (found : Option ℕ) → range.hi / 128 + 1 ≤ number
+  pub lowest_end : (old : AllWords A) (range : PageRange) (clock : ℕ → ℕ) (number : ℕ) (found : Option ℕ) → range.hi / 32 + 1 ≤ number
       → IsLowestBelow old range clock number found → IsLowest (λ w. is_within w range && is_raced clock (stored_among old w) Write) found
   lowest_end old range clock number found past lowest = by found lowest
     where
-      all : (w : ℕ) → (is_within w range && nat_lt (w / 128) number) ≡ is_within w range
+      all : (w : ℕ) → (is_within w range && nat_lt (w / 32) number) ≡ is_within w range
       all w = grind (arith, nat_tests)
 
-      same : (w : ℕ) → (is_within w range && is_raced clock (stored_among old w) Write) ≡ ((is_within w range && nat_lt (w / 128) number) && is_raced clock (stored_among old w) Write)
+      same : (w : ℕ) → (is_within w range && is_raced clock (stored_among old w) Write) ≡ ((is_within w range && nat_lt (w / 32) number) && is_raced clock (stored_among old w) Write)
       same w = ap (λ b. b && is_raced clock (stored_among old w) Write) (sym (all w))
 
       by : (found : Option ℕ) → IsLowestBelow old range clock number found → IsLowest (λ w. is_within w range && is_raced clock (stored_among old w) Write) found

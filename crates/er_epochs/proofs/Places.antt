@@ -1,5 +1,5 @@
 -- The words at the places of a block.
-use Rattle.std.proofs.Common.{◌≡◌, ◌≢◌, ◌∙◌, ◌&&◌, ℕ, zero, suc, ◌+◌, ◌*◌, ◌<◌, ◌≤◌, ◌/◌, ◌%◌, nat_eq, nat_le, nat_lt, cond, Bool, true, false, List, [], ◌∷◌, ◌++◌, get_or, length, map, slice_set, refl, sym, ap, arith}
+use Rattle.std.proofs.Common.{◌≡◌, ◌≢◌, ◌∙◌, ◌⊎◌, inl, inr, ◌&&◌, ℕ, zero, suc, ◌+◌, ◌*◌, ◌<◌, ◌≤◌, ◌/◌, ◌%◌, nat_eq, nat_le, nat_lt, cond, Bool, true, false, List, [], ◌∷◌, ◌++◌, get_or, length, map, slice_set, refl, sym, ap, arith}
 use Rattle.std.proofs.lemmas.Bool.Decides.{nat_tests}
 use borrow.Author.Tests.{eqb-true, eqb-false}
 use Rattle.er_epochs.specs.declared.word.OrderWord.{OrderWord}
@@ -67,21 +67,32 @@ emptied_next old now new start place low so_far here others i = by (nat_eq place
         ap (word_at new) (sym at) ∙ here ∙ sym (ap (λ b. cond b blank (word_at old i)) (within at))
     by false e = others i e ∙ so_far i ∙ ap (λ b. cond (nat_le start i && b) blank (word_at old i)) (same (eqb-false place i e))
 
-pub in_block : (number place : ℕ) → place < 128 → (number * 128 + place) / 128 ≡ number
+-- none is at the start, and all are where there is no place left
+pub emptied_none : {A : Type 0} (words : List (Said A)) (start i : ℕ) → word_at words i ≡ cond (nat_le start i && nat_lt i start) blank (word_at words i)
+emptied_none words start i = ap (λ b. cond b blank (word_at words i)) (sym never)
+  where
+    never : (nat_le start i && nat_lt i start) ≡ false
+    never = grind (arith, nat_tests)
+
+pub emptied_all : (start end place i : ℕ) → start ≤ place → (place ≤ start) ⊎ (place ≤ end) → end ≤ place → (nat_le start i && nat_lt i place) ≡ (nat_le start i && nat_lt i end)
+emptied_all start end place i low (inl none) past = grind (arith, nat_tests)
+emptied_all start end place i low (inr within) past = grind (arith, nat_tests)
+
+pub in_block : (number place : ℕ) → place < 32 → (number * 32 + place) / 32 ≡ number
 in_block number place within = omega arith
 
-pub at_place : (number place : ℕ) → place < 128 → (number * 128 + place) % 128 ≡ place
+pub at_place : (number place : ℕ) → place < 32 → (number * 32 + place) % 32 ≡ place
 at_place number place within = omega arith
 
 -- the word at one of these places is none of those that stand elsewhere
-pub other_word : (number lo hi place w : ℕ) → place < 128 → lo ≤ place → place ≤ hi → is_place_in number lo hi w ≡ false → nat_eq (number * 128 + place) w ≡ false
-other_word number lo hi place w within low high apart = by (nat_eq (number * 128 + place) w) refl
+pub other_word : (number lo hi place w : ℕ) → place < 32 → lo ≤ place → place ≤ hi → is_place_in number lo hi w ≡ false → nat_eq (number * 32 + place) w ≡ false
+other_word number lo hi place w within low high apart = by (nat_eq (number * 32 + place) w) refl
   where
-    among : is_place_in number lo hi (number * 128 + place) ≡ true
+    among : is_place_in number lo hi (number * 32 + place) ≡ true
     among = rw (in_block number place within, at_place number place within) (grind (arith, nat_tests))
 
-    by : (same : Bool) → nat_eq (number * 128 + place) w ≡ same → nat_eq (number * 128 + place) w ≡ false
+    by : (same : Bool) → nat_eq (number * 32 + place) w ≡ same → nat_eq (number * 32 + place) w ≡ false
     by true e =
-        let both : true ≡ false = sym among ∙ (ap (λ v. is_place_in number lo hi v) (eqb-true (number * 128 + place) w e) ∙ apart) in
+        let both : true ≡ false = sym among ∙ (ap (λ v. is_place_in number lo hi v) (eqb-true (number * 32 + place) w e) ∙ apart) in
         absurd cc
     by false e = e

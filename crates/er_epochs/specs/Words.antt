@@ -1,4 +1,4 @@
--- What is stored of all words: the words in blocks of 128, and lists of reads beside some of them.
+-- What is stored of all words: the words in blocks of 32, and lists of reads beside some of them.
 use Rattle.std.specs.Prelude.{ℕ, ◌≡◌, ◌<◌, ◌+◌, ◌^◌, ◌/◌, ◌%◌, ◌&&◌, nat_eq, nat_le, Bool, true, false, cond, List, [], slice_index_or, Option, Some, None}
 use Rattle.std.specs.Map.{lookup}
 use Rattle.std.specs.Option.{unwrap_or}
@@ -62,7 +62,7 @@ WordBlocks A = List (ℕ × BlockWords A)
 
 -- the word of this number
 abbrev pub word_among : {A : Type 0} → WordBlocks A → ℕ → Said A
-word_among blocks w = word_in_block (lookup (nat_eq (w / 128)) blocks) (w % 128)
+word_among blocks w = word_in_block (lookup (nat_eq (w / 32)) blocks) (w % 32)
 
 -- the blocks and the lists that are there
 pub record AllWords (A : Type 0) : Type 0 where
@@ -75,7 +75,7 @@ stored_among all w = stored_beside all.lists w (word_among all.blocks w)
 
 -- the word stands in the block of this number, at one of these places
 abbrev pub is_place_in : ℕ → ℕ → ℕ → ℕ → Bool
-is_place_in number lo hi w = nat_eq number (w / 128) && (nat_le lo (w % 128) && nat_le (w % 128) hi)
+is_place_in number lo hi w = nat_eq number (w / 32) && (nat_le lo (w % 32) && nat_le (w % 32) hi)
 
 -- the lowest number that passes the test, if one does
 abbrev pub IsLowest : (ℕ → Bool) → Option ℕ → Type 0

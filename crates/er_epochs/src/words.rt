@@ -18,9 +18,9 @@ use std::alloc::{AllocError, Global};
 use std::marker::Model;
 
 /// How many words a block has.
-pub(crate) const WORDS: usize = 128;
+pub(crate) const WORDS: usize = 32;
 
-/// What is stored of each word, 16 bytes and two tags in a block of 128 words that is made at the first access of one of them. Contracts see
+/// What is stored of each word, 16 bytes and two tags in a block of 32 words that is made at the first access of one of them. Contracts see
 /// it by `stored_among`. Whoever wants no tags takes `()`.
 /// Only a word that several threads have read, where neither read happens before the other, has a list besides, until it is written or reset.
 #[derive(Drop)]
@@ -129,8 +129,8 @@ impl<A: Copy> OrderWords<A> {
         to: usize,
         clock: &ThreadClock<'_>,
     ) -> Option<(Word, A)>
-        requires to { to < 128 }
-        requires number { number < 2 ^ 39 }
+        requires to { to < 32 }
+        requires number { number < 2 ^ 41 }
         ensures reset { (w : ℕ) → stored_among self.new w ≡ cond (is_place_in number from to w) (Accesses untouched) (stored_among self.old w) }
         ensures in_use { IsLowest (λ w. is_place_in number from to w && is_raced (count_by clock.now) (stored_among self.old w) Kind.Write) (option_map (λ found. found.0) result) }
         ensures named { IfSome result (λ found. Some found.1 ≡ tag_found (count_by clock.now) (stored_among self.old found.0) Kind.Write) }
@@ -142,7 +142,7 @@ impl<A: Copy> OrderWords<A> {
                 block.forget_lists(&mut self.lists, number, from, to);
                 block.reset(from, to);
                 let (place, tag) = found?;
-                Some((Word::new(number * 128 + place as u64), tag))
+                Some((Word::new(number * 32 + place as u64), tag))
             }
             None => None,
         }
@@ -163,7 +163,7 @@ impl<A> Model for Block<A> {
 
     ghost view = { λ b. map said b.words.items };
 
-    ghost invariant = { λ b. length b.words.items ≡ 128 };
+    ghost invariant = { λ b. length b.words.items ≡ 32 };
 }
 
 impl<A: Copy> Block<A> {
@@ -190,7 +190,7 @@ impl<A: Copy> Block<A> {
         kind: Kind,
         tag: A,
     ) -> Result<Option<A>, AllocError>
-        requires { place < 128 }
+        requires { place < 32 }
         ensures ok { OnOk result (IsStoredBy (count_by clock.now) (stored_beside lists.old number (word_at self.old place)) (tagged clock.now.0 (count_by clock.now clock.now.0) tag) kind (stored_beside lists.new number (word_at self.new place))) }
         ensures found { IfOk result (λ rival. rival ≡ tag_found (count_by clock.now) (stored_beside lists.old number (word_at self.old place)) kind) }
         ensures err { OnErr result (stored_beside lists.new number (word_at self.new place) ≡ stored_beside lists.old number (word_at self.old place)) }
@@ -210,7 +210,7 @@ impl<A: Copy> Block<A> {
     /// Reads the word at a place, for an access of it that comes soon.
     #[inline]
     pub(crate) fn look_ahead(&self, place: usize) -> u32
-        requires { place < 128 }
+        requires { place < 32 }
     {
         get(&self.words, place).peek()
     }
@@ -225,13 +225,13 @@ impl<A: Copy> Block<A> {
         hi: usize,
         clock: &ThreadClock<'_>,
     ) -> Option<(usize, A)>
-        requires hi { hi < 128 }
-        requires number { number < 2 ^ 39 }
-        ensures lowest { IsLowest (λ i. (nat_le lo i && nat_le i hi) && is_raced (count_by clock.now) (stored_beside lists.now (number * 128 + i) (word_at self.now i)) Kind.Write) (option_map (λ found. found.0) result) }
-        ensures named { IfSome result (λ found. Some found.1 ≡ tag_found (count_by clock.now) (stored_beside lists.now (number * 128 + found.0) (word_at self.now found.0)) Kind.Write) }
+        requires hi { hi < 32 }
+        requires number { number < 2 ^ 41 }
+        ensures lowest { IsLowest (λ i. (nat_le lo i && nat_le i hi) && is_raced (count_by clock.now) (stored_beside lists.now (number * 32 + i) (word_at self.now i)) Kind.Write) (option_map (λ found. found.0) result) }
+        ensures named { IfSome result (λ found. Some found.1 ≡ tag_found (count_by clock.now) (stored_beside lists.now (number * 32 + found.0) (word_at self.now found.0)) Kind.Write) }
     {
         for place in lo..hi + 1 {
-            if let Some(tag) = self.last_use(lists, number * 128 + place as u64, place, clock) {
+            if let Some(tag) = self.last_use(lists, number * 32 + place as u64, place, clock) {
                 return Some((place, tag));
             }
         }
@@ -247,7 +247,7 @@ impl<A: Copy> Block<A> {
         place: usize,
         clock: &ThreadClock<'_>,
     ) -> Option<A>
-        requires { place < 128 }
+        requires { place < 32 }
         ensures { result ≡ tag_found (count_by clock.now) (stored_beside lists.now number (word_at self.now place)) Kind.Write }
     {
         let word = get(&self.words, place);
@@ -262,15 +262,15 @@ impl<A: Copy> Block<A> {
 
     /// Ends the era of the words from `lo` to `hi`, both included.
     pub(crate) fn reset(&mut self, lo: usize, hi: usize)
-        requires { hi < 128 }
+        requires { hi < 32 }
         ensures { (i : ℕ) → word_at self.new i ≡ cond (nat_le lo i && nat_le i hi) blank (word_at self.old i) }
     {
-        empty(&mut self.words, start_of(lo, hi + 1), hi + 1);
+        empty(&mut self.words, lo, hi + 1);
     }
 
     /// Lets go of the lists of the words from `lo` to `hi`, both included, where this is the block of this number.
     pub(crate) fn forget_lists(&self, lists: &mut ReadLists<A>, number: u64, lo: usize, hi: usize)
-        requires hi { hi < 128 }
+        requires hi { hi < 32 }
         requires number { number < 2 ^ 46 }
         ensures { (w : ℕ) → is_place_in number lo hi w ≡ false → list_of lists.new w ≡ list_of lists.old w }
     {
@@ -280,7 +280,7 @@ impl<A: Copy> Block<A> {
         for place in lo..hi + 1 {
             let word = get(&self.words, place);
             if word.has_list() {
-                lists.forget(word.hint(), number * 128 + place as u64);
+                lists.forget(word.hint(), number * 32 + place as u64);
             }
         }
     }
@@ -289,8 +289,8 @@ impl<A: Copy> Block<A> {
 // The word at a place.
 #[inline]
 fn get<A: Copy>(words: &Vec<OrderWord<A>>, place: usize) -> OrderWord<A>
-    requires long { length words.now.items ≡ 128 }
-    requires place { place < 128 }
+    requires long { length words.now.items ≡ 32 }
+    requires place { place < 32 }
     ensures said { said result ≡ word_at (map said words.now.items) place }
     ensures there { result ≡ get_or words.now.items place result }
 {
@@ -300,9 +300,9 @@ fn get<A: Copy>(words: &Vec<OrderWord<A>>, place: usize) -> OrderWord<A>
 // Gives the word at a place the tags of this one, which is the same but for them. Of tags with no bytes nothing is written.
 #[inline]
 fn put_tags<A: Copy>(words: &mut Vec<OrderWord<A>>, place: usize, word: OrderWord<A>)
-    requires long { length words.old.items ≡ 128 }
-    requires place { place < 128 }
-    ensures long { length words.new.items ≡ 128 }
+    requires long { length words.old.items ≡ 32 }
+    requires place { place < 32 }
+    ensures long { length words.new.items ≡ 32 }
     ensures here { (old : Stored A) → old ≡ get_or words.old.items place old → IsButForTags old word → word_at (map said words.new.items) place ≡ said word }
     ensures others { (i : ℕ) → nat_eq place i ≡ false → word_at (map said words.new.items) i ≡ word_at (map said words.old.items) i }
 {
@@ -314,9 +314,9 @@ fn put_tags<A: Copy>(words: &mut Vec<OrderWord<A>>, place: usize, word: OrderWor
 // Puts a word at a place.
 #[inline]
 fn put<A: Copy>(words: &mut Vec<OrderWord<A>>, place: usize, word: OrderWord<A>)
-    requires long { length words.old.items ≡ 128 }
-    requires place { place < 128 }
-    ensures long { length words.new.items ≡ 128 }
+    requires long { length words.old.items ≡ 32 }
+    requires place { place < 32 }
+    ensures long { length words.new.items ≡ 32 }
     ensures here { word_at (map said words.new.items) place ≡ said word }
     ensures others { (i : ℕ) → nat_eq place i ≡ false → word_at (map said words.new.items) i ≡ word_at (map said words.old.items) i }
 {
@@ -325,10 +325,9 @@ fn put<A: Copy>(words: &mut Vec<OrderWord<A>>, place: usize, word: OrderWord<A>)
 
 // Ends the era of the words from `start` to `end`, without the one at `end`. It leaves words that say nothing as they are.
 fn empty<A: Copy>(words: &mut Vec<OrderWord<A>>, start: usize, end: usize)
-    requires long { length words.old.items ≡ 128 }
-    requires ordered { start ≤ end }
-    requires within { end ≤ 128 }
-    ensures long { length words.new.items ≡ 128 }
+    requires long { length words.old.items ≡ 32 }
+    requires within { end ≤ 32 }
+    ensures long { length words.new.items ≡ 32 }
     ensures emptied { (i : ℕ) → word_at (map said words.new.items) i ≡ cond (nat_le start i && nat_lt i end) blank (word_at (map said words.old.items) i) }
 {
     for place in start..end {
@@ -337,12 +336,4 @@ fn empty<A: Copy>(words: &mut Vec<OrderWord<A>>, start: usize, end: usize)
             put(words, place, word.emptied());
         }
     }
-}
-
-// Where a pass begins that goes from `lo` to this end, if it goes anywhere.
-fn start_of(lo: usize, end: usize) -> usize
-    ensures ordered { result ≤ end }
-    ensures same { (i : ℕ) → (nat_le result i && nat_lt i end) ≡ (nat_le lo i && nat_lt i end) }
-{
-    if lo <= end { lo } else { end }
 }

@@ -17,7 +17,7 @@ use indexmap::IndexMap;
 use std::alloc::{AllocError, Global};
 use std::marker::Model;
 
-/// A book for each word, as steps go by. Contracts see the books by `book_in`. The books of 128 words that lie side by side are kept in one block, which is made at the first access of one of them. A step takes one look
+/// A book for each word, as steps go by. Contracts see the books by `book_in`. The books of 32 words that lie side by side are kept in one block, which is made at the first access of one of them. A step takes one look
 /// at them, and a reuse one look for each block of its range.
 #[derive(Drop)]
 pub struct WordBooks<A> {
@@ -104,7 +104,7 @@ impl<A: Copy> WordBooks<A> {
     }
 
     fn empty(&mut self, number: u64, from: usize, to: usize)
-        requires { to < 128 }
+        requires { to < 32 }
         ensures { (w : ℕ) → book_in self.new w ≡ cond (is_place_in number from to w) Untouched (book_in self.old w) }
     {
         if let Some(index) = index_of(&self.blocks, self.hints.hint(number), number) {

@@ -7,7 +7,7 @@ use indexmap::IndexMap;
 use std::alloc::Global;
 
 /// How many keys have a number at a time.
-const SLOTS: u64 = 4096;
+const SLOTS: u64 = 16_384;
 
 /// The number that was noted last for a key, or for another key with the same lowest bits, or 0. So whoever asks must check what it gets: a
 /// hint saves a search if it is right, and costs one comparison if it is wrong.

@@ -8,6 +8,6 @@ use Rattle.er_epochs.proofs.words.Block.first_in_use.Given as goal
 
 abbrev pub invariant-loop-place : goal.invariant-loop-place
 invariant-loop-place g l = record {
-  none : IsNoneBelow (λ i. is_raced (count_by l.clock) (stored_beside l.lists (l.number * 128 + i) (word_at l.self i)) Write) l.lo l.place;
+  none : IsNoneBelow (λ i. is_raced (count_by l.clock) (stored_beside l.lists (l.number * 32 + i) (word_at l.self i)) Write) l.lo l.place;
   place : l.lo ≤ l.place;
 }

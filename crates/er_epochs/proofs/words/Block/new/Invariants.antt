@@ -5,6 +5,6 @@ use Rattle.er_epochs.proofs.words.Block.new.Given as goal
 abbrev pub invariant-loop : goal.invariant-loop
 invariant-loop g l = record {
   words : (i : ℕ) → word_at (map said l.words.items) i ≡ blank;
-  room : 128 ≤ l.words.cap;
+  room : 32 ≤ l.words.cap;
   long : length l.words.items ≡ l.counter;
 }

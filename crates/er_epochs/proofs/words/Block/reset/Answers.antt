@@ -10,5 +10,5 @@ up_to i hi = grind (arith, nat_tests)
 pub returns : goal.returns
 returns g c = λ i.
     c.empty.ensures.emptied i
-    ∙ (ap (λ (b : Bool). cond b blank (word_at (map said c.self.inside.words.items) i)) (c.start_of.ensures.same i ∙ ap (λ b. nat_le c.args.lo i && b) (up_to i c.args.hi))
+    ∙ (ap (λ (b : Bool). cond b blank (word_at (map said c.self.inside.words.items) i)) (ap (λ b. nat_le c.args.lo i && b) (up_to i c.args.hi))
     ∙ ap (λ words. cond (nat_le c.args.lo i && nat_le i c.args.hi) blank (word_at words i)) c.self.view_is)

@@ -24,8 +24,8 @@ pub returns-in_ok-place-in-Some-clause-in_use : goal.returns-in_ok-place-in-Some
 returns-in_ok-place-in-Some-clause-in_use g c =
     let old : AllWords g.row.A.Denot = record { blocks = c.self.inside.blocks.entries; lists = c.self.inside.lists } in
     subst (λ (found : Option ℕ). IsLowest (λ w. is_place_in c.args.number c.args.«from» c.args.to w && is_raced (count_by c.args.clock.now) (stored_among c.args.self.now w) Write) found)
-    (ap (λ (o : Option (ℕ × g.row.A.Denot)). option_map (λ place. c.args.number * 128 + place) (option_map (λ (found : ℕ × g.row.A.Denot). found.0) o)) c.in_ok-place-in-Some.was ∙ ap (λ (n : ℕ). Some n) (sym c.new.ensures))
-    (subst (λ (before : AllWords g.row.A.Denot). IsLowest (λ w. is_place_in c.args.number c.args.«from» c.args.to w && is_raced (count_by c.args.clock.now) (stored_among before w) Write) (option_map (λ place. c.args.number * 128 + place) (option_map (λ (found : ℕ × g.row.A.Denot). found.0) c.first_in_use-found.result))) c.self.view_is
+    (ap (λ (o : Option (ℕ × g.row.A.Denot)). option_map (λ place. c.args.number * 32 + place) (option_map (λ (found : ℕ × g.row.A.Denot). found.0) o)) c.in_ok-place-in-Some.was ∙ ap (λ (n : ℕ). Some n) (sym c.new.ensures))
+    (subst (λ (before : AllWords g.row.A.Denot). IsLowest (λ w. is_place_in c.args.number c.args.«from» c.args.to w && is_raced (count_by c.args.clock.now) (stored_among before w) Write) (option_map (λ place. c.args.number * 32 + place) (option_map (λ (found : ℕ × g.row.A.Denot). found.0) c.first_in_use-found.result))) c.self.view_is
     (lowest_in_block old c.args.number c.args.«from» c.args.to c.index_mut-block.result.now (count_by c.args.clock.now) (option_map (λ (found : ℕ × g.row.A.Denot). found.0) c.first_in_use-found.result)
     (entry_found c.self.inside.blocks c.in-Some.index c.args.number c.index_mut-block.result.now c.in-Some.ensures.unique c.in-Some.ensures.key c.index_mut-block.ensures.value)
     c.requires.to c.first_in_use-found.ensures.lowest))
@@ -33,8 +33,8 @@ returns-in_ok-place-in-Some-clause-in_use g c =
 pub returns-in_ok-place-in-Some-clause-named : goal.returns-in_ok-place-in-Some-clause-named
 returns-in_ok-place-in-Some-clause-named g c =
     let old : AllWords g.row.A.Denot = record { blocks = c.self.inside.blocks.entries; lists = c.self.inside.lists } in
-    subst (λ (o : Option (ℕ × g.row.A.Denot)). IfSome {T = ℕ × g.row.A.Denot} (option_map (λ (found : ℕ × g.row.A.Denot). (c.args.number * 128 + found.0, found.1)) o) (λ found. Some found.1 ≡ tag_found (count_by c.args.clock.now) (stored_among c.args.self.now found.0) Write)) c.in_ok-place-in-Some.was
-    (subst (λ (before : AllWords g.row.A.Denot). IfSome {T = ℕ × g.row.A.Denot} (option_map (λ (found : ℕ × g.row.A.Denot). (c.args.number * 128 + found.0, found.1)) c.first_in_use-found.result) (λ found. Some found.1 ≡ tag_found (count_by c.args.clock.now) (stored_among before found.0) Write)) c.self.view_is
+    subst (λ (o : Option (ℕ × g.row.A.Denot)). IfSome {T = ℕ × g.row.A.Denot} (option_map (λ (found : ℕ × g.row.A.Denot). (c.args.number * 32 + found.0, found.1)) o) (λ found. Some found.1 ≡ tag_found (count_by c.args.clock.now) (stored_among c.args.self.now found.0) Write)) c.in_ok-place-in-Some.was
+    (subst (λ (before : AllWords g.row.A.Denot). IfSome {T = ℕ × g.row.A.Denot} (option_map (λ (found : ℕ × g.row.A.Denot). (c.args.number * 32 + found.0, found.1)) c.first_in_use-found.result) (λ found. Some found.1 ≡ tag_found (count_by c.args.clock.now) (stored_among before found.0) Write)) c.self.view_is
     (named_in_block old c.args.number c.args.«from» c.args.to c.index_mut-block.result.now (count_by c.args.clock.now) c.first_in_use-found.result
     (entry_found c.self.inside.blocks c.in-Some.index c.args.number c.index_mut-block.result.now c.in-Some.ensures.unique c.in-Some.ensures.key c.index_mut-block.ensures.value)
     c.requires.to c.first_in_use-found.ensures.lowest c.first_in_use-found.ensures.named))
@@ -54,8 +54,8 @@ pub returns-in_err-place-in-Some-clause-in_use : goal.returns-in_err-place-in-So
 returns-in_err-place-in-Some-clause-in_use g c =
     let old : AllWords g.row.A.Denot = record { blocks = c.self.inside.blocks.entries; lists = c.self.inside.lists } in
     subst (λ (found : Option ℕ). IsLowest (λ w. is_place_in c.args.number c.args.«from» c.args.to w && is_raced (count_by c.args.clock.now) (stored_among c.args.self.now w) Write) found)
-    (ap (λ (o : Option (ℕ × g.row.A.Denot)). option_map (λ place. c.args.number * 128 + place) (option_map (λ (found : ℕ × g.row.A.Denot). found.0) o)) c.in_err-place-in-Some.was ∙ ap (λ (o : Option (ℕ × g.row.A.Denot)). option_map (λ (found : ℕ × g.row.A.Denot). found.0) o) (sym c.from_residual.ensures))
-    (subst (λ (before : AllWords g.row.A.Denot). IsLowest (λ w. is_place_in c.args.number c.args.«from» c.args.to w && is_raced (count_by c.args.clock.now) (stored_among before w) Write) (option_map (λ place. c.args.number * 128 + place) (option_map (λ (found : ℕ × g.row.A.Denot). found.0) c.first_in_use-found.result))) c.self.view_is
+    (ap (λ (o : Option (ℕ × g.row.A.Denot)). option_map (λ place. c.args.number * 32 + place) (option_map (λ (found : ℕ × g.row.A.Denot). found.0) o)) c.in_err-place-in-Some.was ∙ ap (λ (o : Option (ℕ × g.row.A.Denot)). option_map (λ (found : ℕ × g.row.A.Denot). found.0) o) (sym c.from_residual.ensures))
+    (subst (λ (before : AllWords g.row.A.Denot). IsLowest (λ w. is_place_in c.args.number c.args.«from» c.args.to w && is_raced (count_by c.args.clock.now) (stored_among before w) Write) (option_map (λ place. c.args.number * 32 + place) (option_map (λ (found : ℕ × g.row.A.Denot). found.0) c.first_in_use-found.result))) c.self.view_is
     (lowest_in_block old c.args.number c.args.«from» c.args.to c.index_mut-block.result.now (count_by c.args.clock.now) (option_map (λ (found : ℕ × g.row.A.Denot). found.0) c.first_in_use-found.result)
     (entry_found c.self.inside.blocks c.in-Some.index c.args.number c.index_mut-block.result.now c.in-Some.ensures.unique c.in-Some.ensures.key c.index_mut-block.ensures.value)
     c.requires.to c.first_in_use-found.ensures.lowest))

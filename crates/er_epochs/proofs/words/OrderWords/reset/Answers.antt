@@ -34,7 +34,7 @@ loop-number-preserved g c = record {
 
 pub returns : goal.returns
 returns g c =
-    let past : c.args.range.hi / 128 + 1 ≤ c.loop-number.number = (let end = c.block-last.ensures.value in omega (arith, end, c.loop-number-test.false)) in
+    let past : c.args.range.hi / 32 + 1 ≤ c.loop-number.number = (let end = c.block-last.ensures.value in omega (arith, end, c.loop-number-test.false)) in
     record {
       reset = reset-end c.args.self.now c.loop-number.self c.args.range c.loop-number.number past c.loop-number.invariant.reset;
       in_use = lowest_end c.args.self.now c.args.range (count_by c.args.clock.now) c.loop-number.number (option_map (λ (found : ℕ × g.row.A.Denot). found.0) c.loop-number.found) past c.loop-number.invariant.in_use;

@@ -14,5 +14,5 @@ returns-in-Some g c =
 
 pub returns-in-None : goal.returns-in-None
 returns-in-None g c =
-    ap joining_in (found_book c.self.inside.blocks.entries c.args.word c.block-number.result (c.args.word % 128) None c.block-number.ensures.value refl (sym c.in-None.ensures.none))
+    ap joining_in (found_book c.self.inside.blocks.entries c.args.word c.block-number.result (c.args.word % 32) None c.block-number.ensures.value refl (sym c.in-None.ensures.none))
     ∙ ap (λ (v : Blocks (Access g.row.A.Denot)). joining_in (book_in v c.args.word)) c.self.view_is
