@@ -15,6 +15,8 @@
 //! and leaves the words. Such a machine may stand for no list. So `step` also says what it answers and changes by the machine's own
 //! holdings and states (`answered`, `holdings`, `states`).
 //!
+//! [`Threads`] has the threads' holdings alone, for a machine of another analysis.
+//!
 //! [`Machine::step_noting`] takes a step as `step` does, and says also whether the step may have changed a word's state. If it says no, each
 //! word has the state that it had (`unchanged`, and `same` by the machine's own states).
 //!
@@ -28,6 +30,7 @@
 
 pub use machine::Machine;
 pub use runs::{no_room, run};
+pub use threads::Threads;
 
 mod machine;
 mod runs;

@@ -58,7 +58,7 @@ impl<'t> Machine<'t> {
     ) -> Result<Machine<'t>, AllocError>
         ensures { IfOk result (λ machine. Stands machine []) }
     {
-        let threads = Threads::new(alloc, keys)?;
+        let threads = Threads::new(alloc, keys);
         let words = ShadowMap::keyed(alloc, table, keys)?;
         Ok(Machine { threads, words })
     }

@@ -1,7 +1,6 @@
--- A lock that was just taken is given back, and what is written again changes nothing.
-use Rattle.std.proofs.Common.{◌≡◌, ℕ, Bool, true, false, nat_eq, cond, List, None, Some, refl, ap, ap₂, sym, subst, ◌∙◌}
+-- A lock that was just taken is given back.
+use Rattle.std.proofs.Common.{◌≡◌, ℕ, Bool, true, false, nat_eq, cond, List, None, refl, ap, ap₂, sym, subst, ◌∙◌}
 use Rattle.std.proofs.lemmas.Bool.{eqb-true}
-use Rattle.std.specs.Map.{lookup}
 use Rattle.er_event.specs.Lockset.{has, is_level_lock, with_lock}
 use Rattle.er_event.specs.declared.steps.Event.TheVariants.{Acquire, Release}
 use Rattle.er_event.specs.declared.steps.Mode.{Mode}
@@ -11,7 +10,6 @@ use Rattle.er_event.proofs.LocksetLemmas.{has-with_lock, without_absent}
 use Rattle.er_model.specs.Holdings.{Holdings, refused_by, changed_by}
 use Rattle.er_held.specs.ThreadLocks.{holding_among}
 use Rattle.er_held.proofs.HeldLemmas.{without-with_lock}
-use Rattle.er_held.proofs.MapLemmas.{holding_written}
 
 module _ (h : Holdings) (l : ℕ) (within : (k : ℕ) → has h.write_held k ≡ true → has h.held k ≡ true) where
   -- what an accepted acquire tells
@@ -67,13 +65,3 @@ module _ (old mid : List (ℕ × Holdings)) (t l : ℕ) (m : Mode)
         by : (b : Bool) → nat_eq t u ≡ b → cond b (holding_among old t) (cond b (changed_by (holding_among old t) (Acquire l m)) (holding_among old u)) ≡ holding_among old u
         by true same = ap (holding_among old) (eqb-true t u same)
         by false same = refl
-
--- what is written is what was there
-pub holding_rewritten : (threads more : List (ℕ × Holdings)) (thread : ℕ) (h : Holdings) → h ≡ holding_among threads thread →
-    ((q : ℕ) → lookup (nat_eq q) more ≡ cond (nat_eq thread q) (Some h) (lookup (nat_eq q) threads)) →
-    (t : ℕ) → holding_among more t ≡ holding_among threads t
-holding_rewritten threads more thread h is written t = holding_written threads more thread h written t ∙ by (nat_eq thread t) refl
-  where
-    by : (b : Bool) → nat_eq thread t ≡ b → cond b h (holding_among threads t) ≡ holding_among threads t
-    by true same = is ∙ ap (λ u. holding_among threads u) (eqb-true thread t same)
-    by false other = refl

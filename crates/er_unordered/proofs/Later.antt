@@ -1,9 +1,9 @@
 -- Whoever knows a step of a thread knows it from a step by that thread, or from one that joins it.
-use Rattle.std.proofs.Common.{◌≡◌, ◌∙◌, ℕ, zero, suc, ◌<◌, ◌≤◌, ◌+◌, max, ◌==◌, Bool, true, false, ◌&&◌, ◌||◌, cond, List, length, Option, Some, None, IfSome, IsTrue, ⊎_elim, inl, inr, ◌⊎◌, refl, sym, subst, arith}
+use Rattle.std.proofs.Common.{◌≡◌, ℕ, zero, suc, ◌<◌, ◌≤◌, max, ◌==◌, Bool, true, false, ◌&&◌, ◌||◌, cond, List, length, Option, Some, None, ⊎_elim, inl, ◌⊎◌, refl, sym, subst, arith}
 use Rattle.er_event.specs.declared.steps.Mode.TheVariants.{Read, Write}
 use Rattle.er_event.specs.declared.steps.Step.{Step}
 use Rattle.er_order.specs.Order.{Effect, Acquired, Released, Started, Joined, Signalled, Awaited, Local, Act, Acts, joins, acts_of}
-use Rattle.er_order.specs.Clocks.{Keeper, OfThread, OfReleases, OfObject, Clocks, is_own, gives, flows, found, seen, raised, clocks_after, clocks_at}
+use Rattle.er_order.specs.Clocks.{Keeper, OfThread, OfReleases, OfObject, is_own, gives, flows, found, seen, raised, clocks_after, clocks_at}
 use Rattle.er_clock.specs.declared.clock.Limit.{Limit}
 use Rattle.er_clock.specs.declared.clock.Limit.TheVariants as kind
 use Rattle.er_clock.specs.Crowding.{takes_part, HasLater, HasLaterFor, IsBeyond, BeyondIn}

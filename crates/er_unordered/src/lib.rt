@@ -26,7 +26,6 @@ pub use machine::{OrderAnswer, OrderMachine};
 pub use ordering::OrderAnalyst;
 
 mod answering;
-mod holders;
 mod machine;
 mod ordering;
 mod reasons;

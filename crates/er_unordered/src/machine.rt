@@ -1,20 +1,23 @@
 //! The machine: every thread's holdings, the clocks, and what is kept of every word.
-ghost use Rattle.std.specs.Prelude.{◌≡◌, ◌<◌, ℕ, List, ◌++◌, ◌∷◌, [], IfOk, IsErrOf, IsOk, IsTrue, Ok, Err, false, None, OnOk, OnErr, Some, cond, is_some, length, true};
+ghost use Rattle.std.specs.Prelude.{◌≡◌, ◌<◌, ℕ, nat_eq, List, ◌++◌, ◌∷◌, [], IfOk, IsErrOf, IsOk, IsTrue, Ok, Err, false, None, OnOk, OnErr, Some, cond, is_some, length, true};
 ghost use Rattle.std.specs.Option.{option_map};
-ghost use Rattle.er_model.specs.Holdings.{refused_by, holdings_end};
+ghost use Rattle.er_model.specs.Holdings.{refused_by, changed_by, holdings_end};
+ghost use Rattle.er_event.specs.Lockset.{has};
 ghost use Rattle.er_event.specs.declared.steps.Step.{Step as Steps};
+ghost use Rattle.er_held.specs.ThreadLocks.{changes_holdings, holding_among};
 ghost use Rattle.er_clock.specs.declared.clock.Limit.{Limit as Limits};
 ghost use Rattle.er_explain.specs.Racing.{is_race};
 ghost use Rattle.er_order.specs.Races.{order_answer, reuse_reply};
 ghost use Rattle.er_order.specs.Reasons.{unordered_with};
+ghost use Rattle.er_replay.specs.Wants.{wants_memory};
 
-use crate::holders::Holders;
 use er_clock::{Clocks, NoTick};
 use er_epochs::OrderWords;
 use er_event::{Event, Kind, LockId, Mode, PageRange, Refusal, Reply, Step, Sync, ThreadId, Word};
 use er_held::Held;
 use er_keys::HashKeys;
-use std::alloc::Global;
+use er_replay::Threads;
+use std::alloc::{AllocError, Global};
 use std::marker::Model;
 
 /// How many steps are looked at together.
@@ -24,7 +27,7 @@ const AHEAD: usize = 16;
 /// later race names it; whoever wants no names takes `()`, which has no bytes.
 #[derive(Drop)]
 pub struct OrderMachine<A> {
-    holders: Holders,
+    holders: Threads,
     clocks: Clocks,
     words: OrderWords<A>,
 }
@@ -54,7 +57,7 @@ impl<A: Copy> OrderMachine<A> {
         ensures { (tags : ℕ → A) → Stands tags result [] }
     {
         OrderMachine {
-            holders: Holders::new(alloc, keys),
+            holders: Threads::new(alloc, keys),
             clocks: Clocks::keyed(alloc, keys),
             words: OrderWords::keyed(alloc, keys),
         }
@@ -150,7 +153,7 @@ impl<A: Copy> OrderMachine<A> {
         ensures free { IsTrue (wants_nothing (holding self.old thread) event) → IsOk result }
         ensures limit { (limit : Limits) → IsErrOf result (NoTick.Beyond limit) → IsBeyondBy self.old (record { thread = thread; event = event }) limit }
     {
-        if let Some(why) = self.holders.refusal(thread, &event) {
+        if let Some(why) = refusal(&self.holders, thread, &event) {
             return Ok(OrderAnswer {
                 reply: Err(why),
                 rival: None,
@@ -172,9 +175,7 @@ impl<A: Copy> OrderMachine<A> {
         match event {
             Event::Acquire(lock, mode) => self.acquire(thread, lock, mode),
             Event::Release(lock, mode) => self.release(thread, lock, mode),
-            Event::IgnoreOn => self.hold(thread, Event::IgnoreOn),
-            Event::IgnoreOff => self.hold(thread, Event::IgnoreOff),
-            Event::Level(level) => self.hold(thread, Event::Level(level)),
+            Event::IgnoreOn | Event::IgnoreOff | Event::Level(_) => self.hold(thread, event),
             Event::Sync(sync) => self.synchronize(thread, sync),
             Event::Show(_) => Ok(()),
             Event::Access(..) => Ok(()),
@@ -222,15 +223,12 @@ impl<A: Copy> OrderMachine<A> {
         ensures same { OnErr result (IsSame self.old self.new) }
         ensures limit { (limit : Limits) → IsErrOf result (NoTick.Beyond limit) → IsBeyondBy self.old (record { thread = thread; event = Event.Acquire lock mode }) limit }
     {
-        self.holders.change(thread, Event::Acquire(lock, mode))?;
-        let step = Step {
-            thread,
-            event: Event::Acquire(lock, mode),
-        };
-        match self.clocks.follow(&step, true) {
+        change(&mut self.holders, thread, Event::Acquire(lock, mode))?;
+        let event = Event::Acquire(lock, mode);
+        match self.clocks.follow(&Step { thread, event }, true) {
             Ok(()) => Ok(()),
             Err(why) => {
-                self.holders.release(thread, lock, mode);
+                let _ = change(&mut self.holders, thread, Event::Release(lock, mode));
                 Err(why)
             }
         }
@@ -243,17 +241,10 @@ impl<A: Copy> OrderMachine<A> {
         ensures same { OnErr result (IsSame self.old self.new) }
         ensures limit { (limit : Limits) → IsErrOf result (NoTick.Beyond limit) → IsBeyondBy self.old (record { thread = thread; event = Event.Release lock mode }) limit }
     {
-        let step = Step {
-            thread,
-            event: Event::Release(lock, mode),
-        };
-        match self.clocks.follow(&step, true) {
-            Ok(()) => {
-                self.holders.release(thread, lock, mode);
-                Ok(())
-            }
-            Err(why) => Err(why),
-        }
+        let event = Event::Release(lock, mode);
+        self.clocks.follow(&Step { thread, event }, true)?;
+        let _ = change(&mut self.holders, thread, Event::Release(lock, mode));
+        Ok(())
     }
 
     // What only orders threads holds nothing.
@@ -262,11 +253,8 @@ impl<A: Copy> OrderMachine<A> {
         ensures same { OnErr result (IsSame self.old self.new) }
         ensures limit { (limit : Limits) → IsErrOf result (NoTick.Beyond limit) → IsBeyondBy self.old (record { thread = thread; event = Event.Sync sync }) limit }
     {
-        let step = Step {
-            thread,
-            event: Event::Sync(sync),
-        };
-        self.clocks.follow(&step, true)
+        let event = Event::Sync(sync);
+        self.clocks.follow(&Step { thread, event }, true)
     }
 
     // A bracket or a level orders nothing.
@@ -278,9 +266,28 @@ impl<A: Copy> OrderMachine<A> {
         ensures free { event ≡ Event.IgnoreOff → IsOk result }
         ensures limit { (limit : Limits) → IsErrOf result (NoTick.Beyond limit) → ⊥ }
     {
-        self.holders.change(thread, event)?;
+        change(&mut self.holders, thread, event)?;
         Ok(())
     }
+}
+
+// Why an event of the thread is refused, if it is.
+fn refusal(holders: &Threads, thread: ThreadId, event: &Event) -> Option<Refusal>
+    ensures { result ≡ refused_by (holding_among holders.now thread) event.now }
+{
+    holders.get(thread).refusal(*event)
+}
+
+// What an accepted event makes of its thread's holdings. After an error nothing has changed.
+fn change(holders: &mut Threads, thread: ThreadId, event: Event) -> Result<(), AllocError>
+    requires accepted { refused_by (holding_among holders.old thread) event ≡ None }
+    requires held { IsTrue (changes_holdings event) }
+    ensures ok { OnOk result ((t : ℕ) → holding_among holders.new t ≡ cond (nat_eq thread t) (changed_by (holding_among holders.old thread) event) (holding_among holders.old t)) }
+    ensures err { OnErr result ((t : ℕ) → holding_among holders.new t ≡ holding_among holders.old t) }
+    ensures free { wants_memory event ≡ false → IsOk result }
+    ensures within { (l : ℕ) → IsTrue (has (holding_among holders.old thread).write_held l) → IsTrue (has (holding_among holders.old thread).held l) }
+{
+    holders.change(thread, event).map_err(|_| AllocError)
 }
 
 // The answer to a reuse that found the use of a word that this names.

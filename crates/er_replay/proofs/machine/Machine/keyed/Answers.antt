@@ -2,4 +2,4 @@ use Rattle.er_replay.proofs.MachineLemmas.{stands-start}
 use Rattle.er_replay.proofs.machine.Machine.keyed.Goals as goal
 
 pub returns : goal.returns
-returns c = stands-start _ _ c.in_ok-threads.ensures c.in_ok-words.ensures
+returns c = stands-start _ _ c.new-threads.ensures c.in_ok-words.ensures

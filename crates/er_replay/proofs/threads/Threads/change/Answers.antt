@@ -1,4 +1,5 @@
-use Rattle.std.proofs.Common.{◌≡◌, ℕ, nat_eq, cond, Some, slice_get, ap, ◌∙◌, sym}
+use Rattle.std.proofs.Common.{◌≡◌, ℕ, nat_eq, cond, Some, IsTrue, slice_get, ap, ◌∙◌, sym}
+use Rattle.er_event.specs.Lockset.{has}
 use Rattle.std.specs.Map.{lookup}
 use Rattle.indexmap.specs.IndexMap.{keys, values, with_value_at}
 use Rattle.er_held.specs.ThreadLocks.{holding_among}
@@ -88,3 +89,19 @@ pub returns-in_ok-insert-in-None-clause-refused : goal.returns-in_ok-insert-in-N
 returns-in_ok-insert-in-None-clause-refused c =
     let none = absent (goal.at.returns-in_ok-insert-in-None-clause-refused c).In-None in
     rw (← none, ← c.new-held.ensures) (λ why so. let accepted = c.in_ok-change-in-None.ensures.accepted in cc)
+
+pub returns-in-Some-clause-within : goal.returns-in-Some-clause-within
+returns-in-Some-clause-within c = rw (← found (goal.at.returns-in-Some-clause-within c).In-Some c.index_mut-held.result.now c.index_mut-held.ensures.value) c.change.ensures.within
+
+-- who has nothing has nothing in write mode
+nothing_within : (h : Holdings) → nothing_held ≡ h → (l : ℕ) → IsTrue (has h.write_held l) → IsTrue (has h.held l)
+nothing_within h is l there = rw (← is) (let never : IsTrue (has nothing_held.write_held l) = rw (← is) at there in never)
+
+pub returns-in_err-change-in-None-clause-within : goal.returns-in_err-change-in-None-clause-within
+returns-in_err-change-in-None-clause-within c = nothing_within _ (absent (goal.at.returns-in_err-change-in-None-clause-within c).In-None)
+
+pub returns-in_err-insert-in-None-clause-within : goal.returns-in_err-insert-in-None-clause-within
+returns-in_err-insert-in-None-clause-within c = nothing_within _ (absent (goal.at.returns-in_err-insert-in-None-clause-within c).In-None)
+
+pub returns-in_ok-insert-in-None-clause-within : goal.returns-in_ok-insert-in-None-clause-within
+returns-in_ok-insert-in-None-clause-within c = nothing_within _ (absent (goal.at.returns-in_ok-insert-in-None-clause-within c).In-None)

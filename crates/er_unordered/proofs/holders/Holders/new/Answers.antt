@@ -1,5 +1,0 @@
-use Rattle.er_held.proofs.MapLemmas.{holding_empty}
-use Rattle.er_unordered.proofs.holders.Holders.new.Goals as goal
-
-pub returns : goal.returns
-returns c t = holding_empty c.with_hasher.result.entries t c.with_hasher.ensures.empty
