@@ -20,8 +20,8 @@ use std::marker::Model;
 /// An entry with its journal's place.
 #[derive(Drop)]
 pub(crate) struct PlacedEntry<'a> {
-    place: usize,
-    entry: &'a Entry,
+    pub(crate) place: usize,
+    pub(crate) entry: &'a Entry,
 }
 
 impl<'a> Model for PlacedEntry<'a> {
@@ -34,12 +34,6 @@ impl<'a> Model for PlacedEntry<'a> {
 }
 
 impl<'a> PlacedEntry<'a> {
-    pub(crate) fn place(&self) -> usize
-        ensures { result ≡ self.now.place }
-    {
-        self.place
-    }
-
     /// The same entry again.
     pub(crate) fn copy(&self) -> PlacedEntry<'a>
         ensures { result ≡ self.now }
@@ -48,12 +42,6 @@ impl<'a> PlacedEntry<'a> {
             place: self.place,
             entry: self.entry,
         }
-    }
-
-    pub(crate) fn entry(&self) -> &'a Entry
-        ensures { result.now ≡ self.now.entry }
-    {
-        self.entry
     }
 }
 
@@ -131,8 +119,8 @@ pub(crate) fn zeros(alloc: Global, count: usize) -> Made<Vec<usize>>
 /// One call of one thread, in its turn.
 #[derive(Drop)]
 pub(crate) struct Turn<'a> {
-    thread: ThreadId,
-    call: &'a Call,
+    pub(crate) thread: ThreadId,
+    pub(crate) call: &'a Call,
 }
 
 impl<'a> Model for Turn<'a> {
@@ -141,20 +129,6 @@ impl<'a> Model for Turn<'a> {
     ghost Value = { TurnShown };
 
     ghost view = { λ a. turn_of a.thread a.call.now };
-}
-
-impl<'a> Turn<'a> {
-    pub(crate) fn thread(&self) -> ThreadId
-        ensures { result ≡ self.now.thread }
-    {
-        self.thread
-    }
-
-    pub(crate) fn call(&self) -> &'a Call
-        ensures { result.now ≡ self.now.call }
-    {
-        self.call
-    }
 }
 
 /// The turns of some calls of each seat, and the place of each seat's next call.
@@ -201,7 +175,7 @@ fn take_ticketed<'a>(
     let mut next = zeros(alloc, seats.len())?;
     let mut turns = Vec::new(alloc);
     for placed in order {
-        let number = placed.entry().thread.number();
+        let number = placed.entry.thread.number();
         let Some(at) = index.get(&number).copied() else {
             unreachable!()
         };

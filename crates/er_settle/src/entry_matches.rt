@@ -74,7 +74,7 @@ pub(crate) fn group_by_thread<'a>(
 {
     let mut groups = empty_groups(alloc, seats)?;
     for placed in order {
-        let thread = placed.entry().thread.number();
+        let thread = placed.entry.thread.number();
         let Some(at) = index.get(&thread).copied() else {
             return Err(Unsettled::Entries);
         };
@@ -116,24 +116,19 @@ fn is_matched<'a>(calls: &[Call], group: &[PlacedEntry<'a>]) -> bool
 fn is_asked(ticket: u64, event: Event, placed: &PlacedEntry) -> bool
     ensures { IsTrue result ↔ ((ticket ≡ placed.now.entry.ticket) × (event ≡ event_of placed.now.entry.what)) }
 {
-    let entry = placed.entry();
+    let entry = placed.entry;
     ticket == entry.ticket && is_event_of(event, &entry.what)
 }
 
 fn is_event_of(event: Event, what: &What) -> bool
     ensures { IsTrue result ↔ (event ≡ event_of what.now) }
 {
-    match what {
-        What::Access(stamp) => match event {
-            Event::Access(kind, word, site) => {
-                kind == stamp.kind() && word == stamp.word() && site == stamp.site()
-            }
-            _ => false,
-        },
-        What::Reset(range) => match event {
-            Event::Reuse(reused) => reused.lo == range.lo && reused.hi == range.hi,
-            _ => false,
-        },
+    match (what, event) {
+        (What::Access(stamp), Event::Access(kind, word, site)) => {
+            kind == stamp.kind() && word == stamp.word() && site == stamp.site()
+        }
+        (What::Reset(range), Event::Reuse(reused)) => reused == *range,
+        _ => false,
     }
 }
 
@@ -158,18 +153,18 @@ pub(crate) fn all_in_place(shards: usize, order: &[PlacedEntry]) -> bool
     requires { 0 < shards }
     ensures { IsTrue result ↔ AllInPlace shards order.now }
 {
-    order.iter().all(|placed| place_of(shards, &placed.entry().what) == placed.place())
+    order.iter().all(|placed| is_in_place(shards, placed))
 }
 
-fn place_of(shards: usize, what: &What) -> usize
+fn is_in_place(shards: usize, placed: &PlacedEntry) -> bool
     requires { 0 < shards }
-    ensures { result ≡ place_of shards what.now }
+    ensures { IsTrue result ↔ (place_of shards placed.now.entry.what ≡ placed.now.place) }
 {
-    let word = match what {
+    let word = match &placed.entry.what {
         What::Access(stamp) => stamp.word(),
         What::Reset(range) => range.lo,
     };
-    word.page() as usize % shards
+    word.page() as usize % shards == placed.place
 }
 
 /// Whether each seat's calls have the replies and the locks of their entries.
@@ -203,7 +198,8 @@ fn is_answered(held: &mut Held, seat: &SeatView, group: &[PlacedEntry]) -> Made<
         if call.ticket().is_some() {
             let count = group.len();
             prove!(at < count);
-            if !is_alike(held, thread, call, group[at].entry()) {
+            let placed = &group[at];
+            if !is_alike(held, thread, call, placed.entry) {
                 return Ok(false);
             }
             at += 1;

@@ -69,12 +69,11 @@ fn run_of(alloc: Global, turns: &[Turn]) -> Made<Run>
     let mut steps = Vec::with_capacity(alloc, turns.len())?;
     let mut replies = Vec::with_capacity(alloc, turns.len())?;
     for turn in turns {
-        let call = turn.call();
         steps.push(Step {
-            thread: turn.thread(),
-            event: call.event(),
+            thread: turn.thread,
+            event: turn.call.event(),
         })?;
-        replies.push(call.reply().reply())?;
+        replies.push(turn.call.reply().reply())?;
     }
     Ok(Run { steps, replies })
 }

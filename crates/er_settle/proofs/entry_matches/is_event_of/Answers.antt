@@ -1,13 +1,20 @@
+-- Two ranges are one where both of their ends are.
 use Rattle.std.proofs.Common.{◌∙◌, sym, ap}
-use Rattle.std.proofs.lemmas.Bool.{eqb-true, eq-eqb}
+use Rattle.std.proofs.lemmas.Bool.{and_parts, and_from, eqb-true, eq-eqb}
 use Rattle.er_event.specs.declared.addresses.PageRange.{PageRange}
 use Rattle.er_event.specs.declared.steps.Event.TheVariants.{Reuse}
 use Rattle.er_event.proofs.SpanLemmas.{same_range}
 use Rattle.er_settle.proofs.PairLemmas.{reuse-parts}
 use Rattle.er_settle.proofs.entry_matches.is_event_of.Goals as goal
 
-pub returns-then-eq-3 : goal.returns-then-eq-3
-returns-then-eq-3 c = rw (c.in-Reset.is, c.in-Reuse.is) (
-  (λ same. ap Reuse (same_range c.in-Reuse.reused c.in-Reset.range (eqb-true c.in-Reuse.reused.lo c.in-Reset.range.lo (sym c.if-eq-3.ensures)) (eqb-true c.in-Reuse.reused.hi c.in-Reset.range.hi (sym c.eq-then-eq-3.ensures ∙ same)))),
-  λ same. c.eq-then-eq-3.ensures ∙ eq-eqb c.in-Reuse.reused.hi c.in-Reset.range.hi (ap (λ (r : PageRange). r.hi) (reuse-parts c.in-Reuse.reused c.in-Reset.range same)),
-)
+pub returns-in-Reset-Reuse : goal.returns-in-Reset-Reuse
+returns-in-Reset-Reuse c =
+    let range = c.in-Reset-Reuse.range in
+    let reused = c.in-Reset-Reuse.reused in
+    rw (c.in-Reset-Reuse.is-0, c.in-Reset-Reuse.is-1) (
+      λ yes. (let both = and_parts _ _ (sym c.eq-in-Reset-Reuse.ensures ∙ yes) in
+          ap Reuse (same_range reused range (eqb-true reused.lo range.lo both.0) (eqb-true reused.hi range.hi both.1))),
+      λ same. (let parts = reuse-parts reused range same in
+          c.eq-in-Reset-Reuse.ensures
+          ∙ and_from _ _ (eq-eqb reused.lo range.lo (ap (λ (r : PageRange). r.lo) parts)) (eq-eqb reused.hi range.hi (ap (λ (r : PageRange). r.hi) parts))),
+    )

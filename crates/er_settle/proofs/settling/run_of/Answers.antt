@@ -9,10 +9,10 @@ pub loop-turn-preserved : goal.loop-turn-preserved
 loop-turn-preserved c = record {
   steps = map_one_more (λ (a : TurnShown). record { thread = a.thread; event = a.call.event }) _ _ c.args.turns.now _ c.turn-item.result _ c.loop-turn-test.true c.turn-item.is
       c.loop-turn.invariant.steps c.in_ok-push.ensures.items
-      (λ i. record { thread = c.thread.ensures i; event = (c.event.ensures ∙ ap (λ (call : Call). call.event) c.call-call.ensures) i });
+      (λ i. record { thread = ap (λ (a : TurnShown). a.thread) c.turn.view_is i; event = (c.event.ensures ∙ ap (λ (call : Call). call.event) (ap (λ (a : TurnShown). a.call) c.turn.view_is)) i });
   replies = map_one_more (λ (a : TurnShown). a.call.reply) _ _ c.args.turns.now _ c.turn-item.result _ c.loop-turn-test.true c.turn-item.is
       c.loop-turn.invariant.replies c.in_ok-push-2.ensures.items
-      (cc (c.reply-in-loop-turn.ensures, c.reply.ensures, c.call-call.ensures));
+      (cc (c.reply-in-loop-turn.ensures, c.reply.ensures, ap (λ (a : TurnShown). a.call) c.turn.view_is));
 }
 
 pub returns-clause-steps : goal.returns-clause-steps
