@@ -79,8 +79,7 @@ impl Call {
         ensures { result ≡ self.now.reply }
     {
         match &self.kept {
-            KeptCall::Own(reply, _) => reply.copy(),
-            KeptCall::Counted(reply, _, _, _, _) => reply.copy(),
+            KeptCall::Own(reply, _) | KeptCall::Counted(reply, _, _, _, _) => reply.copy(),
             KeptCall::Reset(_, _) => BriefReply::done(),
         }
     }
@@ -92,8 +91,7 @@ impl Call {
     {
         match &self.kept {
             KeptCall::Own(_, _) => None,
-            KeptCall::Counted(_, _, _, _, ticket) => Some(*ticket),
-            KeptCall::Reset(_, ticket) => Some(*ticket),
+            KeptCall::Counted(_, _, _, _, ticket) | KeptCall::Reset(_, ticket) => Some(*ticket),
         }
     }
 }

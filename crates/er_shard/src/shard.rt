@@ -104,13 +104,11 @@ impl<'t> Shard<'t> {
     {
         reserve_entry(&mut self.journal, self.limit)?;
         let reply = self.words.apply(rt, &stamp)?;
-        let brief = in_brief(&reply);
-        let thread = stamp.thread();
         self.journal.push_reserved(Entry {
             ticket,
+            thread: stamp.thread(),
             what: What::Access(stamp),
-            thread,
-            reply: brief,
+            reply: in_brief(&reply),
         });
         Ok(reply)
     }

@@ -43,11 +43,7 @@ impl SetRef {
         ensures { IfSome result (λ r. IsOf sets.now r × (set_of r ≡ set.now)) }
     {
         let pushed = sets.witness(place)?;
-        if sets.value(&pushed) == set {
-            Some(SetRef { pushed })
-        } else {
-            None
-        }
+        (sets.value(&pushed) == set).then_some(SetRef { pushed })
     }
 
     pub(crate) fn place(&self) -> usize {
