@@ -5,7 +5,7 @@ ghost use Rattle.std.specs.Prelude.{◌≡◌, ◌≤◌, ◌<◌, ◌+◌, ◌�
 ghost use Rattle.er_held.specs.Held.{nothing_held};
 ghost use Rattle.er_journal.specs.Entries.{Call as Calls};
 ghost use Rattle.er_model.specs.Events.{is_show};
-ghost use Rattle.er_model.specs.Holdings.{refused_by, changed_by};
+ghost use Rattle.er_model.specs.Holdings.{refused_by};
 ghost use Rattle.er_journal.specs.Journals.{journal_state};
 ghost use Rattle.er_journal.specs.Merges.{IsLegalSeat};
 ghost use Rattle.er_shadow.specs.Shadows.{needs_set};
@@ -160,7 +160,8 @@ impl Seat {
         self.held.acquire(lock, mode)?;
         let with_release = 1 + calls_to_unwind(&self.held);
         if let Err(refused) = self.calls.reserve(with_release) {
-            give_back(&mut self.held, lock, mode);
+            let released: Result<(), Refusal> = self.held.release(lock, mode);
+            released.unwrap();
             return Err(refused.into());
         }
         self.calls.push_reserved(done(Event::Acquire(lock, mode)));
@@ -192,7 +193,8 @@ impl Seat {
         self.held.ignore_on()?;
         let with_close = 1 + calls_to_unwind(&self.held);
         if let Err(refused) = self.calls.reserve(with_close) {
-            close_bracket(&mut self.held);
+            let closed: Result<(), Refusal> = self.held.ignore_off();
+            closed.unwrap();
             return Err(refused.into());
         }
         self.calls.push_reserved(done(Event::IgnoreOn));
@@ -266,9 +268,8 @@ impl Seat {
         let locks = self.recent.locks(&self.held)?;
         let stamp = Stamp::new(self.thread, word, kind, site, locks);
         let reply = shard.apply(rt, ticket, stamp)?;
-        let brief = in_brief(&reply);
         self.calls
-            .push_reserved(Call::counted(kind, word, site, brief, ticket));
+            .push_reserved(Call::counted(kind, word, site, in_brief(&reply), ticket));
         Ok(reply)
     }
 
@@ -304,22 +305,6 @@ fn calls_to_unwind(held: &Held) -> usize
     ensures limit { result ≤ 319 }
 {
     held.acquired() + usize::from(held.depth())
-}
-
-fn give_back(held: &mut Held, lock: LockId, mode: Mode)
-    requires { refused_by held.old (Event.Release lock mode) ≡ None }
-    ensures { held.new ≡ changed_by held.old (Event.Release lock mode) }
-{
-    let released: Result<(), Refusal> = held.release(lock, mode);
-    released.unwrap();
-}
-
-fn close_bracket(held: &mut Held)
-    requires { refused_by held.old Event.IgnoreOff ≡ None }
-    ensures { held.new ≡ changed_by held.old Event.IgnoreOff }
-{
-    let closed: Result<(), Refusal> = held.ignore_off();
-    closed.unwrap();
 }
 
 /// The locks that the last stamp had. Most accesses are made under the same locks as the one before.

@@ -51,10 +51,7 @@ pub(crate) fn is_settled(
     match shadow.state() {
         NumberedState::Virgin => false,
         NumberedState::Exclusive(owner) => owner == thread,
-        NumberedState::Shared(set) => match kind {
-            Kind::Read => covers_all(known, set, locks),
-            Kind::Write => false,
-        },
+        NumberedState::Shared(set) => kind == Kind::Read && covers_all(known, set, locks),
         NumberedState::SharedModified(set) => covers_all(known, set, locks),
     }
 }
@@ -146,11 +143,7 @@ fn number_near<R: Wait>(
 
 // The key of a thread's accesses of a kind.
 fn key_of(thread: ThreadId, kind: Kind) -> u64 {
-    let reads = match kind {
-        Kind::Read => 1,
-        Kind::Write => 0,
-    };
-    u64::from(thread.number()) * 2 + reads
+    u64::from(thread.number()) * 2 + u64::from(kind == Kind::Read)
 }
 
 /// The state, with the set for its number.
