@@ -31,20 +31,16 @@ impl Config {
         ensures some_only { IsSome result → IsShardCount shards × (IsLimit journal_limit × IsLimit max_threads) }
         ensures value { IfSome result (λ config. (config.name ≡ name) × ((config.shards ≡ shards) × ((config.journal_limit ≡ journal_limit) × (config.max_threads ≡ max_threads)))) }
     {
-        if shards < 1 || shards > Config::MAX_SHARDS {
-            return None;
+        match (shards, journal_limit, max_threads) {
+            (1..=Config::MAX_SHARDS, 1..=Config::MAX_LIMIT, 1..=Config::MAX_LIMIT) => {
+                Some(Config {
+                    name,
+                    shards,
+                    journal_limit,
+                    max_threads,
+                })
+            }
+            _ => None,
         }
-        if journal_limit < 1 || journal_limit > Config::MAX_LIMIT {
-            return None;
-        }
-        if max_threads < 1 || max_threads > Config::MAX_LIMIT {
-            return None;
-        }
-        Some(Config {
-            name,
-            shards,
-            journal_limit,
-            max_threads,
-        })
     }
 }

@@ -191,13 +191,8 @@ impl<'t> Detector<'t> {
         if seat.ignoring() {
             return ignored(seat, word, kind, site);
         }
-        // A caller of `shard` may have put another shard behind the lock.
         let mut shard = self.shard(rt, self.shard_of(word));
-        if !self.has(&shard, word) {
-            return Err(Refusal::ForeignSeat);
-        }
-        let ticket = self.next_ticket();
-        Ok(seat.record_access(rt, &mut shard, ticket, word, kind, site)?)
+        self.access_in(rt, &mut shard, seat, word, kind, site)
     }
 
     /// Puts a range of words to a new use, page by page and each page under its shard's lock. If a page is refused, those before it stay done.
@@ -350,19 +345,14 @@ fn is_race(entry: &Entry) -> bool
 fn copy_of(entry: &Entry) -> Result<Entry, AllocError>
     ensures { IfOk result (λ copied. copied ≡ entry.now) }
 {
+    let what = match &entry.what {
+        What::Access(stamp) => What::Access(stamp.copy()?),
+        What::Reset(range) => What::Reset(*range),
+    };
     Ok(Entry {
         ticket: entry.ticket,
-        what: copy_of_what(&entry.what)?,
+        what,
         thread: entry.thread,
         reply: entry.reply.copy(),
     })
-}
-
-fn copy_of_what(what: &What) -> Result<What, AllocError>
-    ensures { IfOk result (λ copied. copied ≡ what.now) }
-{
-    match what {
-        What::Access(stamp) => Ok(What::Access(stamp.copy()?)),
-        What::Reset(range) => Ok(What::Reset(*range)),
-    }
 }
