@@ -76,10 +76,9 @@ fn make_calls<R: Wait>(rt: &R, detector: &Detector<'_>, seat: &mut Seat, action:
             detector.access(rt, seat, word, kind, Site::MISSING)?;
             Ok(())
         }
-        Action::Reuse(range) => match detector.reuse(rt, seat, &range) {
-            Ok(()) => Ok(()),
-            Err(stopped) => Err(stopped.cause),
-        },
+        Action::Reuse(range) => detector
+            .reuse(rt, seat, &range)
+            .map_err(|stopped| stopped.cause),
         Action::IgnoreOn => seat.ignore_on(),
         Action::IgnoreOff => seat.ignore_off(),
     }
@@ -217,8 +216,5 @@ fn whole_page(number: u64) -> WordRange
 {
     let bytes = Word::BYTES * Word::PER_PAGE;
     let range: Result<_, Refusal> = WordRange::of_bytes(bytes * number, bytes);
-    match range {
-        Ok(Some(range)) => range,
-        _ => unreachable!(),
-    }
+    range.unwrap().unwrap()
 }
