@@ -1,10 +1,10 @@
 //! Steps of a machine, and what a list of steps is answered by others and explained by.
 
 use crate::Host;
-use crate::work::{Fault, Found, Made, Work, World, kind_of, lock_of, number_of, table_of};
+use crate::work::{Fault, Found, Made, Work, World, lock_of, number_of, table_of};
 use crate::writing::{put_answers, put_explanation, put_locks, put_reply, put_shadow};
 use er_check::check_explanation;
-use er_event::{Event, Level, Lockset, Refusal, Step, Sync};
+use er_event::{Lockset, Refusal, Step};
 use er_explain::{Explanation, Uncovered, explain};
 use er_gate::OpenGate;
 use er_journal::Outcome;
@@ -12,6 +12,7 @@ use er_load::{LoadFault, Workload, run_workload};
 use er_owner::{Shadow, advance};
 use er_parallel::{ReplayConfig, ReplayFault, replay_parallel};
 use er_replay::{Machine, run};
+use er_table::LocksetTable;
 use std::alloc::{AllocError, Global};
 use std::fmt::Write;
 use std::sync::Wait;
@@ -19,7 +20,7 @@ use std::sync::Wait;
 /// `thread M CALL`: one more step, which the machine answers. One that finds no memory isn't put into the list.
 pub(crate) fn step<R: Wait>(rt: &R, world: &mut World, work: &mut Work) -> Made {
     let thread = work.thread()?;
-    let event = event_of(work)?;
+    let event = work.event()?;
     world.steps.reserve(1)?;
     let answer = world.machine.step(rt, Step { thread, event });
     if !matches!(&answer, Err(Refusal::OutOfMemory)) {
@@ -28,38 +29,27 @@ pub(crate) fn step<R: Wait>(rt: &R, world: &mut World, work: &mut Work) -> Made 
     Ok(put_reply(&mut work.answer, answer?)?)
 }
 
-// The step of a call. A reuse is that of its first page.
-fn event_of(work: &mut Work) -> Found<Event> {
-    Ok(match work.next()? {
-        "acquire" => Event::Acquire(work.lock()?, work.mode()?),
-        "release" => Event::Release(work.lock()?, work.mode()?),
-        "ignore-on" => Event::IgnoreOn,
-        "ignore-off" => Event::IgnoreOff,
-        "level" => Event::Level(Level::of_number(work.number()?)?),
-        "start" => Event::Sync(Sync::Start(work.thread()?)),
-        "join" => Event::Sync(Sync::Join(work.thread()?)),
-        "signal" => Event::Sync(Sync::Signal(work.lock()?)),
-        "await" => Event::Sync(Sync::Await(work.lock()?)),
-        "reuse" => Event::Reuse(work.part()?),
-        "show" => Event::Show(work.word()?),
-        kind => Event::Access(kind_of(kind)?, work.word()?, work.site()),
-    })
-}
-
 /// `run SETS`: the answers of a new machine, over a table of so many sets, up to where it stops.
 pub(crate) fn replayed<R: Host>(rt: &R, steps: &[Step], work: &mut Work) -> Made {
     let table = table_of(rt.alloc(), work.count()?)?;
-    let mut machine = Machine::new(rt.alloc(), &table)?;
-    let outcome = run(rt, rt.alloc(), &mut machine, steps);
-    Ok(put_outcome(&mut work.answer, outcome)?)
+    let made = replayed_over(rt, &table, steps, work);
+    drop(table);
+    made
 }
 
-fn put_outcome(out: &mut String, outcome: Outcome) -> Result<(), AllocError> {
-    put_answers(out, &outcome.answers)?;
-    match outcome.stopped {
-        Some(stopped) => write!(out, "; stopped at {}: {}", stopped.at, stopped.cause),
-        None => Ok(()),
+fn replayed_over<R: Host>(rt: &R, table: &LocksetTable, steps: &[Step], work: &mut Work) -> Made {
+    let mut machine = Machine::new(rt.alloc(), table)?;
+    let outcome = run(rt, rt.alloc(), &mut machine, steps);
+    drop(machine);
+    put_outcome(work, outcome)
+}
+
+fn put_outcome(work: &mut Work, outcome: Outcome) -> Made {
+    put_answers(&mut work.answer, &outcome.answers)?;
+    if let Some(stopped) = outcome.stopped {
+        write!(work.answer, "; stopped at {}: {}", stopped.at, stopped.cause)?;
     }
+    Ok(())
 }
 
 /// `parallel SHARDS SETS WORKERS`: the same by several workers.
@@ -70,7 +60,7 @@ pub(crate) fn replayed_in_parallel<R: Host>(rt: &R, steps: &[Step], work: &mut W
         return Err(Fault::BadRow);
     }
     match replay_parallel(rt, rt.alloc(), config, steps, workers, &OpenGate) {
-        Ok(outcome) => Ok(put_outcome(&mut work.answer, outcome)?),
+        Ok(outcome) => put_outcome(work, outcome),
         Err(ReplayFault::Memory) => Err(AllocError.into()),
         Err(ReplayFault::TableFull) => Err(Refusal::TableFull.into()),
         Err(ReplayFault::WorkerNotStarted) => work.say("worker not started"),
@@ -137,7 +127,7 @@ pub(crate) fn shadow(work: &mut Work) -> Made {
         return Ok(put_shadow(&mut work.answer, shadow)?);
     }
     work.take("by")?;
-    let (thread, kind) = (work.thread()?, kind_of(work.next()?)?);
+    let (thread, kind) = (work.thread()?, work.kind()?);
     work.take("with")?;
     let (next, is_race) = advance(shadow, thread, kind, work.thread()?.number());
     put_shadow(&mut work.answer, next)?;
@@ -151,12 +141,11 @@ pub(crate) fn workload<R: Host>(rt: &R, work: &mut Work) -> Made {
         .into_iter()
         .find(|workload| workload.name() == name);
     match run_workload(rt, rt.alloc(), workload.ok_or(Fault::BadRow)?, &OpenGate) {
-        Ok(run) => Ok(write!(
-            work.answer,
-            "steps {}, races {}",
-            run.steps.len(),
-            run.races()
-        )?),
+        Ok(run) => {
+            let (steps, races) = (run.steps.len(), run.races());
+            drop(run);
+            Ok(write!(work.answer, "steps {steps}, races {races}")?)
+        }
         Err(LoadFault::Refused(why)) => Err(why.into()),
         Err(LoadFault::Unsettled(why)) => work.say(why.text()),
         Err(LoadFault::WorkerNotStarted | LoadFault::WorkerLost) => Err(Fault::System),

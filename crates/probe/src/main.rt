@@ -22,7 +22,7 @@ use std::process::ExitCode;
 use std::rt::Runtime;
 use std::sync::Wait;
 use std::thread::Threads;
-use work::{Detectors, Fault, Made, Row, Work, World, count_of, kind_of, rows_of, table_of};
+use work::{Detectors, Fault, Made, Row, Work, World, count_of, rows_of, table_of};
 use writing::{put_entries, put_known, put_seat};
 
 /// What rows are played on.
@@ -32,21 +32,17 @@ impl<R: Runtime + AllocGlobal + Threads + Wait + Sync> Host for R {}
 
 fn main(rt: HostRuntime) -> ExitCode {
     let mut line = 1;
-    match probe(&rt, &mut line) {
-        Ok(()) => ExitCode::from(0),
+    let why = match probe(&rt, &mut line) {
+        Ok(()) => return ExitCode::from(0),
         Err(Fault::BadRow) => {
             let _ = eprintln!(rt; "line {line}: bad row");
-            ExitCode::from(2)
+            return ExitCode::from(2);
         }
-        Err(Fault::Refused(why) | Fault::Stopped(_, why)) => {
-            let _ = rt.eprintln(why.text());
-            ExitCode::from(3)
-        }
-        Err(Fault::System) => {
-            let _ = rt.eprintln("a thread, standard input, standard output or the clock failed");
-            ExitCode::from(3)
-        }
-    }
+        Err(Fault::Refused(why) | Fault::Stopped(_, why)) => why.text(),
+        Err(Fault::System) => "a thread, standard input, standard output or the clock failed",
+    };
+    let _ = rt.eprintln(why);
+    ExitCode::from(3)
 }
 
 // Goes over all rows. The line is that of the row at work.
@@ -56,7 +52,7 @@ fn probe<R: Host>(rt: &R, line: &mut usize) -> Made {
     play(rt, rows.as_slice(), line)
 }
 
-// Of these three functions each owns one thing.
+// Of these three functions each owns one thing. It is let go of by a call of `drop`, which is short to prove.
 fn play<R: Host>(rt: &R, rows: &[Row<'_>], line: &mut usize) -> Made {
     let (head, rows) = rows.split_first().ok_or(Fault::BadRow)?;
     *line = head.line;
@@ -64,20 +60,25 @@ fn play<R: Host>(rt: &R, rows: &[Row<'_>], line: &mut usize) -> Made {
         return Err(Fault::BadRow);
     };
     let table = table_of(rt.alloc(), count_of(sets)?)?;
-    play_over(rt, &table, rows, line)
+    let played = play_over(rt, &table, rows, line);
+    drop(table);
+    played
 }
 
 fn play_over<R: Host>(rt: &R, table: &LocksetTable, rows: &[Row<'_>], line: &mut usize) -> Made {
     let alloc = rt.alloc();
+    let machine = Machine::new(alloc, table)?;
     let list = Vec::new(alloc);
     let mut world = World {
         table,
         detectors: Detectors { list },
         seats: Vec::new(alloc),
-        machine: Machine::new(alloc, table)?,
+        machine,
         steps: Vec::new(alloc),
     };
-    play_at(rt, &mut world, rows, line)
+    let played = play_at(rt, &mut world, rows, line);
+    drop(world);
+    played
 }
 
 fn play_at<R: Host>(rt: &R, world: &mut World<'_>, rows: &[Row<'_>], line: &mut usize) -> Made {
@@ -147,7 +148,7 @@ fn note<R: Wait>(rt: &R, world: &World, work: &mut Work) -> Made {
         },
         "thread" => {
             work.thread()?;
-            kind_of(work.next()?)?;
+            work.kind()?;
             put_state(world.machine.state_of(work.word()?)?, work)
         }
         _ => Ok(()),
@@ -157,23 +158,24 @@ fn note<R: Wait>(rt: &R, world: &World, work: &mut Work) -> Made {
 // Makes a call, and writes what it is answered.
 fn act<R: Host>(rt: &R, world: &mut World, work: &mut Work) -> Made {
     let alloc = rt.alloc();
-    match work.next()? {
-        "detector" => detector(alloc, world, work)?,
-        "open" => open(world, work)?,
-        "seat" => call(rt, world, work)?,
-        "settle" => settled(alloc, world, work)?,
-        "thread" => step(rt, world, work)?,
-        "word" => put_state(world.machine.state_of(work.word()?)?, work)?,
-        "sets" => write!(work.answer, "{}", world.table.sets(rt))?,
-        "run" => replayed(rt, &world.steps, work)?,
-        "parallel" => replayed_in_parallel(rt, &world.steps, work)?,
-        "explain" => explained(alloc, &world.steps, work)?,
-        "check" => check(alloc, &world.steps, work)?,
-        "meet" => meet(alloc, work)?,
-        "shadow" => shadow(work)?,
-        "workload" => workload(rt, work)?,
-        verb => ask_detectors(rt, &world.detectors, verb, work)?,
-    }
+    let made = match work.next()? {
+        "detector" => detector(alloc, world, work),
+        "open" => open(world, work),
+        "seat" => call(rt, world, work),
+        "settle" => settled(alloc, world, work),
+        "thread" => step(rt, world, work),
+        "word" => put_state(world.machine.state_of(work.word()?)?, work),
+        "sets" => Ok(write!(work.answer, "{}", world.table.sets(rt))?),
+        "run" => replayed(rt, &world.steps, work),
+        "parallel" => replayed_in_parallel(rt, &world.steps, work),
+        "explain" => explained(alloc, &world.steps, work),
+        "check" => check(alloc, &world.steps, work),
+        "meet" => meet(alloc, work),
+        "shadow" => shadow(work),
+        "workload" => workload(rt, work),
+        verb => ask_detectors(rt, &world.detectors, verb, work),
+    };
+    made?;
     work.end()
 }
 
@@ -182,11 +184,11 @@ fn ask_detectors<R: Host>(rt: &R, detectors: &Detectors, verb: &str, work: &mut 
         "enter" => enter(rt, detectors, work),
         "swap" => swap_shards(rt, detectors, work),
         "entries" => {
-            let shard = detectors.shard(rt, work.side()?, work.count()?)?;
+            let shard = detectors.shard(rt, work.shard()?)?;
             Ok(write!(work.answer, "{}", shard.journal().len())?)
         }
         "journal" => {
-            let shard = detectors.shard(rt, work.side()?, work.count()?)?;
+            let shard = detectors.shard(rt, work.shard()?)?;
             Ok(put_entries(&mut work.answer, shard.journal())?)
         }
         "races" => {
@@ -205,5 +207,7 @@ fn ask_detectors<R: Host>(rt: &R, detectors: &Detectors, verb: &str, work: &mut 
 }
 
 fn put_state(state: WordState, work: &mut Work) -> Made {
-    Ok(put_known(&mut work.answer, &state)?)
+    let put = put_known(&mut work.answer, &state);
+    drop(state);
+    Ok(put?)
 }

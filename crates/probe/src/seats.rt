@@ -2,10 +2,10 @@
 ghost use Rattle.std.specs.Prelude.{◌<◌};
 
 use crate::Host;
-use crate::work::{Detectors, Fault, Found, Made, Work, World, count_of, kind_of};
+use crate::work::{Detectors, Fault, Found, Made, Work, World, count_of};
 use crate::writing::{put_reply, put_run, put_seat};
 use er_detector::{Config, Detector, settle};
-use er_event::{Kind, Level, LockId, Lockset, Mode, NoRoom, Refusal, Reply, Site, Word};
+use er_event::{Event, Kind, LockId, Lockset, Mode, NoRoom, Refusal, Reply, Site, Word};
 use er_journal::{HeldLocks, Stamp};
 use er_seat::Seat;
 use er_shard::Shard;
@@ -46,36 +46,54 @@ fn call_by<R: Wait>(rt: &R, detectors: &Detectors, seat: &mut Seat, work: &mut W
     if work.end().is_ok() {
         return Ok(put_seat(&mut work.answer, seat)?);
     }
-    match work.next()? {
-        "acquire" => seat.acquire(work.lock()?, work.mode()?)?,
-        "release" => seat.release(work.lock()?, work.mode()?)?,
-        "ignore-on" => seat.ignore_on()?,
-        "ignore-off" => seat.ignore_off()?,
-        "level" => seat.set_level(Level::of_number(work.number()?)?)?,
-        "reuse" => {
-            let range = work.range()?;
-            let detector = detectors.at(side_of(work)?)?;
-            if let Err(stopped) = detector.reuse(rt, seat, &range) {
-                let at = stopped.first_word_not_done.address();
-                return Err(Fault::Stopped(at, stopped.cause));
-            }
-        }
-        // An access at a detector, or `in SIDE N` in a shard whose lock is taken here.
-        kind => {
-            let (kind, word, site) = (kind_of(kind)?, work.word()?, work.site());
-            let reply = if work.take("in").is_ok() {
-                let side = work.side()?;
-                let mut shard = detectors.shard(rt, side, work.count()?)?;
-                let detector = detectors.at(side)?;
-                detector.access_in(rt, &mut shard, seat, word, kind, site)?
-            } else {
-                let detector = detectors.at(side_of(work)?)?;
-                detector.access(rt, seat, word, kind, site)?
-            };
+    if work.take("reuse").is_ok() {
+        return reuse(rt, detectors, seat, work);
+    }
+    let made = match work.event()? {
+        Event::Acquire(lock, mode) => seat.acquire(lock, mode),
+        Event::Release(lock, mode) => seat.release(lock, mode),
+        Event::IgnoreOn => seat.ignore_on(),
+        Event::IgnoreOff => seat.ignore_off(),
+        Event::Level(level) => seat.set_level(level),
+        Event::Access(kind, word, site) => {
+            let reply = access(rt, detectors, seat, work, word, kind, site)?;
             return Ok(put_reply(&mut work.answer, reply)?);
         }
-    }
+        _ => return Err(Fault::BadRow),
+    };
+    made?;
     work.say("done")
+}
+
+fn reuse<R: Wait>(rt: &R, detectors: &Detectors, seat: &mut Seat, work: &mut Work) -> Made {
+    let range = work.range()?;
+    let detector = detectors.at(side_of(work)?)?;
+    match detector.reuse(rt, seat, &range) {
+        Ok(()) => work.say("done"),
+        Err(stopped) => Err(Fault::Stopped(stopped.first_word_not_done.address(), stopped.cause)),
+    }
+}
+
+// An access at a detector, or `in SIDE N` in a shard whose lock is taken here.
+fn access<R: Wait>(
+    rt: &R,
+    detectors: &Detectors,
+    seat: &mut Seat,
+    work: &mut Work,
+    word: Word,
+    kind: Kind,
+    site: Site,
+) -> Found<Reply> {
+    if work.take("in").is_err() {
+        let detector = detectors.at(side_of(work)?)?;
+        return Ok(detector.access(rt, seat, word, kind, site)?);
+    }
+    let place = work.shard()?;
+    let detector = detectors.at(place.0)?;
+    let mut shard = detectors.shard(rt, place)?;
+    let reply = detector.access_in(rt, &mut shard, seat, word, kind, site);
+    drop(shard);
+    Ok(reply?)
 }
 
 // The place of the detector that a seat calls: `at SIDE`, or the first.
@@ -88,22 +106,23 @@ fn side_of(work: &mut Work) -> Found<usize> {
 
 /// `enter SIDE N ticket T thread M ..`: an entry that no seat called for, an access or a reset.
 pub(crate) fn enter<R: Host>(rt: &R, detectors: &Detectors, work: &mut Work) -> Made {
-    let (side, number) = (work.side()?, work.count()?);
+    let place = work.shard()?;
     work.take("ticket")?;
     let ticket = work.ticket()?;
     work.take("thread")?;
     let thread = work.thread()?;
-    if work.take("reset").is_ok() {
+    let entered = if work.take("reset").is_ok() {
         let part = work.part()?;
-        let mut shard = detectors.shard(rt, side, number)?;
-        shard.reset(ticket, thread, part).map_err(NoRoom::refusal)?;
-        return work.say("done");
-    }
-    let (kind, word) = (kind_of(work.next()?)?, work.word()?);
-    let locks = held_of(rt.alloc(), work)?;
-    let stamp = Stamp::new(thread, word, kind, Site::MISSING, locks);
-    let mut shard = detectors.shard(rt, side, number)?;
-    let reply = shard.apply(rt, ticket, stamp).map_err(NoRoom::refusal)?;
+        let mut shard = detectors.shard(rt, place)?;
+        shard.reset(ticket, thread, part).map(|_| Reply::Done)
+    } else {
+        let (kind, word) = (work.kind()?, work.word()?);
+        let locks = held_of(rt.alloc(), work)?;
+        let stamp = Stamp::new(thread, word, kind, Site::MISSING, locks);
+        let mut shard = detectors.shard(rt, place)?;
+        shard.apply(rt, ticket, stamp)
+    };
+    let reply = entered.map_err(NoRoom::refusal)?;
     Ok(put_reply(&mut work.answer, reply)?)
 }
 
@@ -124,13 +143,12 @@ fn held_of(alloc: Global, work: &mut Work) -> Found<HeldLocks> {
 
 /// `swap SIDE N SIDE M`: two shards change places, each under its lock.
 pub(crate) fn swap_shards<R: Wait>(rt: &R, detectors: &Detectors, work: &mut Work) -> Made {
-    let here = (work.side()?, work.count()?);
-    let there = (work.side()?, work.count()?);
+    let (here, there) = (work.shard()?, work.shard()?);
     if here == there {
         return Err(Fault::BadRow);
     }
-    let mut mine = detectors.shard(rt, here.0, here.1)?;
-    let mut other = detectors.shard(rt, there.0, there.1)?;
+    let mut mine = detectors.shard(rt, here)?;
+    let mut other = detectors.shard(rt, there)?;
     swap::<Shard>(&mut *mine, &mut *other);
     work.say("done")
 }
@@ -146,7 +164,11 @@ pub(crate) fn settled(alloc: Global, world: &mut World, work: &mut Work) -> Made
     let detector = world.detectors.list.get_mut(side);
     let detector = detector.and_then(Option::take).ok_or(Fault::BadRow)?;
     match settle(alloc, detector, seats) {
-        Ok(run) => Ok(put_run(&mut work.answer, &run)?),
+        Ok(run) => {
+            let put = put_run(&mut work.answer, &run);
+            drop(run);
+            Ok(put?)
+        }
         Err(fault) => work.say(fault.text()),
     }
 }
@@ -242,9 +264,7 @@ fn make_all<R: Wait>(
         let kind = [Kind::Read, Kind::Write][(call % 2) as usize];
         let word = shape.word(thread, call);
         let reply = detector.access(rt, &mut seat, word, kind, Site::MISSING)?;
-        if matches!(reply, Reply::Race) {
-            races = races.saturating_add(1);
-        }
+        races = races.saturating_add(u32::from(matches!(reply, Reply::Race)));
     }
     Ok(races)
 }

@@ -1,6 +1,9 @@
 //! The row at work: its words, which are read from left to right so that each kind of value takes the next one, and what is written of it.
 use er_detector::Detector;
-use er_event::{Kind, LockId, Mode, PageRange, Refusal, Site, Step, ThreadId, Word, WordRange};
+use er_event::{
+    Event, Kind, Level, LockId, Mode, PageRange, Refusal, Site, Step, Sync, ThreadId, Word,
+    WordRange,
+};
 use er_replay::Machine;
 use er_seat::Seat;
 use er_shard::Shard;
@@ -230,6 +233,11 @@ impl<'r> Work<'r> {
         }
     }
 
+    /// A shard: the place of its detector, and its number there.
+    pub(crate) fn shard(&mut self) -> Found<(usize, u32)> {
+        Ok((self.side()?, self.count()?))
+    }
+
     pub(crate) fn thread(&mut self) -> Found<ThreadId> {
         match self.count()? {
             number if number < 1 << 30 => Ok(ThreadId::new(number)),
@@ -243,15 +251,19 @@ impl<'r> Work<'r> {
         Ok(LockId::new(number.ok_or(Fault::BadRow)?))
     }
 
-    pub(crate) fn mode(&mut self) -> Found<Mode> {
-        match kind_of(self.next()?)? {
-            Kind::Read => Ok(Mode::Read),
-            Kind::Write => Ok(Mode::Write),
-        }
+    pub(crate) fn kind(&mut self) -> Found<Kind> {
+        kind_of(self.next()?)
+    }
+
+    fn mode(&mut self) -> Found<Mode> {
+        Ok(match self.kind()? {
+            Kind::Read => Mode::Read,
+            Kind::Write => Mode::Write,
+        })
     }
 
     /// A site by its number, or the missing one where there is no number.
-    pub(crate) fn site(&mut self) -> Site {
+    fn site(&mut self) -> Site {
         let here = self.left;
         match self.count() {
             Ok(number) => Site::new(number),
@@ -293,6 +305,24 @@ impl<'r> Work<'r> {
             _ => Ok(range.part(0)),
         }
     }
+
+    /// What a call of a thread does. A reuse is that of its first page.
+    pub(crate) fn event(&mut self) -> Found<Event> {
+        Ok(match self.next()? {
+            "acquire" => Event::Acquire(self.lock()?, self.mode()?),
+            "release" => Event::Release(self.lock()?, self.mode()?),
+            "ignore-on" => Event::IgnoreOn,
+            "ignore-off" => Event::IgnoreOff,
+            "level" => Event::Level(Level::of_number(self.number()?)?),
+            "start" => Event::Sync(Sync::Start(self.thread()?)),
+            "join" => Event::Sync(Sync::Join(self.thread()?)),
+            "signal" => Event::Sync(Sync::Signal(self.lock()?)),
+            "await" => Event::Sync(Sync::Await(self.lock()?)),
+            "reuse" => Event::Reuse(self.part()?),
+            "show" => Event::Show(self.word()?),
+            kind => Event::Access(kind_of(kind)?, self.word()?, self.site()),
+        })
+    }
 }
 
 pub(crate) fn number_of(word: &str) -> Found<u64> {
@@ -307,7 +337,7 @@ pub(crate) fn count_of(word: &str) -> Found<u32> {
     word.parse::<u32>().ok().ok_or(Fault::BadRow)
 }
 
-pub(crate) fn kind_of(word: &str) -> Found<Kind> {
+fn kind_of(word: &str) -> Found<Kind> {
     match word {
         "read" => Ok(Kind::Read),
         "write" => Ok(Kind::Write),
@@ -339,12 +369,11 @@ impl<'t> Detectors<'t> {
         }
     }
 
-    /// A shard of the one at a place, under its lock.
+    /// A shard of one of them, under its lock.
     pub(crate) fn shard<R: Wait>(
         &self,
         rt: &R,
-        side: usize,
-        number: u32,
+        (side, number): (usize, u32),
     ) -> Found<MutexGuard<'_, Shard<'t>>> {
         let detector = self.at(side)?;
         if number < detector.config().shards {

@@ -91,7 +91,9 @@ fn view(reply: &Reply) -> Answer<'_> {
 }
 
 pub(crate) fn put_reply(out: &mut String, reply: Reply) -> Put {
-    put_view(out, view(&reply))
+    let put = put_view(out, view(&reply));
+    drop(reply);
+    put
 }
 
 fn kind_text(kind: Kind) -> &'static str {
