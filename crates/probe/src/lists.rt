@@ -2,14 +2,13 @@
 
 use crate::Host;
 use crate::work::{Fault, Found, Made, Work, World, lock_of, number_of, table_of};
-use crate::writing::{put_answers, put_explanation, put_locks, put_reply, put_shadow};
+use crate::writing::{put_answers, put_explanation, put_reply};
 use er_check::check_explanation;
-use er_event::{Lockset, Refusal, Step};
+use er_event::{Refusal, Step};
 use er_explain::{Explanation, Uncovered, explain};
 use er_gate::OpenGate;
 use er_journal::Outcome;
 use er_load::{LoadFault, Workload, run_workload};
-use er_owner::{Shadow, advance};
 use er_parallel::{ReplayConfig, ReplayFault, replay_parallel};
 use er_replay::{Machine, run};
 use er_table::LocksetTable;
@@ -95,43 +94,6 @@ fn uncovered_of(alloc: Global, work: &mut Work) -> Found<Vec<Uncovered>> {
         uncovered.push(Uncovered { lock, at })?;
     }
     Ok(uncovered)
-}
-
-/// `meet LOCK .. and LOCK ..`: what two sets have in common.
-pub(crate) fn meet(alloc: Global, work: &mut Work) -> Made {
-    let (mut locks, mut others) = (Lockset::new(alloc), Lockset::new(alloc));
-    let mut is_second = false;
-    for _ in work.left {
-        if work.take("and").is_ok() {
-            is_second = true;
-        } else if is_second {
-            others.insert(work.lock()?)?;
-        } else {
-            locks.insert(work.lock()?)?;
-        }
-    }
-    Ok(put_locks(&mut work.answer, &locks.intersect(&others)?)?)
-}
-
-/// `shadow STATE`: a packed word, or `shadow STATE by M KIND with N`: that word after an access of thread M that needs set N.
-pub(crate) fn shadow(work: &mut Work) -> Made {
-    // A set's number has 30 bits, as a thread's has.
-    let shadow = match work.next()? {
-        "virgin" => Shadow::virgin(),
-        "exclusive" => Shadow::exclusive(work.thread()?),
-        "shared" => Shadow::shared(work.thread()?.number()),
-        "shared-modified" => Shadow::shared_modified(work.thread()?.number()),
-        _ => return Err(Fault::BadRow),
-    };
-    if work.end().is_ok() {
-        return Ok(put_shadow(&mut work.answer, shadow)?);
-    }
-    work.take("by")?;
-    let (thread, kind) = (work.thread()?, work.kind()?);
-    work.take("with")?;
-    let (next, is_race) = advance(shadow, thread, kind, work.thread()?.number());
-    put_shadow(&mut work.answer, next)?;
-    work.say(if is_race { ", race" } else { "" })
 }
 
 /// `workload NAME`: how many steps a workload's run has, and how many races.

@@ -13,7 +13,7 @@ mod writing;
 use er_event::{Refusal, WordState};
 use er_replay::Machine;
 use er_table::LocksetTable;
-use lists::{check, explained, meet, replayed, replayed_in_parallel, shadow, step, workload};
+use lists::{check, explained, replayed, replayed_in_parallel, step, workload};
 use seats::{call, detector, enter, open, rate, settled, swap_shards};
 use std::fmt::Write;
 use std::io;
@@ -170,8 +170,6 @@ fn act<R: Host>(rt: &R, world: &mut World, work: &mut Work) -> Made {
         "parallel" => replayed_in_parallel(rt, &world.steps, work),
         "explain" => explained(alloc, &world.steps, work),
         "check" => check(alloc, &world.steps, work),
-        "meet" => meet(alloc, work),
-        "shadow" => shadow(work),
         "workload" => workload(rt, work),
         verb => ask_detectors(rt, &world.detectors, verb, work),
     };

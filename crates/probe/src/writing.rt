@@ -3,7 +3,6 @@ use er_detector::Run;
 use er_event::{Event, Kind, LockId, Lockset, Mode, PageRange, Reply, Site, WordState};
 use er_explain::Explanation;
 use er_journal::{Answer, Answers, Entry, Stamp, What};
-use er_owner::{NumberedState, Shadow};
 use er_seat::Seat;
 use std::alloc::AllocError;
 use std::fmt::Write;
@@ -18,8 +17,8 @@ fn put_lock(out: &mut String, lock: LockId) -> Put {
     }
 }
 
-/// The locks, rising, or `none`.
-pub(crate) fn put_locks(out: &mut String, locks: &Lockset) -> Put {
+// The locks, rising, or `none`.
+fn put_locks(out: &mut String, locks: &Lockset) -> Put {
     if locks.is_empty() {
         out.push_str("none")?;
     }
@@ -42,16 +41,6 @@ pub(crate) fn put_known(out: &mut String, state: &WordState) -> Put {
             out.push_str("shared-modified ")?;
             put_locks(out, locks)
         }
-    }
-}
-
-pub(crate) fn put_shadow(out: &mut String, shadow: Shadow) -> Put {
-    write!(out, "{:#x} ", shadow.bits())?;
-    match shadow.state() {
-        NumberedState::Virgin => out.push_str("virgin"),
-        NumberedState::Exclusive(thread) => write!(out, "exclusive {}", thread.number()),
-        NumberedState::Shared(set) => write!(out, "shared {set}"),
-        NumberedState::SharedModified(set) => write!(out, "shared-modified {set}"),
     }
 }
 
