@@ -40,15 +40,15 @@ fn replayed_over<R: Host>(rt: &R, table: &LocksetTable, steps: &[Step], work: &m
     let mut machine = Machine::new(rt.alloc(), table)?;
     let outcome = run(rt, rt.alloc(), &mut machine, steps);
     drop(machine);
-    put_outcome(work, outcome)
+    Ok(put_outcome(&mut work.answer, outcome)?)
 }
 
-fn put_outcome(work: &mut Work, outcome: Outcome) -> Made {
-    put_answers(&mut work.answer, &outcome.answers)?;
-    if let Some(stopped) = outcome.stopped {
-        write!(work.answer, "; stopped at {}: {}", stopped.at, stopped.cause)?;
+fn put_outcome(out: &mut String, outcome: Outcome) -> Result<(), AllocError> {
+    put_answers(out, &outcome.answers)?;
+    match outcome.stopped {
+        Some(stopped) => write!(out, "; stopped at {}: {}", stopped.at, stopped.cause),
+        None => Ok(()),
     }
-    Ok(())
 }
 
 /// `parallel SHARDS SETS WORKERS`: the same by several workers.
@@ -59,7 +59,7 @@ pub(crate) fn replayed_in_parallel<R: Host>(rt: &R, steps: &[Step], work: &mut W
         return Err(Fault::BadRow);
     }
     match replay_parallel(rt, rt.alloc(), config, steps, workers, &OpenGate) {
-        Ok(outcome) => put_outcome(work, outcome),
+        Ok(outcome) => Ok(put_outcome(&mut work.answer, outcome)?),
         Err(ReplayFault::Memory) => Err(AllocError.into()),
         Err(ReplayFault::TableFull) => Err(Refusal::TableFull.into()),
         Err(ReplayFault::WorkerNotStarted) => work.say("worker not started"),

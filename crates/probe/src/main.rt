@@ -15,6 +15,7 @@ use er_replay::Machine;
 use er_table::LocksetTable;
 use lists::{check, explained, replayed, replayed_in_parallel, step, workload};
 use seats::{call, detector, enter, open, rate, settled, swap_shards};
+use std::alloc::{AllocError, Global};
 use std::fmt::Write;
 use std::io;
 use std::mem::swap;
@@ -22,7 +23,7 @@ use std::process::ExitCode;
 use std::rt::Runtime;
 use std::sync::Wait;
 use std::thread::Threads;
-use work::{Detectors, Fault, Made, Row, Work, World, count_of, rows_of, table_of};
+use work::{Detectors, Fault, Made, Work, World, count_of, table_of};
 use writing::{put_entries, put_known, put_seat};
 
 /// What rows are played on.
@@ -50,6 +51,28 @@ fn probe<R: Host>(rt: &R, line: &mut usize) -> Made {
     let text = io::read_to_string(rt.alloc(), rt.reader())?;
     let rows = rows_of(rt.alloc(), text.as_str())?;
     play(rt, rows.as_slice(), line)
+}
+
+// A row: the number of its line, from 1, and its words.
+#[derive(Drop)]
+struct Row<'a> {
+    line: usize,
+    words: Vec<&'a str>,
+}
+
+// The rows of a text. Empty lines and comments are none.
+fn rows_of(alloc: Global, text: &str) -> Result<Vec<Row<'_>>, AllocError> {
+    let mut rows = Vec::new(alloc);
+    let mut line: usize = 0;
+    for said in text.lines() {
+        line = line.saturating_add(1);
+        let words: Vec<&str> = said.split_whitespace().collect(alloc)?;
+        match words.as_slice() {
+            [] | ["#", ..] => drop(words),
+            _ => rows.push(Row { line, words })?,
+        }
+    }
+    Ok(rows)
 }
 
 // Of these three functions each owns one thing. It is let go of by a call of `drop`, which is short to prove.
