@@ -10,6 +10,7 @@ mod seats;
 mod work;
 mod writing;
 
+use er_detector::Detector;
 use er_event::{Refusal, WordState};
 use er_replay::Machine;
 use er_table::LocksetTable;
@@ -24,7 +25,7 @@ use std::rt::Runtime;
 use std::sync::Wait;
 use std::thread::Threads;
 use work::{Detectors, Fault, Made, Work, World, count_of, table_of};
-use writing::{put_entries, put_known, put_seat};
+use writing::{Put, put_entries, put_known, put_seat};
 
 /// What rows are played on.
 pub(crate) trait Host: Runtime + AllocGlobal + Threads + Wait + Sync {}
@@ -159,10 +160,7 @@ fn answer<R: Host>(rt: &R, world: &mut World, work: &mut Work, line: usize) -> M
 fn note<R: Wait>(rt: &R, world: &World, work: &mut Work) -> Made {
     write!(work.answer, "{}", world.seats.len())?;
     for detector in world.detectors.list.iter().flatten() {
-        for number in 0..detector.config().shards {
-            let entries = detector.shard(rt, number).journal().len();
-            write!(work.answer, " {entries}")?;
-        }
+        put_counts(rt, detector, &mut work.answer)?;
     }
     match work.next()? {
         "seat" => match world.seats.get(work.count()? as usize) {
@@ -176,6 +174,14 @@ fn note<R: Wait>(rt: &R, world: &World, work: &mut Work) -> Made {
         }
         _ => Ok(()),
     }
+}
+
+fn put_counts<R: Wait>(rt: &R, detector: &Detector, out: &mut String) -> Put {
+    for number in 0..detector.config().shards {
+        let entries = detector.shard(rt, number).journal().len();
+        write!(out, " {entries}")?;
+    }
+    Ok(())
 }
 
 // Makes a call, and writes what it is answered.
@@ -204,27 +210,39 @@ fn ask_detectors<R: Host>(rt: &R, detectors: &Detectors, verb: &str, work: &mut 
     match verb {
         "enter" => enter(rt, detectors, work),
         "swap" => swap_shards(rt, detectors, work),
-        "entries" => {
-            let shard = detectors.shard(rt, work.shard()?)?;
-            Ok(write!(work.answer, "{}", shard.journal().len())?)
-        }
-        "journal" => {
-            let shard = detectors.shard(rt, work.shard()?)?;
-            Ok(put_entries(&mut work.answer, shard.journal())?)
-        }
-        "races" => {
-            let races = detectors.at(work.side()?)?.races(rt)?;
-            Ok(put_entries(&mut work.answer, races.as_slice())?)
-        }
-        "state" => {
-            let detector = detectors.at(work.side()?)?;
-            let word = work.word()?;
-            let shard = detector.shard(rt, detector.shard_of(word));
-            put_state(shard.state_of(word)?, work)
-        }
+        "entries" | "journal" => put_journal(rt, detectors, verb, work),
+        "races" => put_races(rt, detectors, work),
+        "state" => put_word(rt, detectors, work),
         "rate" => rate(rt, detectors.at(0)?, work),
         _ => Err(Fault::BadRow),
     }
+}
+
+// How many entries a shard has, or the entries.
+fn put_journal<R: Wait>(rt: &R, detectors: &Detectors, verb: &str, work: &mut Work) -> Made {
+    let shard = detectors.shard(rt, work.shard()?)?;
+    let put = match verb {
+        "entries" => write!(work.answer, "{}", shard.journal().len()),
+        _ => put_entries(&mut work.answer, shard.journal()),
+    };
+    drop(shard);
+    Ok(put?)
+}
+
+fn put_races<R: Wait>(rt: &R, detectors: &Detectors, work: &mut Work) -> Made {
+    let races = detectors.at(work.side()?)?.races(rt)?;
+    let put = put_entries(&mut work.answer, races.as_slice());
+    drop(races);
+    Ok(put?)
+}
+
+fn put_word<R: Wait>(rt: &R, detectors: &Detectors, work: &mut Work) -> Made {
+    let detector = detectors.at(work.side()?)?;
+    let word = work.word()?;
+    let shard = detector.shard(rt, detector.shard_of(word));
+    let state = shard.state_of(word);
+    drop(shard);
+    put_state(state?, work)
 }
 
 fn put_state(state: WordState, work: &mut Work) -> Made {

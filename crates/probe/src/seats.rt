@@ -5,8 +5,8 @@ use crate::Host;
 use crate::work::{Detectors, Fault, Found, Made, Work, World, count_of};
 use crate::writing::{put_reply, put_run, put_seat};
 use er_detector::{Config, Detector, settle};
-use er_event::{Event, Kind, LockId, Lockset, Mode, NoRoom, Refusal, Reply, Site, Word};
-use er_journal::{HeldLocks, Stamp};
+use er_event::{Event, Kind, LockId, Lockset, Mode, NoRoom, Refusal, Reply, Site, ThreadId, Word};
+use er_journal::{HeldLocks, Stamp, What};
 use er_seat::Seat;
 use er_shard::Shard;
 use std::alloc::Global;
@@ -86,14 +86,15 @@ fn access<R: Wait>(
 ) -> Found<Reply> {
     if work.take("in").is_err() {
         let detector = detectors.at(side_of(work)?)?;
-        return Ok(detector.access(rt, seat, word, kind, site)?);
+        let reply = detector.access(rt, seat, word, kind, site);
+        return reply.map_err(Fault::Refused);
     }
     let place = work.shard()?;
     let detector = detectors.at(place.0)?;
     let mut shard = detectors.shard(rt, place)?;
     let reply = detector.access_in(rt, &mut shard, seat, word, kind, site);
     drop(shard);
-    Ok(reply?)
+    reply.map_err(Fault::Refused)
 }
 
 // The place of the detector that a seat calls: `at SIDE`, or the first.
@@ -111,25 +112,52 @@ pub(crate) fn enter<R: Host>(rt: &R, detectors: &Detectors, work: &mut Work) -> 
     let ticket = work.ticket()?;
     work.take("thread")?;
     let thread = work.thread()?;
-    let entered = if work.take("reset").is_ok() {
-        let part = work.part()?;
-        let mut shard = detectors.shard(rt, place)?;
-        shard.reset(ticket, thread, part).map(|_| Reply::Done)
-    } else {
-        let (kind, word) = (work.kind()?, work.word()?);
-        let locks = held_of(rt.alloc(), work)?;
-        let stamp = Stamp::new(thread, word, kind, Site::MISSING, locks);
-        let mut shard = detectors.shard(rt, place)?;
-        shard.apply(rt, ticket, stamp)
-    };
-    let reply = entered.map_err(NoRoom::refusal)?;
-    Ok(put_reply(&mut work.answer, reply)?)
+    let what = what_of(rt.alloc(), thread, work)?;
+    let mut shard = detectors.shard(rt, place)?;
+    let reply = apply(rt, &mut shard, ticket, thread, what);
+    drop(shard);
+    Ok(put_reply(&mut work.answer, reply.map_err(NoRoom::refusal)?)?)
+}
+
+// `KIND ADDRESS holding LOCK ..` or `reset ADDRESS SIZE`.
+fn what_of(alloc: Global, thread: ThreadId, work: &mut Work) -> Found<What> {
+    if work.take("reset").is_ok() {
+        return Ok(What::Reset(work.part()?));
+    }
+    let (kind, word) = (work.kind()?, work.word()?);
+    let locks = held_of(alloc, work)?;
+    Ok(What::Access(Stamp::new(thread, word, kind, Site::MISSING, locks)))
+}
+
+fn apply<R: Wait>(
+    rt: &R,
+    shard: &mut Shard,
+    ticket: u64,
+    thread: ThreadId,
+    what: What,
+) -> Result<Reply, NoRoom> {
+    match what {
+        What::Access(stamp) => shard.apply(rt, ticket, stamp),
+        What::Reset(range) => shard.reset(ticket, thread, range).map(|_| Reply::Done),
+    }
 }
 
 // `holding LOCK ..`: the locks that a thread holds, in which `LOCKr` is held in read mode alone.
 fn held_of(alloc: Global, work: &mut Work) -> Found<HeldLocks> {
-    let (mut held, mut write_held) = (Lockset::new(alloc), Lockset::new(alloc));
     work.take("holding")?;
+    let (mut held, mut write_held) = (Lockset::new(alloc), Lockset::new(alloc));
+    let locks = read_held(alloc, work, &mut held, &mut write_held);
+    drop(held);
+    drop(write_held);
+    locks
+}
+
+fn read_held(
+    alloc: Global,
+    work: &mut Work,
+    held: &mut Lockset,
+    write_held: &mut Lockset,
+) -> Found<HeldLocks> {
     for _ in work.left {
         let word = work.next()?;
         let lock = LockId::new(count_of(word.strip_suffix("r").unwrap_or(word))?);
@@ -138,7 +166,7 @@ fn held_of(alloc: Global, work: &mut Work) -> Found<HeldLocks> {
             write_held.insert(lock)?;
         }
     }
-    Ok(HeldLocks::new(alloc, &held, &write_held)?)
+    Ok(HeldLocks::new(alloc, held, write_held)?)
 }
 
 /// `swap SIDE N SIDE M`: two shards change places, each under its lock.
@@ -216,6 +244,19 @@ pub(crate) fn rate<R: Host>(rt: &R, detector: &Detector, work: &mut Work) -> Mad
         return Err(Fault::BadRow);
     }
     write_all(rt, detector, shape)?;
+    let races = time_calls(rt, detector, shape, threads, calls)?;
+    let calls = u64::from(threads).saturating_mul(u64::from(calls));
+    Ok(write!(work.answer, "calls {calls}, races {races}")?)
+}
+
+// Makes the calls of all threads, prints how long they took, and returns how many races they reported.
+fn time_calls<R: Host>(
+    rt: &R,
+    detector: &Detector,
+    shape: Shape,
+    threads: u32,
+    calls: u32,
+) -> Found<u64> {
     let seats = (0..threads)
         .map(|_| open_with_lock(detector))
         .try_collect(rt.alloc())?;
@@ -228,8 +269,7 @@ pub(crate) fn rate<R: Host>(rt: &R, detector: &Detector, work: &mut Work) -> Mad
     for count in counts.as_slice() {
         races = races.saturating_add(u64::from((*count)?));
     }
-    let calls = u64::from(threads).saturating_mul(u64::from(calls));
-    Ok(write!(work.answer, "calls {calls}, races {races}")?)
+    Ok(races)
 }
 
 fn open_with_lock(detector: &Detector) -> Result<Seat, Refusal> {
