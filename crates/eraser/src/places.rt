@@ -2,7 +2,7 @@
 ghost use Rattle.std.specs.Prelude.{◌≡◌, false, true, IfSome};
 ghost use Rattle.er_binary.specs.Decoded.{IsFresh};
 ghost use Rattle.er_device.specs.Device.{has_failed, inner_of};
-ghost use Rattle.eraser.specs.Replays.{AreOptionsOf, MayHavePlaces, shows_places, tells_places};
+ghost use Rattle.eraser.specs.Replays.{AreOptionsOf, MayHavePlaces, shows_places};
 
 use crate::replaying::Job;
 use er_binary::Decoded;
@@ -48,29 +48,15 @@ fn open_again<R: Files + AllocGlobal>(
     if !shows_places(job.replay) {
         return None;
     }
-    let alloc = rt.alloc();
-    let Ok(lines) = lines_of_reports(alloc, job.options.keys, reports) else {
-        return None;
-    };
-    match open_ordinary(rt, job.replay.trace) {
-        Some(file) => Some(Device::new(Decoded::noting(alloc, file, lines))),
-        None => {
-            drop(lines);
-            None
-        }
-    }
+    let file = open_ordinary(rt, job.replay.trace)?;
+    let lines = lines_of_reports(rt.alloc(), job.options.keys, reports).ok()?;
+    Some(Device::new(Decoded::noting(rt.alloc(), file, lines)))
 }
 
 // Whether places are shown, and the trace may be a file that is read whole.
 fn shows_places(replay: &Replay<'_>) -> bool
     ensures { result ≡ shows_places replay.now }
 {
-    replay.explain && tells_places(replay.form) && !replay.until_fault && replay.trace != "-"
-}
-
-// Whether a form tells where accesses stood.
-fn tells_places(form: Form) -> bool
-    ensures { result ≡ tells_places form }
-{
-    form != Form::Text
+    let tells_places = replay.form != Form::Text;
+    replay.explain && tells_places && !replay.until_fault && replay.trace != "-"
 }

@@ -34,13 +34,10 @@ pub(crate) fn rules_of<R: Files + AllocGlobal>(rt: &R, paths: &[&str], byte_limi
 fn rules_at<R: Files + AllocGlobal>(rt: &R, path: &str, file: Option<u64>, byte_limit: u64) -> Rules
     requires { byte_limit ≤ 2 ^ 62 }
 {
-    let Ok(opened) = File::open(rt, path) else {
-        return Err(Fault::OpenSuppressions(file));
-    };
-    match read_suppressions(rt.alloc(), &mut Device::new(opened), byte_limit) {
-        Ok(suppressions) => Ok(suppressions),
-        Err(fault) => Err(Fault::of_suppressions(file, fault)),
-    }
+    let opened = File::open(rt, path).map_err(|_| Fault::OpenSuppressions(file))?;
+    read_suppressions(rt.alloc(), &mut Device::new(opened), byte_limit).map_err(
+        |fault| Fault::of_suppressions(file, fault),
+    )
 }
 
 /// Writes a file of rules, in the place of what it had.
