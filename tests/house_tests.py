@@ -382,16 +382,22 @@ def edit_faults():
         yield f"{path.relative_to(TOP)} is no edit"
 
 
-GATES = ["The gate from nothing", "Crates", "Must-fail edits", "CPU minutes"]
+# The columns of tables of docs/DEVELOPMENT.md whose first row is the last of its kind, and the most that the budget has for some of them.
+MEASURED = [
+    (["The gate from nothing", "Crates", "Must-fail edits", "CPU minutes"], {3: "minutes_of_the_gate"}),
+    (["A proof of the program from nothing", "CPU minutes below it", "Of the longest chain"], {1: "minutes_below_the_program", 2: "minutes_of_the_longest_chain"}),
+]
 
 
 def notes():
     """What is only printed."""
     edits_tool = tool("edits")
     yield f"wrong bodies: {len(edits_tool.wrong_bodies())}, of which {len(edits_tool.changed())} were not tried since their crate changed"
-    _, last = next(iter(tables((DOCS / "DEVELOPMENT.md").read_text(), GATES)), (0, ["not in docs/DEVELOPMENT.md"]))
-    most = numbers_in((TOP / "tests/budget.toml").read_text())[""]["minutes_of_the_gate"]
-    yield f"CPU minutes of the last gate: {last[-1]}, and the budget is {most}"
+    most = numbers_in((TOP / "tests/budget.toml").read_text())[""]
+    for columns, limits in MEASURED:
+        _, last = next(iter(tables((DOCS / "DEVELOPMENT.md").read_text(), columns)), (0, ["not in docs/DEVELOPMENT.md"] * len(columns)))
+        for column, name in limits.items():
+            yield f"{name}: {last[column]} at last, and the budget is {most[name]}"
 
 
 PATH = re.compile(r"^(?:\./)?((?:bench|crates|docs|examples|record|shell|tests|tools)/[\w./*+-]+)$")
