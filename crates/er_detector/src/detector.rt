@@ -191,8 +191,13 @@ impl<'t> Detector<'t> {
         if seat.ignoring() {
             return ignored(seat, word, kind, site);
         }
+        // A caller of `shard` may have put another shard behind the lock. `access_in` would look at names and brackets again.
         let mut shard = self.shard(rt, self.shard_of(word));
-        self.access_in(rt, &mut shard, seat, word, kind, site)
+        if !self.has(&shard, word) {
+            return Err(Refusal::ForeignSeat);
+        }
+        let ticket = self.next_ticket();
+        Ok(seat.record_access(rt, &mut shard, ticket, word, kind, site)?)
     }
 
     /// Puts a range of words to a new use, page by page and each page under its shard's lock. If a page is refused, those before it stay done.
