@@ -102,17 +102,14 @@ pub(crate) fn workload<R: Host>(rt: &R, work: &mut Work) -> Made {
     let workload = Workload::ALL
         .into_iter()
         .find(|workload| workload.name() == name);
-    match run_counted(rt, workload.ok_or(Fault::BadRow)?) {
-        Ok((steps, races)) => Ok(write!(work.answer, "steps {steps}, races {races}")?),
+    match run_workload(rt, rt.alloc(), workload.ok_or(Fault::BadRow)?, &OpenGate) {
+        Ok(run) => {
+            let (steps, races) = (run.steps.len(), run.races());
+            drop(run);
+            Ok(write!(work.answer, "steps {steps}, races {races}")?)
+        }
         Err(LoadFault::Refused(why)) => Err(why.into()),
         Err(LoadFault::Unsettled(why)) => work.say(why.text()),
         Err(LoadFault::WorkerNotStarted | LoadFault::WorkerLost) => Err(Fault::System),
     }
-}
-
-fn run_counted<R: Host>(rt: &R, workload: Workload) -> Result<(usize, usize), LoadFault> {
-    let run = run_workload(rt, rt.alloc(), workload, &OpenGate)?;
-    let counts = (run.steps.len(), run.races());
-    drop(run);
-    Ok(counts)
 }

@@ -10,7 +10,6 @@ mod seats;
 mod work;
 mod writing;
 
-use er_detector::Detector;
 use er_event::{Refusal, WordState};
 use er_replay::Machine;
 use er_table::LocksetTable;
@@ -25,7 +24,7 @@ use std::rt::Runtime;
 use std::sync::Wait;
 use std::thread::Threads;
 use work::{Detectors, Fault, Made, Work, World, count_of, table_of};
-use writing::{Put, put_entries, put_known, put_seat};
+use writing::{put_entries, put_known, put_seat};
 
 /// What rows are played on.
 pub(crate) trait Host: Runtime + AllocGlobal + Threads + Wait + Sync {}
@@ -160,7 +159,10 @@ fn answer<R: Host>(rt: &R, world: &mut World, work: &mut Work, line: usize) -> M
 fn note<R: Wait>(rt: &R, world: &World, work: &mut Work) -> Made {
     write!(work.answer, "{}", world.seats.len())?;
     for detector in world.detectors.list.iter().flatten() {
-        put_counts(rt, detector, &mut work.answer)?;
+        for number in 0..detector.config().shards {
+            let entries = detector.shard(rt, number).journal().len();
+            write!(work.answer, " {entries}")?;
+        }
     }
     match work.next()? {
         "seat" => match world.seats.get(work.count()? as usize) {
@@ -174,14 +176,6 @@ fn note<R: Wait>(rt: &R, world: &World, work: &mut Work) -> Made {
         }
         _ => Ok(()),
     }
-}
-
-fn put_counts<R: Wait>(rt: &R, detector: &Detector, out: &mut String) -> Put {
-    for number in 0..detector.config().shards {
-        let entries = detector.shard(rt, number).journal().len();
-        write!(out, " {entries}")?;
-    }
-    Ok(())
 }
 
 // Makes a call, and writes what it is answered.

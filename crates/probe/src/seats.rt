@@ -244,19 +244,6 @@ pub(crate) fn rate<R: Host>(rt: &R, detector: &Detector, work: &mut Work) -> Mad
         return Err(Fault::BadRow);
     }
     write_all(rt, detector, shape)?;
-    let races = time_calls(rt, detector, shape, threads, calls)?;
-    let calls = u64::from(threads).saturating_mul(u64::from(calls));
-    Ok(write!(work.answer, "calls {calls}, races {races}")?)
-}
-
-// Makes the calls of all threads, prints how long they took, and returns how many races they reported.
-fn time_calls<R: Host>(
-    rt: &R,
-    detector: &Detector,
-    shape: Shape,
-    threads: u32,
-    calls: u32,
-) -> Found<u64> {
     let seats = (0..threads)
         .map(|_| open_with_lock(detector))
         .try_collect(rt.alloc())?;
@@ -269,7 +256,8 @@ fn time_calls<R: Host>(
     for count in counts.as_slice() {
         races = races.saturating_add(u64::from((*count)?));
     }
-    Ok(races)
+    let calls = u64::from(threads).saturating_mul(u64::from(calls));
+    Ok(write!(work.answer, "calls {calls}, races {races}")?)
 }
 
 fn open_with_lock(detector: &Detector) -> Result<Seat, Refusal> {
