@@ -89,7 +89,8 @@ impl Options {
     /// The same options, by which each race that is printed is explained, or none is.
     pub fn with_explain(mut self, explain: bool) -> Options
         ensures explain { result.explain ≡ explain }
-        ensures kept { (result.max_sets ≡ self.max_sets) × (result.byte_limit ≡ self.byte_limit) }
+        ensures sets { result.max_sets ≡ self.max_sets }
+        ensures bytes { result.byte_limit ≡ self.byte_limit }
         ensures crew { (result.shards ≡ self.shards) × (result.workers ≡ self.workers) }
         ensures strict { result.strict ≡ self.strict }
     {
@@ -100,7 +101,9 @@ impl Options {
     /// The same options, by which a damaged trace is a fault, or isn't.
     pub fn with_strict(mut self, strict: bool) -> Options
         ensures strict { result.strict ≡ strict }
-        ensures kept { (result.max_sets ≡ self.max_sets) × ((result.byte_limit ≡ self.byte_limit) × (result.explain ≡ self.explain)) }
+        ensures sets { result.max_sets ≡ self.max_sets }
+        ensures bytes { result.byte_limit ≡ self.byte_limit }
+        ensures explain { result.explain ≡ self.explain }
         ensures crew { (result.shards ≡ self.shards) × (result.workers ≡ self.workers) }
     {
         self.strict = strict;
@@ -109,7 +112,9 @@ impl Options {
 
     /// The same options, by which the names and the pages of the trace are hashed by these keys.
     pub fn with_keys(mut self, keys: NameKeys) -> Options
-        ensures kept { (result.max_sets ≡ self.max_sets) × ((result.byte_limit ≡ self.byte_limit) × (result.explain ≡ self.explain)) }
+        ensures sets { result.max_sets ≡ self.max_sets }
+        ensures bytes { result.byte_limit ≡ self.byte_limit }
+        ensures explain { result.explain ≡ self.explain }
         ensures crew { (result.shards ≡ self.shards) × (result.workers ≡ self.workers) }
         ensures strict { result.strict ≡ self.strict }
     {
