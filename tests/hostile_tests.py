@@ -8,8 +8,8 @@
 - clocks that really differ take no more memory than other texts, and no more time: the replay ends with a fault
 - 2,000 threads that meet at 32 barriers, and signal unequally often, end with no fault
 - threads that meet at barriers over and over, and signal equally often, compare no counts but those of their own block
-- no text takes more than 400 bytes of memory for each of its own, beside 8 MiB, and by happens-before alone no more than 200. The dearest line takes a
-  page: 4,096 bytes by locks, and 2,048 by happens-before
+- no text takes more than 200 bytes of memory for each of its own by happens-before, beside 8 MiB, nor more than 250 by locks. The dearest line by locks
+  takes a page of 4,096 bytes
 - two of many readers of a word that read it in turn, two million times, take no more than 16 MiB
 - a second look at a file, for the places of reasons, ends behind the last line that a reason names
 - as many rules of words as there are reuses, none of which takes a reuse, cost in the same way
@@ -38,7 +38,7 @@ PROGRAM = program("eraser")
 HOSTILE = pathlib.Path(__file__).resolve().parent.parent / "bench/hostile"
 HAPPENS_BEFORE, EXPLAIN = ["--analysis", "happens-before"], ["--explain"]
 FEW = 60
-BYTES_FOR_A_BYTE, BYTES_BY_ORDER, BYTES_BESIDE = 400, 200, 8 << 20
+BYTES_BY_LOCKS, BYTES_BY_ORDER, BYTES_BESIDE = 250, 200, 8 << 20
 LONGER, MOST_TIMES = 4, 5.5
 # If half of these reads were kept, they would take more than this memory.
 TURNS, BYTES_OF_TURNS = 1_000_000, 16 << 20
@@ -135,7 +135,7 @@ def answers(record, preloaded):
 
 def limited(size, options):
     """Lets the program have so much memory as a text of this size may take."""
-    bytes_of_memory = (BYTES_BY_ORDER if options == HAPPENS_BEFORE else BYTES_FOR_A_BYTE) * size + BYTES_BESIDE
+    bytes_of_memory = (BYTES_BY_ORDER if options[:2] == HAPPENS_BEFORE else BYTES_BY_LOCKS) * size + BYTES_BESIDE
     resource.setrlimit(resource.RLIMIT_AS, (bytes_of_memory, bytes_of_memory))
 
 
