@@ -184,6 +184,7 @@ def worked_lists(record):
 def random_traces(record):
     texts = [(f"random trace {seed}", reference.random_trace(seed), rules) for seed in range(RANDOM_TRACES) for rules in (None, reference.random_rules(seed))]
     texts += [(f"random list {seed}", order_tests.random_list(seed), None) for seed in range(RANDOM_LISTS)]
+    texts.append(("all words of some blocks", reference.dense_trace(), None))
     racy = 0
     for at, (name, text, rules) in enumerate(texts):
         for analysis in (HAPPENS_BEFORE, BOTH):

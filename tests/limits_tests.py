@@ -92,7 +92,7 @@ def many_sets(record):
 def many_blocks(record):
     """Words far from one another, the last of which a second thread writes too."""
     for name, options, apart, count, kind, what in (
-        ("blocks of words", HAPPENS_BEFORE, 512, OVER_17, "unordered", "unordered"),
+        ("blocks of words", HAPPENS_BEFORE, 128, OVER_17, "unordered", "unordered"),
         ("pages", [], 4096, OVER_16, "race", "races"),
     ):
         last = apart * (count - 1)
@@ -195,18 +195,21 @@ def peak_of(options, trace):
 
 
 def reads_given_up(record):
-    """Two threads read each word in no order, and then a third one writes it, ordered behind both. Once that is so of a few words at a time, once of all."""
+    """Two threads read each word in no order, and then a third one writes it, ordered behind both, or gives it back. Once that is so of a few words at a
+    time, once of all."""
     count, found = 200_000, {}
-    for near in (128, count):
+    for near, deed in ((128, "write"), (128, "reuse"), (count, "write")):
         trace = ["eraser trace 3"]
         for first in range(0, count, near):
             words = range(4 * first, 4 * min(first + near, count), 4)
             trace += [f"{who} {word}" for who in ("t1 read", "t2 read") for word in words] + ["t1 signal q", "t2 signal q", "t3 await q"]
-            trace += [f"t3 write {word}" for word in words]
-        output, found[near] = peak_of(HAPPENS_BEFORE, trace)
-        record(f"limits: several reads of {near} words at a time", output == text_of([totals(trace, what="unordered")]), f"{output}"[:1000])
+            trace += [f"t3 write {word}" for word in words] if deed == "write" else [f"t3 reuse {4 * first} {4 * len(words)}"]
+        output, found[near, deed] = peak_of(HAPPENS_BEFORE, trace)
+        name = f"limits: several reads of {near} words at a time, and a {deed}"
+        record(name, output == text_of([totals(trace, what="unordered")]), f"{output}"[:1000])
     # A list has the word's number, its own place and length, and two reads: 40 bytes at least.
-    record("limits: a word gives up its list of reads", found[128] + 40 * count <= found[count], f"{found}")
+    for deed in ("write", "reuse"):
+        record(f"limits: a word gives up its list of reads at a {deed}", found[128, deed] + 40 * count <= found[count, "write"], f"{found}")
 
 
 # ---- Workers

@@ -384,6 +384,16 @@ def random_line(dice, version, acting):
     return f"{thread} {verb}" + (f" {address}" if verb == "show" else "")
 
 
+def dense_trace():
+    """Accesses of each word of some blocks. What is kept of a word is found again after a reuse of several blocks."""
+    dice, lines = random.Random(7), ["eraser trace 1"]
+    for _ in range(3):
+        for thread in ("t1", "t2"):
+            lines += [f"{thread} write {4 * place}" for place in dice.sample(range(260), 260)]
+        lines.append(f"t1 reuse {4 * dice.randrange(100)} 512")
+    return ("\n".join(lines) + "\n").encode()
+
+
 def random_trace(seed):
     dice = random.Random(seed)
     version = dice.choice("11122333333")

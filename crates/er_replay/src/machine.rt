@@ -248,7 +248,7 @@ impl<'t> Machine<'t> {
         let Some(locks) = cover(self.threads.get(thread), kind) else {
             return Ok((Reply::Ignored, false));
         };
-        // Such an access asks the table for no set.
+        // Otherwise a full table would refuse an access of a word that has no candidates left. No clause sees that, but tests/probe/steps.txt.
         if self.words.is_settled(thread, word, kind, locks) {
             return Ok((Reply::Quiet, false));
         }
