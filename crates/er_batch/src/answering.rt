@@ -135,8 +135,8 @@ pub(crate) fn add_behind(
     Ok(())
 }
 
-// Takes a step that the report says nothing of, if it is quick to see that it is one, and returns whether it did. With reasons these are accesses alone,
-// since the report must see each event of locks.
+// Takes a step that the report says nothing of, if it is quick to see that it is one, and returns whether it did. With reasons the report follows the
+// locks of threads.
 #[inline(always)]
 fn pass_over(machine: &mut Machine<'_>, explains: bool, step: Step) -> bool
     ensures answer { (past : List Steps) → Stands machine.old past → IsTrue result → answer_next past step ≡ usual step.event }

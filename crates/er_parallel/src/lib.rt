@@ -4,7 +4,7 @@
 //! many shards the words are and how many sets of locks the table takes. A [`ReplayFault`] says why there are no answers. Each worker
 //! enters a [`Gate`] for each of its shards before its first step. Tests use it to see that workers are at work at once.
 //!
-//! A [`Crew`] answers a list batch after batch: `take` returns the answers of a batch that aren't the usual ones ([`usual_answer`]), each with its position
+//! A [`Crew`] answers a list batch after batch: `take` returns the answers of a batch that aren't the usual ones, each with its position
 //! ([`Unusual`]). It stands for the steps that it has taken (`HaveAnswered`), and its answers are those of the definitions for the whole
 //! list so far (`answers`), for any number of workers and shards. If it is asked to, it also returns each access that changed its word's
 //! state (`noted`).

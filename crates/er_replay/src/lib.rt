@@ -18,8 +18,7 @@
 //! [`Threads`] has the threads' holdings alone, for a machine of another analysis.
 //!
 //! [`Machine::step_noting`] takes a step as `step` does, and says also whether the step may have changed a word's state. If it says no, each
-//! word has the state that it had (`unchanged`, and `same` by the machine's own states). [`Machine::take_usual`] takes most steps without an answer:
-//! it returns whether it took the step (`answer`, `goes_on`, `left`).
+//! word has the state that it had (`unchanged`, and `same` by the machine's own states).
 //!
 //! ```text
 //! let table = LocksetTable::new(alloc, 1_048_576)?;

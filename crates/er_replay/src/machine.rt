@@ -122,10 +122,9 @@ impl<'t> Machine<'t> {
         self.follow_noting(rt, step)
     }
 
-    /// Takes the step if it has its usual answer and leaves every word as it is, and it is quick to see that: an access that changes nothing, an
-    /// accepted event of locks, levels or brackets, or one that orders threads. Returns whether it did. If it didn't, the machine is as it was, and
-    /// `step` takes any step. It only saves time, and a caller that leaves it out gets the same answers.
-    // Most steps are such. No answer is made for them, since an answer has room for a state.
+    /// Takes the step if it has its usual answer and leaves every word as it is, and it is quick to see that: an access that changes nothing, or an
+    /// accepted event of locks, levels or brackets. Returns whether it did. If it didn't, the machine is as it was, and `step` takes any step.
+    // Most steps are such. No answer is made for them, which has room for a state.
     #[inline(always)]
     pub fn take_usual(&mut self, step: Step) -> bool
         ensures answer { (past : List Steps) → Stands self.old past → IsTrue result → answer_next past step ≡ usual step.event }
@@ -248,10 +247,6 @@ impl<'t> Machine<'t> {
         let Some(locks) = cover(self.threads.get(thread), kind) else {
             return Ok((Reply::Ignored, false));
         };
-        // Otherwise a full table would refuse an access of a word that has no candidates left. No clause sees that, but tests/probe/steps.txt.
-        if self.words.is_settled(thread, word, kind, locks) {
-            return Ok((Reply::Quiet, false));
-        }
         Ok(self.words.access_noting(rt, thread, word, kind, locks)?)
     }
 
