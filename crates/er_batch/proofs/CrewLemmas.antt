@@ -22,7 +22,7 @@ use Rattle.er_model.specs.Holdings.{Holdings, holdings_at}
 use Rattle.er_model.specs.Threads.{accepted, held}
 use Rattle.er_parallel.specs.Crews.{Crewed, AreNoted, AreUnusual, HaveAnswered, LeavesWord, IsAmong, IsAnswered}
 use Rattle.er_parallel.specs.Faults.{AsksForSet, MayFail}
-use Rattle.er_replay.specs.Usual.{usual}
+use Rattle.er_parallel.specs.Usual.{usual}
 use Rattle.er_parallel.specs.declared.config.ReplayFault.{ReplayFault}
 use Rattle.er_parallel.specs.declared.config.ReplayFault.TheVariants as replaying
 use Rattle.er_parallel.specs.declared.worker.Unusual.{Unusual}

@@ -1,31 +1,16 @@
 -- A report that lags behind by steps that have nothing to say.
-use Rattle.std.proofs.Common.{◌≡◌, ◌∙◌, ◌+◌, ◌++◌, ◌∷◌, [], ℕ, true, is_some, Result, Some, IsTrue, slice_get, take, ap, refl, sym, subst, arith, ⊎_elim}
+use Rattle.std.proofs.Common.{◌≡◌, ◌∙◌, ◌+◌, ◌++◌, ◌∷◌, [], ℕ, true, is_some, Result, Some, IsTrue, slice_get, take, ap, sym, subst, arith, ⊎_elim}
 use Rattle.er_event.specs.declared.refusals.Refusal.{Refusal}
-use Rattle.er_event.specs.declared.steps.Event.{Event}
-use Rattle.er_event.specs.declared.steps.Event.TheVariants.{Acquire, Release, Access, Reuse, IgnoreOn, IgnoreOff, Show, Level, Sync}
 use Rattle.er_event.specs.declared.steps.Reply.{Reply}
 use Rattle.er_event.specs.declared.steps.Step.{Step}
 use Rattle.er_model.proofs.Search.{below_or_at}
 use Rattle.er_model.specs.Answers.{answer, answer_next, state_end}
 use Rattle.er_replay.specs.Standing.{Replayed, Stands}
-use Rattle.er_replay.specs.Usual.{usual}
 use Rattle.er_replay.specs.Wants.{is_access}
 use Rattle.er_report.specs.Builder.{Built, ArePlain, IsReported, KeepsState, KeepStates, is_plain}
 use Rattle.er_batch.proofs.StepLemmas.{answer-here, keeps-here, past-next}
 use Rattle.er_batch.specs.Inner.Answering.{HasComeTo, Lags}
 use Rattle.er_trace.specs.Trace.{Recording}
-
--- the usual answer to an event has nothing to say
-pub usual-plain : (event : Event) → is_plain (usual event) ≡ true
-usual-plain (Access kind w site) = refl
-usual-plain (Acquire l m) = refl
-usual-plain (Release l m) = refl
-usual-plain (Reuse range) = refl
-usual-plain IgnoreOn = refl
-usual-plain IgnoreOff = refl
-usual-plain (Show w) = refl
-usual-plain (Level n) = refl
-usual-plain (Sync sync) = refl
 
 -- by none
 pub lags-none : (builder : Built) (r : Recording) (n : ℕ) → IsReported builder r n → Lags builder r n 0

@@ -1,11 +1,8 @@
 //! Answers the steps of a batch by one machine, and adds them to a report.
-ghost use Rattle.std.specs.Prelude.{◌≡◌, ◌+◌, ◌++◌, ◌∷◌, [], ◌<◌, ◌≤◌, ◌^◌, nat_lt, ℕ, List, length, is_some, IfSome, IfOk, IsTrue, IsFalse, OnOk, false, true};
+ghost use Rattle.std.specs.Prelude.{◌≡◌, ◌+◌, ◌<◌, ◌≤◌, ◌^◌, nat_lt, ℕ, List, length, is_some, IfSome, IfOk, IsTrue, OnOk, false, true};
 ghost use Rattle.er_batch.specs.Inner.Answering.{Answers, HasAnswered, Lags};
 ghost use Rattle.er_batch.specs.Runs.{HasRun, recorded};
 ghost use Rattle.er_event.specs.declared.steps.Step.{Step as Steps};
-ghost use Rattle.er_model.specs.Answers.{answer_next, state_end};
-ghost use Rattle.er_replay.specs.Standing.{Stands};
-ghost use Rattle.er_replay.specs.Usual.{usual};
 ghost use Rattle.er_replay.specs.Wants.{is_access};
 ghost use Rattle.er_report.specs.Builder.{IsBuilt, IsReported, IsStepAt, is_plain};
 ghost use Rattle.er_report.specs.Names.{HasSiteName};
@@ -57,14 +54,6 @@ pub fn is_plain(answer: &Result<Reply, Refusal>) -> bool
     matches!(answer, Ok(Reply::Quiet | Reply::Done | Reply::Ignored))
 }
 
-// Whether the step reads or writes a word.
-#[inline(always)]
-fn is_access(event: Event) -> bool
-    ensures { result ≡ is_access event }
-{
-    matches!(event, Event::Access(..))
-}
-
 // Whether the report says nothing of a step that is answered so: it needs no line, and if reasons are wanted it is an access that has not
 // changed its word.
 #[inline(always)]
@@ -79,7 +68,7 @@ fn says_nothing(
 {
     let plain = is_plain(answer);
     if explains {
-        plain && !changed && is_access(event)
+        plain && !changed && matches!(event, Event::Access(..))
     } else {
         plain
     }
@@ -135,23 +124,6 @@ pub(crate) fn add_behind(
     Ok(())
 }
 
-// Takes a step that the report says nothing of, if it is quick to see that it is one, and returns whether it did. With reasons the report follows the
-// locks of threads.
-#[inline(always)]
-fn pass_over(machine: &mut Machine<'_>, explains: bool, step: Step) -> bool
-    ensures answer { (past : List Steps) → Stands machine.old past → IsTrue result → answer_next past step ≡ usual step.event }
-    ensures goes_on { (past : List Steps) → Stands machine.old past → IsTrue result → Stands machine.new (past ++ step ∷ []) }
-    ensures unchanged { (past : List Steps) → Stands machine.old past → IsTrue result → (w : ℕ) → state_end (past ++ step ∷ []) w ≡ state_end past w }
-    ensures left { (past : List Steps) → Stands machine.old past → IsFalse result → Stands machine.new past }
-    ensures keeps { IsTrue result → explains ≡ true → is_access step.event ≡ true }
-{
-    if explains {
-        is_access(step.event) && machine.take_usual(step)
-    } else {
-        machine.take_usual(step)
-    }
-}
-
 // Answers each step and adds it to the report, up to the first that finds no room. Steps without a line are counted, and added before the
 // next step with one. If there are more of them than can be counted, that is reported as a want of memory.
 fn answer_steps<R: Wait>(
@@ -175,10 +147,6 @@ fn answer_steps<R: Wait>(
     let mut plain = 0;
     for (k, step) in steps.iter().enumerate() {
         machine.look_ahead(steps, k);
-        if pass_over(machine, explains, *step) {
-            plain += 1;
-            continue;
-        }
         let (answer, changed) = machine.step_noting(rt, *step);
         if let Some(cause) = no_room(&answer) {
             builder.add_plain(plain);

@@ -16,7 +16,7 @@ use Rattle.er_parallel.specs.Inner.Faults.{HasFault, IsFaultOf, IsLeastFault, Is
 use Rattle.er_parallel.specs.Inner.Merging.{AreApart, AreMerged, HasItem, NoHeadBelow, machines_of}
 use Rattle.er_parallel.specs.Inner.Taking.{HasDone, HasTaken}
 use Rattle.er_parallel.specs.Tasks.{worker_for}
-use Rattle.er_replay.specs.Usual.{usual}
+use Rattle.er_parallel.specs.Usual.{usual}
 use Rattle.er_parallel.specs.declared.config.ReplayFault.{ReplayFault}
 use Rattle.er_parallel.specs.declared.worker.Share.{Share}
 use Rattle.er_parallel.specs.declared.worker.Unusual.{Unusual}

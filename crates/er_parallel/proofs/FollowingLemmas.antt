@@ -17,7 +17,7 @@ use Rattle.er_journal.specs.Merges.{shard_of}
 use Rattle.er_model.specs.Table.{moved, advanced}
 use Rattle.er_model.specs.Words.{Counted, Reused, Nothing, reuses, counts, is_within}
 use Rattle.er_journal.proofs.Merges.{touch_shard}
-use Rattle.er_replay.specs.Usual.{usual}
+use Rattle.er_parallel.specs.Usual.{usual}
 use Rattle.er_parallel.specs.Tasks.{worker_for}
 use Rattle.er_replay.specs.Standing.{found_no_room}
 use Rattle.er_replay.specs.Wants.{asks_by}

@@ -11,8 +11,7 @@ use Rattle.er_model.proofs.Parts.{in_range}
 use Rattle.er_model.proofs.Runs.{answers-length, answers-get}
 use Rattle.er_parallel.specs.Crews.{AreUnusual, IsAmong, IsAnswered}
 use Rattle.er_parallel.specs.Inner.Gathering.{AreRightBut, IsRight}
-use Rattle.er_parallel.specs.Usual.{usual_answers}
-use Rattle.er_replay.specs.Usual.{usual}
+use Rattle.er_parallel.specs.Usual.{usual, usual_answers}
 use Rattle.er_parallel.specs.declared.worker.Unusual.{Unusual}
 
 abbrev Given : Type 0

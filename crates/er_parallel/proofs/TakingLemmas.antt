@@ -27,7 +27,7 @@ use Rattle.er_model.proofs.Search.{below_or_at}
 use Rattle.er_model.proofs.Threads.{holdings-step}
 use Rattle.er_parallel.specs.Crews.{IsAmong, IsAnswered, HasFollowed, LeavesWord}
 use Rattle.er_parallel.specs.Faults.{AsksForSet}
-use Rattle.er_replay.specs.Usual.{usual}
+use Rattle.er_parallel.specs.Usual.{usual}
 use Rattle.er_parallel.specs.Inner.Taking.{AreIdle, HasCome, HasDone, IsFoundSoFar, IsIdle, IsKept, IsOwn}
 use Rattle.er_parallel.specs.Tasks.{worker_for}
 use Rattle.er_parallel.specs.declared.worker.Share.{Share}
@@ -349,8 +349,3 @@ idle-on share from at batch step there last idle = λ k other low high is.
     ⊎_elim (λ below. idle k other low below is)
     (λ same. subst (λ (s : Step). IsIdle share s.event) (same_Some step other (sym there ∙ rw (← same) is)) last)
     (below_or_at k at (omega (arith, high)))
-
--- a worker has come as far by another machine that has the same holdings and states
-pub come-same : (n : ℕ) (past batch : List Step) (share : Share) (items : List Unusual) (before after : Replayed) → ((t : ℕ) → holding after t ≡ holding before t) → ((w : ℕ) → states after w ≡ states before w)
-    → HasCome n past batch share items before → HasCome n past batch share items after
-come-same n past batch share items before after held words come = record { held = λ t. held t ∙ come.held t; words = λ w own. words w ∙ come.words w own; found = come.found }

@@ -8,7 +8,7 @@ use Rattle.er_journal.specs.Merges.{shard_of}
 use Rattle.er_model.specs.Answers.{answer, state_at, state_end}
 use Rattle.er_model.specs.Holdings.{holdings_end}
 use Rattle.er_model.specs.Threads.{accepted, held}
-use Rattle.er_replay.specs.Usual.{usual}
+use Rattle.er_parallel.specs.Usual.{usual}
 use Rattle.er_parallel.specs.declared.worker.Unusual.{Unusual}
 use Rattle.er_replay.specs.Standing.{Replayed, holding, states}
 

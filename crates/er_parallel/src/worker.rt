@@ -6,7 +6,7 @@ ghost use Rattle.er_parallel.specs.Faults.{AsksForSet};
 ghost use Rattle.er_parallel.specs.Inner.Faults.{MayBeFull};
 ghost use Rattle.er_parallel.specs.Inner.Taking.{AreIdle, HasCome, HasDone, HasTaken, IsBusy, IsIdle, IsKept, IsOwn};
 ghost use Rattle.er_parallel.specs.Tasks.{IsShare, shard_for, worker_for};
-ghost use Rattle.er_replay.specs.Usual.{usual};
+ghost use Rattle.er_parallel.specs.Usual.{usual};
 ghost use Rattle.er_model.specs.Following.{answered, state_after};
 ghost use Rattle.er_model.specs.Holdings.{after_step};
 ghost use Rattle.er_replay.specs.Standing.{found_no_room, holding, states, Stands};
@@ -198,9 +198,6 @@ fn answer_own<R: Wait>(
     ensures far { (past : List Steps) → HasCome at past steps.now share found.old.items machine.old → OnOk result (HasCome (at + 1) past steps.now share found.new.items machine.new) }
     ensures full { (past : List Steps) → HasCome at past steps.now share found.old.items machine.old → IsErrOf result NoRoom.TableFull → AsksForSet (past ++ steps.now) }
 {
-    if machine.take_usual(*step) {
-        return Ok(());
-    }
     let Step { thread, .. } = *step;
     let (answer, noted) = answer_one(rt, machine, step, share.noting);
     if !noted && is_usual(step, &answer) {

@@ -1,4 +1,3 @@
 pub mod Standing
 pub mod Stops
-pub mod Usual
 pub mod Wants

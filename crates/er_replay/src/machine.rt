@@ -8,7 +8,6 @@ ghost use Rattle.er_model.specs.Holdings.{refused_by, after_step, holdings_end};
 ghost use Rattle.er_model.specs.Table.{moved};
 ghost use Rattle.er_journal.specs.AnswerList.{is_state};
 ghost use Rattle.er_model.specs.Events.{is_show};
-ghost use Rattle.er_replay.specs.Usual.{usual};
 ghost use Rattle.er_replay.specs.Wants.{is_access, asks_by, may_want, wants_memory};
 
 use crate::threads::Threads;
@@ -122,26 +121,6 @@ impl<'t> Machine<'t> {
         self.follow_noting(rt, step)
     }
 
-    /// Takes the step if it has its usual answer and leaves every word as it is, and it is quick to see that: an access that changes nothing, or an
-    /// accepted event of locks, levels or brackets. Returns whether it did. If it didn't, the machine is as it was, and `step` takes any step.
-    // Most steps are such. No answer is made for them, which has room for a state.
-    #[inline(always)]
-    pub fn take_usual(&mut self, step: Step) -> bool
-        ensures answer { (past : List Steps) → Stands self.old past → IsTrue result → answer_next past step ≡ usual step.event }
-        ensures goes_on { (past : List Steps) → Stands self.old past → IsTrue result → Stands self.new (past ++ step ∷ []) }
-        ensures unchanged { (past : List Steps) → Stands self.old past → IsTrue result → (w : ℕ) → state_end (past ++ step ∷ []) w ≡ state_end past w }
-        ensures left { (past : List Steps) → Stands self.old past → IsFalse result → Stands self.new past }
-
-        // The same by the machine's own holdings and states.
-        ensures answered { IsTrue result → answered (holding self.old step.thread) (states self.old) step ≡ usual step.event }
-        ensures taken { IsTrue result → (t : ℕ) → holding self.new t ≡ after_step (holding self.old t) t step }
-        ensures holdings { IsFalse result → (t : ℕ) → holding self.new t ≡ holding self.old t }
-        ensures moved { IsTrue result → (w : ℕ) → state_after (holding self.old step.thread) (states self.old w) w step ≡ states self.old w }
-        ensures states { (w : ℕ) → states self.new w ≡ states self.old w }
-    {
-        self.follow_usual(step)
-    }
-
     /// Takes what a step makes of its thread's holdings, and leaves every word as it is: for a step whose word another machine keeps. A
     /// step that the definitions refuse changes nothing. The only error is that there is no memory, which changes nothing either.
     // A worker of a parallel replay takes each access of the others by it, where it does nothing.
@@ -162,31 +141,6 @@ impl<'t> Machine<'t> {
                 Err(Refusal::OutOfMemory) => Err(AllocError),
                 Err(_) => Ok(()),
             },
-        }
-    }
-
-    // What `take_usual` does, by the machine's own holdings and states. Split for the prover.
-    #[inline(always)]
-    fn follow_usual(&mut self, step: Step) -> bool
-        ensures answered { IsTrue result → answered (holding self.old step.thread) (states self.old) step ≡ usual step.event }
-        ensures taken { IsTrue result → (t : ℕ) → holding self.new t ≡ after_step (holding self.old t) t step }
-        ensures holdings { IsFalse result → (t : ℕ) → holding self.new t ≡ holding self.old t }
-        ensures moved { IsTrue result → (w : ℕ) → state_after (holding self.old step.thread) (states self.old w) w step ≡ states self.old w }
-        ensures states { (w : ℕ) → states self.new w ≡ states self.old w }
-    {
-        let Step { thread, event } = step;
-        match event {
-            Event::Access(kind, word, _) => match cover(self.threads.get(thread), kind) {
-                Some(locks) => self.words.is_settled(thread, word, kind, locks),
-                None => false,
-            },
-            Event::Reuse(_) | Event::Show(_) => false,
-            Event::Sync(_) => true,
-            Event::Acquire(..)
-            | Event::Release(..)
-            | Event::IgnoreOn
-            | Event::IgnoreOff
-            | Event::Level(_) => self.threads.change(thread, event).is_ok(),
         }
     }
 
@@ -247,6 +201,9 @@ impl<'t> Machine<'t> {
         let Some(locks) = cover(self.threads.get(thread), kind) else {
             return Ok((Reply::Ignored, false));
         };
+        if self.words.is_settled(thread, word, kind, locks) {
+            return Ok((Reply::Quiet, false));
+        }
         Ok(self.words.access_noting(rt, thread, word, kind, locks)?)
     }
 

@@ -9,7 +9,7 @@ use Rattle.er_journal.specs.Merges.{shard_of}
 use Rattle.er_model.specs.Answers.{answer, state_at}
 use Rattle.er_model.specs.Holdings.{holdings_at}
 use Rattle.er_parallel.specs.Crews.{IsAmong, IsAnswered, HasFollowed, LeavesWord, Rise}
-use Rattle.er_replay.specs.Usual.{usual}
+use Rattle.er_parallel.specs.Usual.{usual}
 use Rattle.er_parallel.specs.Tasks.{worker_for}
 use Rattle.er_parallel.specs.Inner.Faults.{MayBeFull}
 use Rattle.er_parallel.specs.declared.worker.Share.{Share}

@@ -11,8 +11,7 @@ use Rattle.er_report.specs.Builder.{IsReported}
 use Rattle.er_batch.specs.Inner.Answering.{HasComeTo}
 use Rattle.er_text.specs.Batches.{joined}
 use Rattle.er_trace.specs.Trace.{Recording}
-use Rattle.er_replay.specs.Usual.{usual}
-use Rattle.er_batch.proofs.LagLemmas.{come-plain, come-told, lags-end, usual-plain}
+use Rattle.er_batch.proofs.LagLemmas.{come-plain, come-told, lags-end}
 use Rattle.er_batch.proofs.BatchLemmas.{number-behind, site-behind}
 use Rattle.er_batch.proofs.StepLemmas.{step-at}
 use Rattle.er_batch.proofs.answering.answer_steps.Goals as goal
@@ -28,8 +27,8 @@ returns-in-Some-clause-run g c = λ past lines sites long each before.
     let come : HasComeTo c.loop-k.machine c.loop-k.builder r (length past + k) c.loop-k.plain = c.loop-k.invariant.run past lines sites long each before in (
       lags-end c.loop-k.builder c.add_plain.new.self r (length past + k) c.loop-k.plain come.lags c.add_plain.ensures.reported,
       slice_get_within r.steps (length past + k) step here,
-      rw here (lacks (holding c.pass_over.new.machine) (states c.pass_over.new.machine) (take (length past + k) r.steps) step c.in-Some.cause c.step_noting-answer.result.0
-          (c.pass_over.ensures.left (take (length past + k) r.steps) (subst (λ (m : Replayed). Stands m (take (length past + k) r.steps)) (sym c.look_ahead.ensures) come.stands) c.if-pass_over.false) c.in-Some.ensures c.step_noting-answer.ensures.refused
+      rw here (lacks (holding c.look_ahead.new.self) (states c.look_ahead.new.self) (take (length past + k) r.steps) step c.in-Some.cause c.step_noting-answer.result.0
+          (subst (λ (m : Replayed). Stands m (take (length past + k) r.steps)) (sym c.look_ahead.ensures) come.stands) c.in-Some.ensures c.step_noting-answer.ensures.refused
           c.step_noting-answer.ensures.room),
     )
 
@@ -40,8 +39,8 @@ loop-k-preserved g c =
     let read : slice_get c.steps-steps.result.now k ≡ Some step = slice_get_read c.steps-steps.result.now _ k step refl (omega arith) c.index-steps-k.is in
     let here : (past : List Step) → slice_get (past ++ c.args.trace.now.steps) (length past + k) ≡ Some step =
     λ past. get_behind past c.args.trace.now.steps k (length past + k) refl ∙ (rw c.steps-steps.ensures.value at read) in
-    let stands : (steps : List Step) → Stands c.loop-k.machine steps → Stands c.pass_over.new.machine steps =
-    λ steps known. c.pass_over.ensures.left steps (subst (λ (m : Replayed). Stands m steps) (sym c.look_ahead.ensures) known) c.if-pass_over.false in
+    let stands : (steps : List Step) → Stands c.loop-k.machine steps → Stands c.look_ahead.new.self steps =
+    λ steps known. subst (λ (m : Replayed). Stands m steps) (sym c.look_ahead.ensures) known in
     let next : (steps : List Step) → Stands c.loop-k.machine steps → Stands c.step_noting-answer.new.self (steps ++ step ∷ []) =
     λ steps known. c.step_noting-answer.ensures.goes_on steps (stands steps known) c.in_default.ensures in
     let answered : (steps : List Step) → Stands c.loop-k.machine steps → c.step_noting-answer.result.0 ≡ answer_next steps step =
@@ -86,26 +85,3 @@ loop-k-preserved g c =
             (come-told c.loop-k.machine c.step_noting-answer.new.self r at c.loop-k.plain step (here past) behind w.add_behind.new.builder reported));
       }
     ]
-
-pub loop-k-preserved-then-pass_over : goal.loop-k-preserved-then-pass_over
-loop-k-preserved-then-pass_over g c =
-    let k : ℕ = c.loop-k.k in
-    let step : Step = c.index-steps-k.result in
-    let read : slice_get c.steps-steps.result.now k ≡ Some step = slice_get_read c.steps-steps.result.now _ k step refl (omega arith) c.index-steps-k.is in
-    let taken = c.if-pass_over.true in
-    record {
-      steps = let so_far = c.loop-k.invariant.steps in omega arith;
-      rules = c.loop-k.invariant.rules;
-      explains = c.loop-k.invariant.explains;
-      run = λ past lines sites long each before.
-          let r : Recording = joined past lines sites c.args.trace.now in
-          let at : ℕ = length past + k in
-          let here : slice_get r.steps at ≡ Some step = get_behind past c.args.trace.now.steps k at refl ∙ (rw c.steps-steps.ensures.value at read) in
-          let come : HasComeTo c.loop-k.machine c.loop-k.builder r at c.loop-k.plain = c.loop-k.invariant.run past lines sites long each before in
-          let stands : Stands c.look_ahead.new.self (take at r.steps) = subst (λ (m : Replayed). Stands m (take at r.steps)) (sym c.look_ahead.ensures) come.stands in
-          let one : at + 1 ≡ length past + (k + 1) = omega arith in
-          subst (λ (n : ℕ). HasComeTo c.pass_over.new.machine c.loop-k.builder r n (c.loop-k.plain + 1)) one
-          (come-plain c.loop-k.machine c.pass_over.new.machine r at c.loop-k.plain step here (c.pass_over.ensures.goes_on (take at r.steps) stands taken) c.loop-k.builder (usual step.event) come
-          (sym (c.pass_over.ensures.answer (take at r.steps) stands taken)) (usual-plain step.event)
-          (λ wanted. (c.pass_over.ensures.keeps taken (c.explains-explains.ensures ∙ sym c.loop-k.invariant.explains ∙ wanted), c.pass_over.ensures.unchanged (take at r.steps) stands taken)));
-    }

@@ -1,36 +1,25 @@
-use Rattle.std.proofs.Common.{◌≡◌, ◌∙◌, false, refl, sym, IsFalse, rules, tests}
+use Rattle.std.proofs.Common.{◌≡◌, false, IsFalse, rules, tests}
 use Rattle.er_parallel.proofs.FollowingLemmas.{usual-found}
-use Rattle.er_parallel.proofs.TakingLemmas.{come-asks, come-same, come-usual, come-kept}
+use Rattle.er_parallel.proofs.TakingLemmas.{come-asks, come-usual, come-kept}
 use Rattle.er_replay.specs.Standing.{found_no_room}
-use Rattle.er_replay.specs.Usual.{usual}
 use Rattle.er_parallel.proofs.worker.answer_own.Goals as goal
-
-pub returns-then-take_usual-clause-far : goal.returns-then-take_usual-clause-far
-returns-then-take_usual-clause-far g c past come =
-    let taken = c.if-take_usual.true in
-    come-usual past c.args.steps.now c.args.share c.args.at c.args.step.now c.requires.there c.args.found.now.items c.args.machine.now c.take_usual.new.self come (c.take_usual.ensures.taken taken)
-    c.requires.own (usual c.args.step.now.event) (sym (c.take_usual.ensures.answered taken)) (λ w. c.take_usual.ensures.states w ∙ sym (c.take_usual.ensures.moved taken w)) refl
-    (λ noting access. c.take_usual.ensures.states)
 
 pub returns-then-is_usual-clause-far : goal.returns-then-is_usual-clause-far
 returns-then-is_usual-clause-far g c past come =
-    let same = come-same c.args.at past c.args.steps.now c.args.share c.args.found.now.items c.args.machine.now c.take_usual.new.self (c.take_usual.ensures.holdings c.if-take_usual.false) c.take_usual.ensures.states come in
     let usual = c.is_usual.ensures c.if-is_usual.true in
     let quiet : c.answer_one-answer.result.1 ≡ false = search (rules, tests) in
     let room : IsFalse (found_no_room c.answer_one-answer.result.0) = usual-found c.args.step.now.event c.answer_one-answer.result.0 usual in
-    come-usual past c.args.steps.now c.args.share c.args.at c.args.step.now c.requires.there c.args.found.now.items c.take_usual.new.self c.answer_one-answer.new.machine same (c.answer_one-answer.ensures.holdings room)
+    come-usual past c.args.steps.now c.args.share c.args.at c.args.step.now c.requires.there c.args.found.now.items c.args.machine.now c.answer_one-answer.new.machine come (c.answer_one-answer.ensures.holdings room)
     c.requires.own c.answer_one-answer.result.0 (c.answer_one-answer.ensures.answered room) (c.answer_one-answer.ensures.states room) usual
     (λ noting access. c.answer_one-answer.ensures.same noting access quiet)
 
 pub returns-clause-full : goal.returns-clause-full
 returns-clause-full g c past come full =
-    let same = come-same c.args.at past c.args.steps.now c.args.share c.args.found.now.items c.args.machine.now c.take_usual.new.self (c.take_usual.ensures.holdings c.if-take_usual.false) c.take_usual.ensures.states come in
-    come-asks past c.args.steps.now c.args.share c.args.at c.args.step.now c.requires.there c.args.found.now.items c.take_usual.new.self c.answer_one-answer.new.machine same c.requires.own
+    come-asks past c.args.steps.now c.args.share c.args.at c.args.step.now c.requires.there c.args.found.now.items c.args.machine.now c.answer_one-answer.new.machine come c.requires.own
     (c.answer_one-answer.ensures.table_full (c.keep.ensures.full full))
 
 pub returns-clause-far : goal.returns-clause-far
 returns-clause-far g c past come =
-    let same = come-same c.args.at past c.args.steps.now c.args.share c.args.found.now.items c.args.machine.now c.take_usual.new.self (c.take_usual.ensures.holdings c.if-take_usual.false) c.take_usual.ensures.states come in
-    come-kept past c.args.steps.now c.args.share c.args.at c.args.step.now c.requires.there c.args.found.now.items c.take_usual.new.self c.answer_one-answer.new.machine same c.requires.own
+    come-kept past c.args.steps.now c.args.share c.args.at c.args.step.now c.requires.there c.args.found.now.items c.args.machine.now c.answer_one-answer.new.machine come c.requires.own
     c.answer_one-answer.result.0 c.keep.result c.keep.new.found.items c.keep.ensures.room c.keep.ensures.kept
     c.answer_one-answer.ensures.holdings c.answer_one-answer.ensures.answered c.answer_one-answer.ensures.states
