@@ -91,7 +91,7 @@ impl<'t> Crew<'t> {
         self.take_gated(rt, steps, noting, &OpenGate)
     }
 
-    /// The same, but each worker first enters the gate of each of its shards, by rising number.
+    /// What `take` does, but each worker first enters the gate of each of its shards, by rising number.
     pub(crate) fn take_gated<R: Threads + Wait + Sync, G: Gate>(
         &mut self,
         rt: &R,

@@ -201,6 +201,7 @@ impl<'t> Machine<'t> {
         let Some(locks) = cover(self.threads.get(thread), kind) else {
             return Ok((Reply::Ignored, false));
         };
+        // Without this a full table would refuse an access of a word that has no candidates left. No clause sees that, but tests/probe/steps.txt.
         if self.words.is_settled(thread, word, kind, locks) {
             return Ok((Reply::Quiet, false));
         }

@@ -1,12 +1,11 @@
 //! Sets of locks that are stored once: by two threads at once, which wait for each other first, and in a book that is asked with the vector of
-//! its sets and with another. Which steps a machine takes as usual ones. And reports of more steps than 32 bits number: a text of so many would be
-//! too long for a test.
+//! its sets and with another. And reports of more steps than 32 bits number: a text of so many would be too long for a test.
 use crate::Host;
 use crate::together::meeting_gate;
 use boxcar::Vec;
 use er_batch::answer_batch;
 use er_device::Device;
-use er_event::{Event, Kind, LockId, Lockset, Mode, PageRange, Site, Step, Sync, ThreadId, Word};
+use er_event::{LockId, Lockset};
 use er_gate::{Gate, PairGate};
 use er_replay::Machine;
 use er_report::ReportBuilder;
@@ -112,45 +111,4 @@ fn more_steps_than_32_bits_number(rt: HostRuntime) {
         let (has_room, steps, _) = counted(&rt, &table, &trace, before);
         assert_eq!(rt; (has_room, steps), (false, before), "behind {before}");
     }
-}
-
-// Whether a machine takes just these of the steps as usual ones. Each other one is answered.
-fn takes_just<R: Host>(rt: &R, table: &LocksetTable, acts: &[(u32, Event, bool)]) -> bool {
-    let mut machine = Machine::new(rt.alloc(), table).expect(rt, "memory");
-    let mut just = true;
-    for &(thread, event, usual) in acts {
-        let thread = ThreadId::new(thread);
-        let step = Step { thread, event };
-        let taken = machine.take_usual(step);
-        just &= taken == usual;
-        if !taken {
-            drop(machine.step(rt, step));
-        }
-    }
-    just
-}
-
-// No clause says that it takes any: a replay by a machine that takes none has the same report, and is slower.
-#[test]
-fn most_steps_are_taken_as_usual(rt: HostRuntime) {
-    let (lock, word) = (LockId::new(7), Word::new(1024));
-    let write = Event::Access(Kind::Write, word, Site::MISSING);
-    let acts = [
-        (1, write, false),
-        (1, write, true),
-        (1, Event::Acquire(lock, Mode::Write), true),
-        (2, Event::Release(lock, Mode::Write), false),
-        (2, write, false),
-        (2, write, true),
-        (1, Event::Release(lock, Mode::Write), true),
-        (1, Event::Sync(Sync::Signal(lock)), true),
-        (1, Event::IgnoreOn, true),
-        (1, write, false),
-        (1, Event::IgnoreOff, true),
-        (1, Event::Show(word), false),
-        (1, Event::Reuse(PageRange::new(word, word)), false),
-        (2, write, false),
-        (2, write, true),
-    ];
-    assert!(rt; takes_just(&rt, &table_of_hundred(&rt), &acts));
 }
