@@ -8,8 +8,8 @@
 - clocks that really differ take no more memory than other texts, and no more time: the replay ends with a fault
 - 2,000 threads that meet at 32 barriers, and signal unequally often, end with no fault
 - threads that meet at barriers over and over, and signal equally often, compare no counts but those of their own block
-- no text takes more than 200 bytes of memory for each of its own by happens-before, beside 8 MiB, nor more than 250 by locks. The dearest line by locks
-  takes a page of 4,096 bytes
+- no text takes more than 200 bytes of memory for each of its own by happens-before, beside 8 MiB, nor more than 250 by locks, or 300 by both with
+  reasons. The dearest line takes a page: 4,096 bytes by locks, and 512 by happens-before
 - two of many readers of a word that read it in turn, two million times, take no more than 16 MiB
 - a second look at a file, for the places of reasons, ends behind the last line that a reason names
 - as many rules of words as there are reuses, none of which takes a reuse, cost in the same way
@@ -36,9 +36,9 @@ from site_tests import preloaded
 
 PROGRAM = program("eraser")
 HOSTILE = pathlib.Path(__file__).resolve().parent.parent / "bench/hostile"
-HAPPENS_BEFORE, EXPLAIN = ["--analysis", "happens-before"], ["--explain"]
+HAPPENS_BEFORE, BOTH, EXPLAIN = ["--analysis", "happens-before"], ["--analysis", "both"], ["--explain"]
 FEW = 60
-BYTES_BY_LOCKS, BYTES_BY_ORDER, BYTES_BESIDE = 250, 200, 8 << 20
+BYTES_BY_LOCKS, BYTES_BY_ORDER, BYTES_BY_BOTH, BYTES_BESIDE = 250, 200, 300, 8 << 20
 LONGER, MOST_TIMES = 4, 5.5
 # If half of these reads were kept, they would take more than this memory.
 TURNS, BYTES_OF_TURNS = 1_000_000, 16 << 20
@@ -53,7 +53,7 @@ COSTS = {
     "thread-names": (1000, [[], HAPPENS_BEFORE]),
     "lock-names": (1000, [[], HAPPENS_BEFORE]),
     "site-names": (1000, [[], HAPPENS_BEFORE]),
-    "pages": (1000, [[], EXPLAIN, HAPPENS_BEFORE, [*HAPPENS_BEFORE, *EXPLAIN]]),
+    "pages": (1000, [[], EXPLAIN, HAPPENS_BEFORE, [*HAPPENS_BEFORE, *EXPLAIN], [*BOTH, *EXPLAIN]]),
     "locksets": (2000, [[], EXPLAIN]),
     "meets": (2000, [[]]),
     "threads": (4000, [[]]),
@@ -135,7 +135,8 @@ def answers(record, preloaded):
 
 def limited(size, options):
     """Lets the program have so much memory as a text of this size may take."""
-    bytes_of_memory = (BYTES_BY_ORDER if options[:2] == HAPPENS_BEFORE else BYTES_BY_LOCKS) * size + BYTES_BESIDE
+    most = {tuple(HAPPENS_BEFORE): BYTES_BY_ORDER, tuple(BOTH): BYTES_BY_BOTH}.get(tuple(options[:2]), BYTES_BY_LOCKS)
+    bytes_of_memory = most * size + BYTES_BESIDE
     resource.setrlimit(resource.RLIMIT_AS, (bytes_of_memory, bytes_of_memory))
 
 
