@@ -687,7 +687,6 @@ def misuse(folder, findings):
     for source in sorted((SOURCES / "misuse").glob("*.c")):
         wanted = [(source.name, number, *match) for number, line in enumerate(source.read_text().splitlines(), 1) for match in re.findall(r"MISUSE (\w+) (\S+) (\w+)", line)]
         wanted = {rf"t\d {verb} {lock} at {name}:{number}, which {'t.' if holder == 'another' else holder} holds" for name, number, verb, lock, holder in wanted}
-        refused = sum(" destroys " not in line and " frees " not in line for line in wanted)
         for compiler, level in (("gcc", "-O0"), ("clang", "-O0"), ("gcc", "-O2"), ("clang", "-O2")):
             program, built = build(folder, source, compiler, level)
             for more in ([], ["--order"]):
@@ -697,9 +696,9 @@ def misuse(folder, findings):
                 said = [line.removeprefix("record: ") for line in found.stderr.splitlines() if " holds" in line]
                 comments = [line.removeprefix("# ") for line in text.splitlines() if line.startswith("# ") and " holds" in line]
                 fits = said == comments and len(said) == len(wanted) and all(any(re.fullmatch(one, line) for line in said) for one in wanted)
-                lines = re.findall(r"^line \d+: refused: (t\d) (\w+) (\w+): ", found.stderr, re.M)
-                held = sorted((line.split()[0], line.split()[2]) for line in said if line.split()[1] not in ("destroys", "frees"))
-                is_refused = sorted((thread, lock) for thread, _, lock in lines) == held and f", refused {refused}\n" in found.stderr
+                lines = re.findall(r"^line \d+: refused: (t\d) (\w+) (\S+): ", found.stderr, re.M)
+                held = sorted((line.split()[0], line.split()[2]) for line in said)
+                is_refused = sorted((thread, lock) for thread, _, lock in lines) == held and f", refused {len(wanted)}\n" in found.stderr
                 is_whole = text.endswith("none lost\nend\n") and found.returncode == built.returncode == 0 and built.stderr == ""
                 findings.check(f"misuse of locks, {program.name} {more}", fits and is_refused and is_whole, f"{built.stderr} {found} {comments}, not {wanted}")
         findings.check(f"what {source.name} does wrong", bool(wanted) == (source.stem != "right"), f"{wanted}")

@@ -303,20 +303,21 @@ void locks_begin(uint64_t address)
         remove_lock(place);
 }
 
-/* A trace has no step for it. */
-static void say_end(uint32_t thread, const char *verb, const struct lock *lock, uint64_t at)
+/* No step of a trace stands for it. The thread's step in its place is one that a replay refuses, so the report has a line and what is held stays. */
+static void say_end(uint32_t thread, const char *verb, struct lock *lock, uint64_t at)
 {
     char name[16], holds[32];
     if (!lock->holder_count || !at || !is_certain())
         return;
-    bool is_own = lock->holders[0].thread == thread;
+    bool is_own = find_holder(lock, thread);
     snprintf(holds, sizeof holds, "%s holds", is_own ? "it" : holder_name(lock, name));
     say_misuse(thread, verb, lock, at, holds);
+    trace_lock(trace_thread(thread), is_own ? VERB_LOCK : VERB_UNLOCK, &lock->label, at);
 }
 
 void locks_end(uint32_t thread, uint64_t address, uint64_t at)
 {
-    const struct lock *lock = *place_of(address);
+    struct lock *lock = *place_of(address);
     if (lock)
         say_end(thread, "destroys", lock, at);
     locks_begin(address);
