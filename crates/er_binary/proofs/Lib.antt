@@ -1,6 +1,4 @@
-pub mod CallLemmas
 pub mod NodeLemmas
-pub mod NoteLemmas
 pub mod DecodedLaws
 pub mod HexLemmas
 pub mod LineLemmas

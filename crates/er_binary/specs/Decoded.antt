@@ -1,6 +1,6 @@
--- What a reader of a trace of any form still gives, and what it noted.
+-- What a reader of a trace of any form still gives.
 use Rattle.std.specs.Prelude.{◌≡◌, ℕ, List, [], ◌++◌, drop, take}
-use Rattle.er_binary.specs.Inner.Decoders.{still, told_of}
+use Rattle.er_binary.specs.Inner.Decoders.{still}
 use Rattle.er_binary.specs.Meaning.{meant}
 use Rattle.er_binary.specs.declared.decoded.Decoded.{Decoded}
 use Rattle.er_binary.specs.declared.decoded.Form.{Form}
@@ -24,10 +24,10 @@ to_come decoded bytes = let first = take decoded.held decoded.first in to_come_b
 abbrev pub IsFresh : {R : Type 0} → Decoded R → Type 0
 IsFresh decoded = (bytes : List ℕ) → to_come decoded bytes ≡ meant bytes
 
--- the names of the places of the calls that it has noted for a line, from the one next to its event outward
-abbrev pub told_by : Form → ℕ → List (List ℕ)
-told_by (form.Binary decoder) line = told_of decoder line
-told_by f line = []
+-- the names of the places so far
+abbrev pub places_by : Form → List (List ℕ)
+places_by (form.Binary decoder) = decoder.state.places
+places_by f = []
 
-abbrev pub calls_noted : {R : Type 0} → Decoded R → ℕ → List (List ℕ)
-calls_noted decoded line = told_by decoded.form line
+abbrev pub places_of : {R : Type 0} → Decoded R → List (List ℕ)
+places_of decoded = places_by decoded.form

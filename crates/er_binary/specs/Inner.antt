@@ -1,5 +1,4 @@
 -- What stands inside the decoder.
 pub mod Decoders
-pub mod Notes
 pub mod Spans
 pub mod Taking

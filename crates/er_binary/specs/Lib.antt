@@ -1,4 +1,3 @@
-pub mod Calls
 pub mod Nodes
 pub mod Numbers
 pub mod Records

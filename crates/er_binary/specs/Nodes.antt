@@ -1,5 +1,5 @@
 -- Nodes, and the calls that led to them.
-use Rattle.std.specs.Prelude.{ℕ, zero, suc, ◌-◌, ◌==◌, List, [], ◌∷◌, slice_index_or, if◌then◌else◌}
+use Rattle.std.specs.Prelude.{ℕ, zero, suc, ◌-◌, ◌==◌, List, [], ◌∷◌, Option, None, Some, slice_index_or, if◌then◌else◌}
 use Rattle.er_binary.specs.declared.nodes.Node.{Node}
 
 -- the node of a number from 1 on
@@ -11,6 +11,10 @@ unfoldable pub way_out : List Node → ℕ → ℕ → List ℕ
 way_out nodes zero n = []
 way_out nodes (suc k) n = if n == 0 then [] else (node_at nodes n).place ∷ way_out nodes k (node_at nodes n).caller
 
--- the places of the calls that led to a node, from the one behind the place that is shown outward, at most 64
-abbrev pub calls_to : List Node → ℕ → List ℕ
-calls_to nodes n = if n == 0 then [] else way_out nodes 64 (node_at nodes (node_at nodes n).shown).caller
+-- the place that is shown for a node; of node 0 there is none
+abbrev pub place_of : List Node → ℕ → Option ℕ
+place_of nodes n = if n == 0 then None else Some (node_at nodes (node_at nodes n).shown).place
+
+-- the place that is shown for a node, and those of the calls that led there, outward, of which there are at most 64
+abbrev pub way_to : List Node → ℕ → List ℕ
+way_to nodes n = if n == 0 then [] else way_out nodes 65 (node_at nodes n).shown

@@ -1,15 +1,32 @@
 //! A reader of the text that a trace of any form means.
-ghost use Rattle.std.specs.Prelude.{◌≡◌, ◌≢◌, ◌≤◌, ℕ, IfOk, OnOk, option_map};
+ghost use Rattle.std.specs.Prelude.{◌≡◌, ◌≢◌, ◌≤◌, OnOk, option_map};
 ghost use Rattle.std.specs.Io.{ReadsAtMost};
 ghost use Rattle.std.specs.Io.KnownBytes.{Keeps, ReadConsumes};
 
-use crate::calls::Calls;
 use crate::decoder::{Decoder, copy_front, fill};
+use crate::names::Names;
+use crate::state::State;
 use std::alloc::{AllocError, Global};
 use std::io;
 use std::io::Read;
 
 const MAGIC: [u8; 8] = *b"\xe5eraser\x04";
+
+/// Who hears the records of a binary trace.
+pub trait Listener {
+    /// Hears the bytes of a record, the text that it adds, and what is known behind it. After an error it may have missed the record.
+    fn hear(&mut self, bytes: &[u8], text: &[u8], state: &State) -> Result<(), AllocError>;
+}
+
+// Who hears nothing.
+#[derive(Drop)]
+struct Deaf;
+
+impl Listener for Deaf {
+    fn hear(&mut self, _bytes: &[u8], _text: &[u8], _state: &State) -> Result<(), AllocError> {
+        Ok(())
+    }
+}
 
 /// What a trace was found to be.
 #[derive(Drop)]
@@ -27,7 +44,6 @@ enum Form {
 pub struct Decoded<R> {
     inner: R,
     alloc: Global,
-    wanted: Vec<u64>,
     form: Form,
     // The first bytes, of which there are `held`. Of these `given` were given.
     first: [u8; 8],
@@ -45,18 +61,9 @@ impl<R> Decoded<R> {
         ensures source { source_of result ≡ inner }
         ensures fresh { IsFresh result }
     {
-        Decoded::noting(alloc, inner, Vec::new(alloc))
-    }
-
-    /// The same, which also notes the calls that led to the events on these lines of the text. The lines rise.
-    pub fn noting(alloc: Global, inner: R, lines: Vec<u64>) -> Decoded<R>
-        ensures source { source_of result ≡ inner }
-        ensures fresh { IsFresh result }
-    {
         Decoded {
             inner,
             alloc,
-            wanted: lines,
             form: Form::Unknown,
             first: [0; 8],
             held: 0,
@@ -71,17 +78,16 @@ impl<R> Decoded<R> {
 }
 
 impl<R: Drop> Decoded<R> {
-    ghost use Rattle.er_binary.specs.Calls.{calls_of};
-    ghost use Rattle.er_binary.specs.Decoded.{calls_noted};
+    ghost use Rattle.er_binary.specs.Decoded.{places_of};
 
-    /// The calls that led to the events on the wanted lines, as far as these were read. Of a text none are known.
-    pub fn into_calls(self) -> Result<Calls, AllocError>
-        ensures { IfOk result (λ c. (line : ℕ) → calls_of c line ≡ calls_noted self line) }
+    /// The names of the places so far. Of a text there are none.
+    pub fn into_places(self) -> Names
+        ensures { result ≡ places_of self }
     {
         let Decoded { alloc, form, .. } = self;
         match form {
-            Form::Binary(decoder) => decoder.into_calls(alloc),
-            _ => Ok(Calls::none(alloc)),
+            Form::Binary(decoder) => decoder.into_places(),
+            _ => Names::new(alloc),
         }
     }
 }
@@ -89,6 +95,22 @@ impl<R: Drop> Decoded<R> {
 impl<R: Read> Decoded<R> {
     ghost use Rattle.er_binary.specs.Decoded.{source_of, to_come};
     ghost use Rattle.er_binary.specs.declared.decoded.Form.TheVariants as form;
+
+    /// Reads as [`Read::read`] does. The listener hears each record whose text comes next.
+    pub fn read_with<L: Listener>(
+        &mut self,
+        buffer: &mut [u8],
+        listener: &mut L,
+    ) -> io::Result<usize>
+        ensures bound { ReadsAtMost result buffer.new }
+        ensures bytes { ReadConsumes (option_map (to_come self.old) (R.remaining (source_of self.old))) (option_map (to_come self.new) (R.remaining (source_of self.new))) result buffer.new }
+    {
+        self.begin()?;
+        match &mut self.form {
+            Form::Binary(decoder) => decoder.read(&mut self.inner, buffer, listener),
+            _ => self.read_text(buffer),
+        }
+    }
 
     // Reads the first bytes, if it hasn't yet, and finds out what they begin.
     fn begin(&mut self) -> io::Result<()>
@@ -104,7 +126,7 @@ impl<R: Read> Decoded<R> {
             self.form = Form::Text;
             return Ok(());
         }
-        self.form = Form::Binary(Decoder::new(self.alloc, &self.wanted)?);
+        self.form = Form::Binary(Decoder::new(self.alloc)?);
         Ok(())
     }
 
@@ -130,10 +152,6 @@ impl<R: Read> Read for Decoded<R> {
     ghost remaining = { λ decoded. option_map (to_come decoded) (R.remaining (source_of decoded)) };
 
     fn read(&mut self, buffer: &mut [u8]) -> io::Result<usize> {
-        self.begin()?;
-        match &mut self.form {
-            Form::Binary(decoder) => decoder.read(&mut self.inner, buffer),
-            _ => self.read_text(buffer),
-        }
+        self.read_with(buffer, &mut Deaf)
     }
 }

@@ -4,9 +4,8 @@ ghost use Rattle.std.specs.Io.{ReadsAtMost};
 ghost use Rattle.er_binary.specs.Meaning.{checksum, is_bad_len, last_line, mixed, past, spot_at};
 ghost use Rattle.std.specs.Io.KnownBytes.{IsAtEnd, Keeps, ReadConsumes, prepend_known};
 
-use crate::calls::Calls;
-use crate::names::{Put, number};
-use crate::notes::Notes;
+use crate::decoded::Listener;
+use crate::names::{Names, Put, number};
 use crate::state::State;
 use er_lines::put_number;
 use std::alloc::{AllocError, Global};
@@ -64,7 +63,6 @@ pub(crate) enum Phase {
 #[derive(Drop)]
 pub(crate) struct Decoder {
     state: State,
-    notes: Notes,
     spot: Spot,
     phase: Phase,
     // The first bytes of the block, of which `header_held` were read.
@@ -85,18 +83,16 @@ pub(crate) struct Decoder {
 }
 
 impl Decoder {
-    ghost use Rattle.er_binary.specs.Calls.{calls_of};
-    ghost use Rattle.er_binary.specs.Inner.Decoders.{IsGiven, left, still, told_of};
+    ghost use Rattle.er_binary.specs.Inner.Decoders.{IsGiven, left, still};
     ghost use Rattle.er_binary.specs.Meaning.{text_behind};
     ghost use Rattle.er_binary.specs.declared.decoder.Phase.TheVariants as phase;
 
-    /// A decoder behind the first 8 bytes of a trace, which notes the events on some lines.
-    pub(crate) fn new(alloc: Global, lines: &[u64]) -> Result<Decoder, AllocError>
+    /// A decoder behind the first 8 bytes of a trace.
+    pub(crate) fn new(alloc: Global) -> Result<Decoder, AllocError>
         ensures { IfOk result (λ d. (bytes : List ℕ) → still d bytes ≡ text_behind bytes) }
     {
         Ok(Decoder {
             state: State::new(alloc),
-            notes: Notes::of(alloc, lines)?,
             spot: Spot {
                 block: 0,
                 start: 8,
@@ -116,17 +112,21 @@ impl Decoder {
         })
     }
 
-    /// The calls that led to the events on the wanted lines that were made.
-    pub(crate) fn into_calls(self, alloc: Global) -> Result<Calls, AllocError>
-        ensures { IfOk result (λ c. (line : ℕ) → calls_of c line ≡ told_of self line) }
+    /// The names of the places so far.
+    pub(crate) fn into_places(self) -> Names
+        ensures { result ≡ self.state.places }
     {
-        let by_line = self.notes.calls(alloc, &self.state.nodes)?;
-        let names = self.state.places;
-        Ok(Calls { by_line, names })
+        let State { places, .. } = self.state;
+        places
     }
 
     /// Gives text, and reads on where it must. No byte means that the text ended, or that the buffer has no room.
-    pub(crate) fn read<R: Read>(&mut self, reader: &mut R, buffer: &mut [u8]) -> io::Result<usize>
+    pub(crate) fn read<R: Read, L: Listener>(
+        &mut self,
+        reader: &mut R,
+        buffer: &mut [u8],
+        listener: &mut L,
+    ) -> io::Result<usize>
         ensures bound { ReadsAtMost result buffer.new }
         ensures bytes { ReadConsumes (option_map (still self.old) (R.remaining reader.old)) (option_map (still self.new) (R.remaining reader.new)) result buffer.new }
     {
@@ -134,7 +134,7 @@ impl Decoder {
             return Ok(0);
         }
         for _ in 0..u64::MAX {
-            let count = self.give_all(buffer)?;
+            let count = self.give_all(buffer, listener)?;
             if count > 0 {
                 return Ok(count);
             }
@@ -149,7 +149,7 @@ impl Decoder {
     }
 
     // Gives the text of the block, as far as the buffer has room.
-    fn give_all(&mut self, buffer: &mut [u8]) -> io::Result<usize>
+    fn give_all<L: Listener>(&mut self, buffer: &mut [u8], listener: &mut L) -> io::Result<usize>
         ensures bound { IfOk result (λ n. n ≤ length buffer.new) }
         ensures gives { IfOk result (λ n. (rest : List ℕ) → still self.old rest ≡ take n buffer.new ++ still self.new rest) }
         ensures given { IfOk result (λ n. n ≡ 0 → 0 < length buffer.new → IsGiven self.new) }
@@ -157,7 +157,7 @@ impl Decoder {
     {
         let mut count = self.give(buffer);
         while count < buffer.len() && self.phase == Phase::Record {
-            if let Err(refused) = self.next_record() {
+            if let Err(refused) = self.next_record(listener) {
                 return if count > 0 { Ok(count) } else { Err(refused) };
             }
             count += self.give(&mut buffer[count..]);
@@ -181,7 +181,7 @@ impl Decoder {
     }
 
     // Makes the text of the next record, or ends the block.
-    fn next_record(&mut self) -> io::Result<()>
+    fn next_record<L: Listener>(&mut self, listener: &mut L) -> io::Result<()>
         requires phase { self.old.phase ≡ phase.Record }
         requires given { IsGiven self.old }
         ensures same { (rest : List ℕ) → still self.old rest ≡ still self.new rest }
@@ -197,8 +197,10 @@ impl Decoder {
             Ok(Some(len)) => {
                 self.next += len;
                 self.spot = self.spot.past(len as u64);
-                self.notes.meet(&self.text, self.state.node);
-                Ok(())
+                let (bytes, _) = rest.split_at(len);
+                listener
+                    .hear(bytes, &self.text, &self.state)
+                    .map_err(io::Error::from)
             }
             Ok(None) => self.stop(b"damaged", self.spot.at),
             Err(refused) => {

@@ -4,7 +4,8 @@
 //! its bytes mean. Bytes that don't begin as a binary trace does mean themselves, and go through as they are.
 //!
 //! What it promises, by the names of clauses: what a new `Decoded` gives is the text that the bytes of its reader mean (`fresh`), in whatever
-//! pieces they come and it is asked for. The text of a damaged trace ends in a line that says at which byte the damage is.
+//! pieces they come and it is asked for. The text of a damaged trace ends in a line that says at which byte the damage is. A [`Listener`] hears the
+//! records that the text is made of.
 //!
 //! ```
 //! let mut reader = Decoded::new(alloc, b"eraser trace 1\n".as_slice());
@@ -14,15 +15,15 @@
 //! ```
 #![tactic(auto)]
 
-pub use calls::Calls;
-pub use decoded::Decoded;
+pub use decoded::{Decoded, Listener};
+pub use names::{Names, number};
+pub use records::{Access, Head, Kind, Record, record_at};
+pub use state::State;
 
-mod calls;
 mod decoded;
 mod decoder;
 mod names;
 mod nodes;
-mod notes;
 mod records;
 mod state;
 mod text;

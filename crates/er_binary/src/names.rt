@@ -18,7 +18,7 @@ pub(crate) struct Span {
 
 /// Names, numbered from 0.
 #[derive(Drop)]
-pub(crate) struct Names {
+pub struct Names {
     bytes: Vec<u8>,
     spans: Vec<Span>,
 }
@@ -36,7 +36,8 @@ impl Model for Names {
 }
 
 impl Names {
-    pub(crate) fn new(alloc: Global) -> Names
+    /// No name.
+    pub fn new(alloc: Global) -> Names
         ensures { result ≡ [] }
     {
         Names {
@@ -45,14 +46,15 @@ impl Names {
         }
     }
 
-    pub(crate) fn len(&self) -> u64
+    /// How many there are.
+    pub fn len(&self) -> u64
         ensures { result ≡ length self.now }
     {
         self.spans.len() as u64
     }
 
     /// The name of a number, and no bytes if it has none.
-    pub(crate) fn get(&self, n: u64) -> &[u8]
+    pub fn get(&self, n: u64) -> &[u8]
         ensures { result.now ≡ name_at self.now n }
     {
         match self.spans.get(n as usize) {
@@ -75,7 +77,7 @@ impl Names {
 }
 
 /// The number that bytes write, the lowest first.
-pub(crate) fn number(bytes: &[u8]) -> u64
+pub fn number(bytes: &[u8]) -> u64
     requires { length bytes.now ≤ 8 }
     ensures value { result ≡ number bytes.now }
     ensures bound { result < 256 ^ length bytes.now }

@@ -1,13 +1,13 @@
 //! Nodes: places, and the calls that led to them.
 ghost use Rattle.std.specs.Prelude.{◌≡◌, ◌++◌, [], ◌∷◌, IfOk, OnOk, OnErr, length};
-ghost use Rattle.er_binary.specs.Nodes.{calls_to, node_at, way_out};
+ghost use Rattle.er_binary.specs.Nodes.{node_at, place_of, way_out, way_to};
 
 use crate::names::Put;
 use std::alloc::{AllocError, Global};
 use std::marker::Model;
 
-// The most calls that are told of an event.
-const MOST_CALLS: u32 = 64;
+// The most places that are told of an event: its own, and those of 64 calls.
+const MOST_PLACES: u32 = 65;
 
 /// A place, the node of the call that it is in or 0, and the node whose place is shown for this one.
 #[derive(Clone, Copy)]
@@ -25,7 +25,7 @@ const NO_NODE: Node = Node {
 
 /// Nodes, numbered from 1.
 #[derive(Drop)]
-pub(crate) struct Nodes {
+pub struct Nodes {
     items: Vec<Node>,
 }
 
@@ -47,7 +47,8 @@ impl Nodes {
         }
     }
 
-    pub(crate) fn len(&self) -> u64
+    /// How many there are.
+    pub fn len(&self) -> u64
         ensures { result ≡ length self.now }
     {
         self.items.len() as u64
@@ -71,14 +72,23 @@ impl Nodes {
         Ok(())
     }
 
-    /// The places of the calls that led to a node, from the one behind the place that is shown outward.
-    pub(crate) fn calls_to(&self, alloc: Global, node: u64) -> Result<Vec<u32>, AllocError>
-        ensures { IfOk result (λ places. places.items ≡ calls_to self.now node) }
+    /// The place that is shown for a node. Of node 0 there is none.
+    pub fn place_of(&self, node: u64) -> Option<u32>
+        ensures { result ≡ place_of self.now node }
+    {
+        if node == 0 {
+            return None;
+        }
+        Some(self.get(self.get(node).shown).place)
+    }
+
+    /// The place that is shown for a node, and those of the calls that led there, outward.
+    pub fn way_to(&self, alloc: Global, node: u64) -> Result<Vec<u32>, AllocError>
+        ensures { IfOk result (λ places. places.items ≡ way_to self.now node) }
     {
         let mut places = Vec::new(alloc);
         if node != 0 {
-            let shown = self.get(self.get(node).shown);
-            put_way(&mut places, self, MOST_CALLS, shown.caller)?;
+            put_way(&mut places, self, MOST_PLACES, self.get(node).shown)?;
         }
         Ok(places)
     }

@@ -12,32 +12,32 @@ pub(crate) const ADDRESS_END: u64 = 1 << 48;
 /// What a record is of, if it isn't an access.
 #[rattlefmt::skip]
 #[derive(Clone, Copy)]
-pub(crate) enum Kind {
+pub enum Kind {
     Thread, Node, Lock, Unlock, ReadLock, ReadUnlock, FailedTry, Signal, Await, Start, Join, IgnoreOn,
     IgnoreOff, Reuse, Show, Level, Flow, ThreadName, LockName, Place, NewNode, Note, Fact, Lost, End,
 }
 
 /// An access: how many bytes, how far from the last address modulo 2^48, and its node if that is another than before.
 #[derive(Clone, Copy)]
-pub(crate) struct Access {
-    pub(crate) writes: bool,
-    pub(crate) size: u64,
-    pub(crate) distance: u64,
-    pub(crate) node: Option<u64>,
+pub struct Access {
+    pub writes: bool,
+    pub size: u64,
+    pub distance: u64,
+    pub node: Option<u64>,
 }
 
 /// A record: an access, or a kind and its number.
 #[derive(Clone, Copy)]
-pub(crate) enum Record {
+pub enum Record {
     Access(Access),
     Other(Kind, u64),
 }
 
 /// What a record says, and how many bytes say it.
 #[derive(Clone, Copy)]
-pub(crate) struct Head {
-    pub(crate) says: Record,
-    pub(crate) len: usize,
+pub struct Head {
+    pub says: Record,
+    pub len: usize,
 }
 
 // The kinds, by their numbers.
@@ -57,7 +57,7 @@ static NODES: [usize; 4] = [0, 1, 2, 4];
 static SPANS: [u64; 4] = [1 << 8, 1 << 16, 1 << 32, 1 << 48];
 
 /// The record at the front. None if there is none, or it isn't whole.
-pub(crate) fn record_at(bytes: &[u8]) -> Option<Head>
+pub fn record_at(bytes: &[u8]) -> Option<Head>
     ensures value { result ≡ record_at bytes.now }
     ensures within { IfSome result (λ head. (1 ≤ head.len) × (head.len ≤ length bytes.now)) }
     ensures sized { IfSome result (λ head. IsSized head.says) }

@@ -21,13 +21,17 @@ const MOST: u64 = 1 << 30;
 
 /// The names and nodes so far, what the next access goes on from, and what was counted.
 #[derive(Drop)]
-pub(crate) struct State {
-    pub(crate) threads: Names,
+pub struct State {
+    /// The names of threads.
+    pub threads: Names,
     pub(crate) locks: Names,
-    pub(crate) places: Names,
-    pub(crate) nodes: Nodes,
+    /// Places.
+    pub places: Names,
+    /// Nodes.
+    pub nodes: Nodes,
     pub(crate) thread: Option<u64>,
-    pub(crate) node: u64,
+    /// The node of the last event, or 0.
+    pub node: u64,
     pub(crate) last: [u64; 256],
     pub(crate) events: u64,
     pub(crate) lost: u64,
@@ -64,6 +68,11 @@ impl State {
         ensures { result ≡ slot self.now }
     {
         (self.thread.unwrap_or(0) % 256) as usize
+    }
+
+    /// The word in which the thread's last access began.
+    pub fn last_word(&self) -> u64 {
+        self.last[self.slot()] / 4
     }
 
     /// The address of an access.

@@ -3,7 +3,7 @@ use Rattle.std.proofs.Common.{◌≡◌, ℕ, Bool, false, List, [], ◌++◌, l
 use Rattle.std.specs.List.{All}
 use Rattle.std.proofs.lemmas.List.{length-append}
 use Rattle.std.proofs.lemmas.List.Elements.{All-append, All-nil}
-use Rattle.er_binary.specs.Calls.{CallTable}
+use Rattle.er_places.specs.Facts.{FactTable}
 use Rattle.er_event.specs.declared.steps.Step.{Step}
 use Rattle.er_places.proofs.FrontLemmas.{in-front}
 use Rattle.er_places.proofs.NameLemmas.{all-named, are-named}
@@ -51,35 +51,35 @@ module _ (wants : ℕ → Bool) (told : Option (List ℕ)) (old new : Reached) (
         stands = stands;
       }
 
-  abbrev found : CallTable → PlaceTable
-  found calls = record { places = after_it.places; names = u.names; calls = calls }
+  abbrev found : FactTable → PlaceTable
+  found facts = record { places = after_it.places; names = u.names; facts = facts }
 
   names_kept : KeepsNames u.names u.names
   names_kept = record { threads = λ n name is. is; locks = λ n name is. is; sites = λ n name is. is }
 
   -- the last batch has the rest of the text's steps
-  whole : batch ≡ End → new.place.limit ≡ old.place.limit → (calls : CallTable) (o : Option (List ℕ)) → IfSome o (λ text. HasRead text state.past state.lines state.sites old known t)
-      → IfSome o (λ text. ArePlaces wants text old.place.limit (found calls))
-  whole is limit calls None read = tt
-  whole is limit calls (Some text) read = λ r trace.
+  whole : batch ≡ End → new.place.limit ≡ old.place.limit → (facts : FactTable) (o : Option (List ℕ)) → IfSome o (λ text. HasRead text state.past state.lines state.sites old known t)
+      → IfSome o (λ text. ArePlaces wants text old.place.limit (found facts))
+  whole is limit facts None read = tt
+  whole is limit facts (Some text) read = λ r trace.
       let here : IsTrace text old.place.limit (joined state.past state.lines state.sites u) =
       subst (λ (n : ℕ). IsTrace text n (joined state.past state.lines state.sites u)) limit
       (subst (λ (b : Batch). GivesBatch text state.past state.lines state.sites new rest u (Ok b)) is (gives text state.past state.lines state.sites read)) in
-      subst (λ (x : Recording). HasPlaces wants x (found calls)) (same_trace text old.place.limit (joined state.past state.lines state.sites u) r here trace)
+      subst (λ (x : Recording). HasPlaces wants x (found facts)) (same_trace text old.place.limit (joined state.past state.lines state.sites u) r here trace)
       (record { places = stands.places; names = names_kept })
 
   pub come-whole : batch ≡ End → new.place.limit ≡ old.place.limit → HasEnded wants told old.place.limit u after_it
   come-whole is limit =
       record {
         named = are-named u.names (state.past ++ u.steps) (state.lines ++ u.lines) all wants after_it stands;
-        found = λ calls. whole is limit calls told state.read;
+        found = λ facts. whole is limit facts told state.read;
       }
 
   -- and where each wanted line has its place, later batches change nothing
-  enough : batch ≡ More → new.place.limit ≡ old.place.limit → HasAll wants after_it.places → (calls : CallTable) (o : Option (List ℕ)) → IfSome o (λ text. HasRead text state.past state.lines state.sites old known t)
-      → IfSome o (λ text. ArePlaces wants text old.place.limit (found calls))
-  enough is limit has calls None read = tt
-  enough is limit has calls (Some text) read = λ r trace.
+  enough : batch ≡ More → new.place.limit ≡ old.place.limit → HasAll wants after_it.places → (facts : FactTable) (o : Option (List ℕ)) → IfSome o (λ text. HasRead text state.past state.lines state.sites old known t)
+      → IfSome o (λ text. ArePlaces wants text old.place.limit (found facts))
+  enough is limit has facts None read = tt
+  enough is limit has facts (Some text) read = λ r trace.
       let so_far : HasRead text state.past state.lines state.sites new rest u = subst (λ (b : Batch). GivesBatch text state.past state.lines state.sites new rest u (Ok b)) is (gives text state.past state.lines state.sites read) in
       let grows : Grows (joined state.past state.lines state.sites u) r = in-front text state.past state.lines state.sites new rest u r so_far (subst (λ (n : ℕ). IsTrace text n r) (sym limit) trace) in
       let even : length state.lines ≡ length state.past = state.even in
@@ -96,7 +96,7 @@ module _ (wants : ℕ → Bool) (told : Option (List ℕ)) (old new : Reached) (
   come-enough is limit has =
       record {
         named = are-named u.names (state.past ++ u.steps) (state.lines ++ u.lines) all wants after_it stands;
-        found = λ calls. enough is limit has calls told state.read;
+        found = λ facts. enough is limit has facts told state.read;
       }
 
 -- before the first batch
@@ -114,7 +114,7 @@ come-start wants reader trace seen empty starts stands told =
 pub places-found : (wants : ℕ → Bool) (told : Option (List ℕ)) (limit : ℕ) (trace : Recording) (seen : Followed) (table : PlaceTable) → HasEnded wants told limit trace seen
     → table.places ≡ seen.places → table.names ≡ trace.names → IfSome told (λ text. ArePlaces wants text limit table)
 places-found wants told limit trace seen table ended places names =
-    subst (λ (x : PlaceTable). IfSome told (λ text. ArePlaces wants text limit x)) (sym (λ i. record { places = places i; names = names i; calls = table.calls })) (ended.found table.calls)
+    subst (λ (x : PlaceTable). IfSome told (λ text. ArePlaces wants text limit x)) (sym (λ i. record { places = places i; names = names i; facts = table.facts })) (ended.found table.facts)
 
 -- where nothing is asked, no place is one too many
 named_none : (names : NameTable) → KeepsNames no_names names

@@ -1,3 +1,5 @@
+pub mod Facts
+pub mod Names
 pub mod Places
 pub mod Wanted
 pub mod Reasons

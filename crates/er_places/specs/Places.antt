@@ -1,12 +1,12 @@
 -- Where the accesses of a recording stood, by the definitions of the whole list of its steps.
-use Rattle.std.specs.Prelude.{◌≡◌, ℕ, zero, suc, ◌≤◌, ◌==◌, nat_eq, Bool, cond, List, [], slice_get, slice_index, length, Option, Some, None, IfSome, Err}
+use Rattle.std.specs.Prelude.{◌≡◌, ℕ, zero, suc, ◌≤◌, ◌==◌, nat_eq, Bool, cond, List, [], drop, slice_get, slice_index, length, Option, Some, None, IfSome, Err}
 use Rattle.std.specs.Map.{lookup}
-use Rattle.er_binary.specs.Calls.{CallTable, numbers_of}
 use Rattle.er_binary.specs.Numbers.{name_at}
 use Rattle.er_event.specs.declared.steps.Event.{Event}
 use Rattle.er_event.specs.declared.steps.Event.TheVariants.{Access}
 use Rattle.er_event.specs.declared.steps.Step.{Step}
 use Rattle.er_model.specs.Holdings.{Holdings, holdings_at}
+use Rattle.er_places.specs.Facts.{FactTable, way_on}
 use Rattle.er_places.specs.declared.places.Place.{Place}
 use Rattle.er_report.specs.Names.{HasLockNames}
 use Rattle.er_text.specs.Named.{KeepsNames}
@@ -41,11 +41,11 @@ place_below steps lines line (suc n) =
 abbrev pub place_on : Recording → ℕ → Option Place
 place_on r line = place_below r.steps r.lines line (length r.steps)
 
--- places by line, the names of their numbers, and the calls that led to lines
+-- places by line, the names of their numbers, and what is known of the program
 pub record PlaceTable : Type 0 where
   pub places : List (ℕ × Place)
   pub names : NameTable
-  pub calls : CallTable
+  pub facts : FactTable
 
 abbrev pub place_in : List (ℕ × Place) → ℕ → Option Place
 place_in places line = lookup (nat_eq line) places
@@ -54,14 +54,18 @@ place_in places line = lookup (nat_eq line) places
 abbrev pub place_at : PlaceTable → ℕ → Option Place
 place_at table line = place_in table.places line
 
--- the calls that led to the access at a place, innermost first, as numbers; of a place that isn't known there are none
+-- the place of the access that stood at a place, and of the calls that led there, innermost first, as numbers; of a place that isn't known there are none
+abbrev pub way_of : PlaceTable → Option Place → List ℕ
+way_of table None = []
+way_of table (Some place) = way_on table.facts place.line
+
+-- the calls alone
 abbrev pub calls_of : PlaceTable → Option Place → List ℕ
-calls_of table None = []
-calls_of table (Some place) = numbers_of table.calls place.line
+calls_of table place = drop 1 (way_of table place)
 
 -- where the call of a number stands
 abbrev pub call_name : PlaceTable → ℕ → List ℕ
-call_name table call = name_at table.calls.names call
+call_name table call = name_at table.facts.places call
 
 -- the site and each lock of a place have a name; site 0 needs none
 pub record HasPlaceNames (names : NameTable) (place : Place) : Type 0 where

@@ -8,10 +8,9 @@ ghost use Rattle.er_lines.specs.Lines.{bytes_past_limit};
 ghost use Rattle.er_lines.specs.Faults.{HasFailedBy};
 ghost use Rattle.er_lines.specs.Lending.{taken_by};
 
-use crate::Places;
 use crate::follower::Follower;
 use crate::wanted::Wanted;
-use er_binary::Calls;
+use crate::{Facts, Places};
 use er_device::Device;
 use er_report::Reports;
 use er_text::{Batch, ReadFault, TraceReader};
@@ -88,16 +87,18 @@ impl Finder {
     }
 }
 
-/// The lines of a trace whose accesses [`places_of_reports`] looks for, rising. It hashes numbers by these keys.
-pub fn lines_of_reports(
+/// What is asked of a trace for these reports: of the lines whose accesses [`places_of_reports`] looks for, and of the words of the races on them. It
+/// hashes numbers by these keys.
+pub fn facts_of_reports(
     alloc: Global,
     keys: NameKeys,
     reports: &Reports,
-) -> Result<Vec<u64>, AllocError>
-    ensures asked { IfOk result (λ lines. (line : ℕ) → is_wanted lines.items line ≡ are_asked reports.now line) }
-    ensures rising { IfOk result (λ lines. IsSorted nat_cmp lines.items) }
+) -> Result<Facts, AllocError>
+    ensures asked { IfOk result (λ facts. (line : ℕ) → is_wanted facts.wanted.items line ≡ are_asked reports.now line) }
+    ensures rising { IfOk result (λ facts. IsSorted nat_cmp facts.wanted.items) }
+    ensures words { IfOk result (λ facts. IsSorted nat_cmp facts.words.items) }
 {
-    Wanted::of_reports(alloc, keys, reports)?.to_lines(alloc)
+    Wanted::of_reports(alloc, keys, reports)?.to_facts(alloc)
 }
 
 /// Reads a trace text of at most `byte_limit` bytes once more, and returns the places of the accesses that the reasons of each report's first races
@@ -125,7 +126,7 @@ pub fn places_of_reports<D: Read>(
         Ok(()) => Ok(Places::of(
             finder.follower.into_places(),
             finder.trace,
-            Calls::none(alloc),
+            Facts::asked(alloc, Vec::new(alloc), Vec::new(alloc)),
         )),
         Err(why) => Err(why),
     }

@@ -1,11 +1,13 @@
 //! Where accesses stood: `Place`, and `Places` by line.
-ghost use Rattle.std.specs.Prelude.{◌≡◌, ℕ, None, Some, option_copied, IfSome};
+ghost use Rattle.std.specs.Prelude.{◌≡◌, ℕ, None, Some, true, option_copied, IfSome};
 ghost use Rattle.er_places.specs.Inner.Following.{AreNamed};
+ghost use Rattle.er_places.specs.Facts.{table_of};
+ghost use Rattle.er_places.specs.Names.{block_of, call_function, function_of, has_word, start_of, variable_of, way_of};
 ghost use Rattle.er_places.specs.Places.{HasPlaceNames, call_name, calls_of, no_names, place_at};
 ghost use Rattle.er_places.specs.Reasons.{access_place, fits, race_place, reason_place};
 
-use er_binary::Calls;
-use er_event::{Kind, Lockset, Site, ThreadId};
+use crate::facts::{Block, Facts, Start, Variable};
+use er_event::{Kind, Lockset, Site, ThreadId, Word};
 use er_keys::{HashKeys, NumberHasher};
 use er_report::{Because, Deed, Race};
 use er_trace::{Names, Trace};
@@ -30,21 +32,22 @@ pub struct Place {
     pub write_held: Lockset,
 }
 
-/// The places of some accesses, by the line of each, and the names of their numbers. Of a binary trace also the calls that led there.
+/// The places of some accesses, by the line of each, and the names of their numbers. Of a binary trace also what it says of the program.
 #[derive(Drop)]
 pub struct Places {
     by_line: HashMap<u64, Place, NumberHasher>,
     trace: Trace,
-    calls: Calls,
+    facts: Facts,
 }
 
 impl Model for Places {
+    ghost use Rattle.er_places.specs.Facts.{table_of};
     ghost use Rattle.er_places.specs.Places.{PlaceTable};
     ghost use Rattle.er_places.specs.Inner.Following.{AreNamed};
 
     ghost Value = { PlaceTable };
 
-    ghost view = { λ p. record { places = p.by_line.entries; names = p.trace.names; calls = p.calls } };
+    ghost view = { λ p. record { places = p.by_line.entries; names = p.trace.names; facts = table_of p.facts } };
 
     ghost invariant = { λ p. AreNamed p.trace.names p.by_line.entries };
 }
@@ -58,29 +61,29 @@ impl Places {
         Places {
             by_line: HashMap::with_hasher(alloc, NumberHasher::new(HashKeys::KNOWN)),
             trace: Trace::new(alloc),
-            calls: Calls::none(alloc),
+            facts: Facts::asked(alloc, Vec::new(alloc), Vec::new(alloc)),
         }
     }
 
-    /// These places, under the names of a trace, and with these calls.
-    pub(crate) fn of(by_line: HashMap<u64, Place, NumberHasher>, trace: Trace, calls: Calls) -> Self
+    /// These places, under the names of a trace, and with these facts.
+    pub(crate) fn of(by_line: HashMap<u64, Place, NumberHasher>, trace: Trace, facts: Facts) -> Self
         requires { AreNamed trace.names by_line.entries }
         ensures places { result.places ≡ by_line.entries }
         ensures names { result.names ≡ trace.names }
-        ensures calls { result.calls ≡ calls }
+        ensures facts { result.facts ≡ table_of facts }
     {
         Places {
             by_line,
             trace,
-            calls,
+            facts,
         }
     }
 
-    /// The same places, with these calls in place of those that were known.
-    pub fn with_calls(mut self, calls: Calls) -> Self
-        ensures { result ≡ record self { calls = calls } }
+    /// The same places, with these facts in place of those that were known.
+    pub fn with_facts(mut self, facts: Facts) -> Self
+        ensures { result ≡ record self { facts = table_of facts } }
     {
-        self.calls = calls;
+        self.facts = facts;
         self
     }
 
@@ -88,8 +91,31 @@ impl Places {
     pub fn calls_of(&self, place: Option<&Place>) -> &[u32]
         ensures { result.now ≡ calls_of self.now (option_copied place.entry) }
     {
-        match place {
-            Some(place) => self.calls.of(place.line),
+        match self.way_of(place) {
+            [_, calls @ ..] => calls,
+            [] => &[],
+        }
+    }
+
+    /// The name of the function that a place is in, and no bytes if it isn't known.
+    pub fn function_of(&self, place: Option<&Place>) -> &[u8]
+        ensures { result.now ≡ function_of self.now (option_copied place.entry) }
+    {
+        match self.way_of(place) {
+            [own, ..] => self.call_function(*own),
+            [] => &[],
+        }
+    }
+
+    // The place of the access that stood at a place, and those of the calls that led there.
+    fn way_of(&self, place: Option<&Place>) -> &[u32]
+        ensures { result.now ≡ way_of self.now (option_copied place.entry) }
+    {
+        let Some(place) = place else {
+            return &[];
+        };
+        match self.facts.ways.get(&place.line) {
+            Some(way) => way.as_slice(),
             None => &[],
         }
     }
@@ -98,7 +124,46 @@ impl Places {
     pub fn call_name(&self, call: u32) -> &[u8]
         ensures { result.now ≡ call_name self.now call }
     {
-        self.calls.place(call)
+        self.facts.places.get(u64::from(call))
+    }
+
+    /// The name of the function that the call of a number is in, and no bytes if it isn't known.
+    pub fn call_function(&self, call: u32) -> &[u8]
+        ensures { result.now ≡ call_function self.now call }
+    {
+        match self.facts.functions.get(&u64::from(call)) {
+            Some(name) => name.as_slice(),
+            None => &[],
+        }
+    }
+
+    /// The variable that has a word, if that is known.
+    pub fn variable_of(&self, word: Word) -> Option<&Variable>
+        ensures value { option_copied result ≡ variable_of self.now word }
+        ensures has { IfSome (option_copied result) (λ variable. has_word variable.extent word ≡ true) }
+    {
+        match self.facts.variables.get(&word.number()) {
+            Some(variable) if variable.extent.has_word(word.number()) => Some(variable),
+            _ => None,
+        }
+    }
+
+    /// The block of memory that the access on a line touched in a word, if that is known.
+    pub fn block_of(&self, line: u64, word: Word) -> Option<&Block>
+        ensures value { option_copied result ≡ block_of self.now line word }
+        ensures has { IfSome (option_copied result) (λ block. has_word block.extent word ≡ true) }
+    {
+        match self.facts.blocks.get(&line) {
+            Some(block) if block.extent.has_word(word.number()) => Some(block),
+            _ => None,
+        }
+    }
+
+    /// How the thread of a name began, if that is known.
+    pub fn start_of(&self, thread: &[u8]) -> Option<&Start>
+        ensures { option_copied result ≡ start_of self.now thread.now }
+    {
+        self.facts.threads.get(thread)
     }
 
     /// The names of the numbers in the places.

@@ -7,7 +7,7 @@ ghost use Rattle.er_places.specs.Inner.Sites.{has_site, site_key};
 ghost use Rattle.er_places.specs.Places.{place_in};
 ghost use Rattle.er_places.specs.Wanted.{are_asked, asked_in, asks_unless, is_asked, is_race_at, is_wanted, name_line};
 
-use crate::Place;
+use crate::{Facts, Place};
 use er_event::{Kind, Site};
 use er_keys::{HashKeys, NumberHasher};
 use er_report::{Because, Line, Report, Reports};
@@ -17,10 +17,11 @@ use std::marker::Model;
 
 pub(crate) type Put = Result<(), AllocError>;
 
-/// The lines whose accesses are wanted.
+/// The lines whose accesses are wanted, and the numbers of the words of the races on them.
 #[derive(Drop)]
 pub(crate) struct Wanted {
     lines: HashSet<u64, NumberHasher>,
+    words: HashSet<u64, NumberHasher>,
 }
 
 impl Model for Wanted {
@@ -43,20 +44,22 @@ impl Wanted {
     {
         let mut wanted = Wanted {
             lines: HashSet::with_hasher(alloc, NumberHasher::new(keys)),
+            words: HashSet::with_hasher(alloc, NumberHasher::new(keys)),
         };
         wanted.add_report(alloc, &reports.lockset)?;
         wanted.add_report(alloc, &reports.unordered)?;
         Ok(wanted)
     }
 
-    /// The lines, rising.
-    pub(crate) fn to_lines(&self, alloc: Global) -> Result<Vec<u64>, AllocError>
-        ensures lines { IfOk result (λ lines. (line : ℕ) → is_wanted lines.items line ≡ is_wanted self.now line) }
-        ensures rising { IfOk result (λ lines. IsSorted nat_cmp lines.items) }
+    /// What is asked of these lines and words.
+    pub(crate) fn to_facts(&self, alloc: Global) -> Result<Facts, AllocError>
+        ensures lines { IfOk result (λ facts. (line : ℕ) → is_wanted facts.wanted.items line ≡ is_wanted self.now line) }
+        ensures rising { IfOk result (λ facts. IsSorted nat_cmp facts.wanted.items) }
+        ensures words { IfOk result (λ facts. IsSorted nat_cmp facts.words.items) }
     {
-        let mut lines: Vec<u64> = self.lines.iter().copied().collect(alloc)?;
-        lines.sort_unstable();
-        Ok(lines)
+        let lines = to_rising(alloc, &self.lines)?;
+        let words = to_rising(alloc, &self.words)?;
+        Ok(Facts::asked(alloc, lines, words))
     }
 
     /// Whether no line is wanted.
@@ -109,10 +112,12 @@ impl Wanted {
                 line,
                 site,
                 kind,
+                word,
                 explained,
                 ..
             } => {
                 if sites.insert(site_key(*site, *kind))? {
+                    self.words.insert(word.number())?;
                     self.lines.insert(*line)?;
                     return self.add_lines(explained);
                 }
@@ -131,6 +136,15 @@ impl Wanted {
         }
         Ok(())
     }
+}
+
+fn to_rising(alloc: Global, set: &HashSet<u64, NumberHasher>) -> Result<Vec<u64>, AllocError>
+    ensures same { IfOk result (λ rising. (n : ℕ) → is_wanted rising.items n ≡ is_wanted set.now.keys n) }
+    ensures rising { IfOk result (λ rising. IsSorted nat_cmp rising.items) }
+{
+    let mut rising: Vec<u64> = set.iter().copied().collect(alloc)?;
+    rising.sort_unstable();
+    Ok(rising)
 }
 
 // The number of the races of a kind at a site.

@@ -1,7 +1,6 @@
 -- What a decoder still gives.
-use Rattle.std.specs.Prelude.{ℕ, ◌+◌, ◌-◌, ◌≤◌, List, [], ◌++◌, drop, take, length, map, vec_items, vec_len}
-use Rattle.er_binary.specs.Inner.Notes.{noted_calls}
-use Rattle.er_binary.specs.Numbers.{name_at, plus}
+use Rattle.std.specs.Prelude.{ℕ, ◌+◌, ◌-◌, ◌≤◌, List, [], ◌++◌, drop, take, length, vec_items, vec_len}
+use Rattle.er_binary.specs.Numbers.{plus}
 use Rattle.er_binary.specs.Meaning.{blocks, content, records}
 use Rattle.er_binary.specs.declared.decoder.Spot.{Spot}
 use Rattle.er_binary.specs.declared.decoder.Decoder.{Decoder}
@@ -45,7 +44,3 @@ IsGiven d = vec_len d.text ≤ d.given
 abbrev pub left : Phase → Decoder → ℕ
 left phase.Record d = vec_len d.bytes - d.next + 1
 left p d = 0
-
--- the names of the places of the calls that are noted for a line
-abbrev pub told_of : Decoder → ℕ → List (List ℕ)
-told_of d line = map (λ n. name_at d.state.places n) (noted_calls d.state.nodes [] (vec_items d.notes.notes) line)

@@ -1,6 +1,6 @@
 -- What a pass over steps keeps, and the steps that it stands for.
 use Rattle.std.specs.Prelude.{◌≡◌, ℕ, ◌==◌, ◌&&◌, Bool, true, cond, List, length, Option, None, All, IfSome, IsSome}
-use Rattle.er_binary.specs.Calls.{CallTable}
+use Rattle.er_places.specs.Facts.{FactTable}
 use Rattle.er_event.specs.declared.steps.Step.{Step}
 pub use Rattle.er_held.specs.ThreadLocks.{held_by}
 use Rattle.er_model.specs.Holdings.{Holdings, after_step, holdings_end}
@@ -44,10 +44,10 @@ pub record HasCome (wants : ℕ → Bool) (told known : Option (List ℕ)) (read
 abbrev pub AreNamed : NameTable → List (ℕ × Place) → Type 0
 AreNamed names places = (line : ℕ) → IfSome (place_in places line) (HasPlaceNames names)
 
--- behind the last batch, and once each wanted line has its place: no more can be found in the text, if that is known, whatever is known of calls
+-- behind the last batch, and once each wanted line has its place: no more can be found in the text, if that is known, whatever is known of the program
 pub record HasEnded (wants : ℕ → Bool) (told : Option (List ℕ)) (limit : ℕ) (trace : Recording) (seen : Followed) : Type 0 where
   pub named : AreNamed trace.names seen.places
-  pub found : (calls : CallTable) → IfSome told (λ text. ArePlaces wants text limit (record { places = seen.places; names = trace.names; calls = calls }))
+  pub found : (facts : FactTable) → IfSome told (λ text. ArePlaces wants text limit (record { places = seen.places; names = trace.names; facts = facts }))
 
 -- each wanted line has its place
 abbrev pub HasAll : (ℕ → Bool) → List (ℕ × Place) → Type 0

@@ -6,7 +6,7 @@ use Rattle.er_binary.proofs.FillLemmas.{filled}
 use Rattle.er_binary.proofs.decoder.Decoder.give_all.Goals as goal
 
 pub loop-count-preserved : goal.loop-count-preserved
-loop-count-preserved c =
+loop-count-preserved g c =
     let count = c.loop-count.count in
     let n = c.give-count-in-loop-count.result in
     let buffer = c.loop-count.buffer in

@@ -4,11 +4,11 @@ use Rattle.er_binary.specs.Inner.Decoders.{IsGiven, left, still}
 use Rattle.er_binary.proofs.decoder.Decoder.give_all.Given as goal
 
 abbrev pub invariant-loop-count : goal.invariant-loop-count
-invariant-loop-count l = record {
+invariant-loop-count g l = record {
   within : l.count ≤ length l.buffer;
   gives : (rest : List ℕ) → still l.fn.self rest ≡ take l.count l.buffer ++ still l.self rest;
   given : l.count < length l.buffer → IsGiven l.self;
 }
 
 abbrev pub decreases-loop-count : goal.decreases-loop-count
-decreases-loop-count l = left l.self.phase l.self
+decreases-loop-count g l = left l.self.phase l.self

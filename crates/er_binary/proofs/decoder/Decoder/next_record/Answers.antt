@@ -7,7 +7,7 @@ use Rattle.er_binary.proofs.TextLemmas.{either_way}
 use Rattle.er_binary.proofs.decoder.Decoder.next_record.Goals as goal
 
 pub returns-in-Ok-Some-clause-same : goal.returns-in-Ok-Some-clause-same
-returns-in-Ok-Some-clause-same c = λ rest.
+returns-in-Ok-Some-clause-same g c = λ rest.
     let d = c.args.self.now in
     let n = c.in-Ok-Some.len in
     let within = within_at _ n _ c.in-Ok-Some.field-0-is c.in-Ok-Some.ensures.len in
@@ -20,7 +20,7 @@ returns-in-Ok-Some-clause-same c = λ rest.
     (c.past-self.ensures ∙ ap (λ (k : ℕ). past d.spot k) h.2) refl (ap (λ (k : ℕ). d.next + k) h.2)
 
 pub returns-in-Ok-None-clause-same : goal.returns-in-Ok-None-clause-same
-returns-in-Ok-None-clause-same c = λ rest.
+returns-in-Ok-None-clause-same g c = λ rest.
     let d = c.args.self.now in
     let h = none_at (take_record d.state c.split_at.result.1.now) _ _ d.state _ _ c.in-Ok-None.field-0-is c.in-Ok-None.ensures.taken in
     let back = c.split_at.ensures.back ∙ ap (λ (t : List ℕ). drop d.next t) c.deref.ensures.value in
@@ -31,4 +31,4 @@ returns-in-Ok-None-clause-same c = λ rest.
     (λ err. emptied d _ rest c.requires.given (search rules) refl h.2 refl refl refl refl refl refl ∙ err rest)
 
 pub returns-in-Err-clause-same : goal.returns-in-Err-clause-same
-returns-in-Err-clause-same c = λ rest. emptied c.args.self.now _ rest c.requires.given (search rules) refl c.in-Err.ensures.err refl refl refl refl refl refl
+returns-in-Err-clause-same g c = λ rest. emptied c.args.self.now _ rest c.requires.given (search rules) refl c.in-Err.ensures.err refl refl refl refl refl refl

@@ -3,7 +3,7 @@ use Rattle.std.proofs.Common.{refl}
 use Rattle.er_binary.specs.Decoded.{to_come}
 use Rattle.er_binary.specs.Inner.Decoders.{still}
 use Rattle.er_binary.proofs.DecodedLaws.{binary_is, read_as, read_kept}
-use Rattle.er_binary.proofs.decoded.DecodedRead.read.Goals as goal
+use Rattle.er_binary.proofs.decoded.Decoded.read_with.Goals as goal
 
 pub returns-in-Binary-clause-bytes : goal.returns-in-Binary-clause-bytes
 returns-in-Binary-clause-bytes g c =

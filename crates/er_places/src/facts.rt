@@ -1,0 +1,329 @@
+//! What a binary trace says of the program beside its events, as far as that is asked.
+ghost use Rattle.std.specs.Prelude.{◌≡◌, ◌≤◌, ◌<◌, ◌^◌, ◌+◌, ◌*◌, ◌-◌, ◌/◌, None, IfSome, OnOk, vec_len};
+ghost use Rattle.er_binary.specs.Nodes.{way_to};
+
+use crate::wanted::Put;
+use er_binary::{Decoded, Listener, Names, Record, State, number, record_at};
+use er_event::Word;
+use er_lines::is_site_name;
+use std::alloc::{AllocError, Global};
+use std::collections::BTreeMap;
+use std::io;
+use std::io::Read;
+
+// So many blocks that have wanted words are kept.
+const MOST_BLOCKS: usize = 256;
+
+/// Bytes of memory: `size` of them, from an address on.
+#[derive(Clone, Copy)]
+pub struct Extent {
+    pub address: u64,
+    pub size: u64,
+    ghost some: { 1 ≤ size },
+    ghost within: { address + size ≤ 2 ^ 48 },
+}
+
+impl Extent {
+    ghost use Rattle.er_places.specs.Facts.{has_word};
+
+    // None if it has no byte, or one past the last address.
+    fn new(address: u64, size: u64) -> Option<Extent> {
+        let end = Word::ADDRESSES;
+        if size == 0 || address > end || size > end - address {
+            return None;
+        }
+        Some(Extent { address, size })
+    }
+
+    /// Whether the word of a number has one of its bytes.
+    pub fn has_word(self, word: u64) -> bool
+        ensures { result ≡ has_word self word }
+    {
+        self.address / 4 <= word && word <= self.last_word()
+    }
+
+    /// Which of its bytes, from 0, is the first that a word has.
+    pub fn offset_of(self, word: u64) -> u64
+        requires { word < 2 ^ 46 }
+        ensures { result ≡ 4 * word - self.address }
+    {
+        (4 * word).saturating_sub(self.address)
+    }
+
+    fn last_word(self) -> u64
+        ensures { result ≡ (self.address + self.size - 1) / 4 }
+    {
+        (self.address + self.size - 1) / 4
+    }
+}
+
+/// A variable.
+#[derive(Drop)]
+pub struct Variable {
+    pub extent: Extent,
+    pub name: Vec<u8>,
+}
+
+/// A block of memory, and the place where it was taken or given back, if that is known.
+#[derive(Clone, Copy)]
+pub struct Block {
+    pub extent: Extent,
+    pub place: Option<u32>,
+}
+
+/// How a thread began: the place of the call that started it, if that is known, and what the program calls it, or nothing.
+#[derive(Drop)]
+pub struct Start {
+    pub place: Option<u32>,
+    pub name: Vec<u8>,
+}
+
+/// What was asked and noted of a binary trace. Places are numbered.
+#[derive(Drop)]
+pub struct Facts {
+    alloc: Global,
+    // The wanted lines and words, rising. Of the lines `met` are among the first `lines` of the text.
+    wanted: Vec<u64>,
+    words: Vec<u64>,
+    met: usize,
+    lines: u64,
+    // No variable to come begins before this address, or is the first of so many of the words.
+    from: u64,
+    named: usize,
+    // What the last reuses gave, without those that lie in later ones.
+    recent: Vec<Block>,
+    // By the line of an event its place and those of the calls that led there, the innermost first, and the block that it touched.
+    pub(crate) ways: BTreeMap<u64, Vec<u32>>,
+    pub(crate) blocks: BTreeMap<u64, Block>,
+    // By the number of a word the first variable that has it.
+    pub(crate) variables: BTreeMap<u64, Variable>,
+    // By their names the threads whose beginning is known.
+    pub(crate) threads: BTreeMap<Vec<u8>, Start>,
+    // By place the function that it is in.
+    pub(crate) functions: BTreeMap<u64, Vec<u8>>,
+    pub(crate) places: Names,
+}
+
+impl Facts {
+    ghost use Rattle.er_places.specs.Inner.Noting.{next_made};
+    ghost use Rattle.er_places.specs.Facts.{table_of, way_on};
+
+    /// What a trace says of the events on these lines, and of these words, is asked. Both rise.
+    pub(crate) fn asked(alloc: Global, lines: Vec<u64>, words: Vec<u64>) -> Facts
+        ensures wanted { result.wanted ≡ lines }
+        ensures words { result.words ≡ words }
+    {
+        Facts {
+            alloc,
+            wanted: lines,
+            words,
+            met: 0,
+            lines: 1,
+            from: 0,
+            named: 0,
+            recent: Vec::new(alloc),
+            ways: BTreeMap::new(alloc),
+            blocks: BTreeMap::new(alloc),
+            variables: BTreeMap::new(alloc),
+            threads: BTreeMap::new(alloc),
+            functions: BTreeMap::new(alloc),
+            places: Names::new(alloc),
+        }
+    }
+
+    // Notes the wanted lines that are made. An access on line L is of the word L behind the given one, modulo 2^64.
+    fn meet_lines(&mut self, word: u64, state: &State) -> Put
+        ensures lines { self.new.lines ≡ self.old.lines }
+        ensures all { OnOk result (next_made self.new ≡ None) }
+    {
+        while let Some(line) = self.next_made() {
+            self.note(line, word.wrapping_add(line), state)?;
+            self.met += 1;
+        }
+        Ok(())
+    }
+
+    // The next of the wanted lines, if it is made.
+    fn next_made(&self) -> Option<u64>
+        ensures value { result ≡ next_made self.now }
+        ensures within { IfSome result (λ line. (self.now.met < vec_len self.now.wanted) × (line ≤ self.now.lines)) }
+    {
+        match self.wanted.get(self.met) {
+            Some(line) if *line <= self.lines => Some(*line),
+            _ => None,
+        }
+    }
+
+    // Notes what led to the event on a line, and the block that has the word.
+    fn note(&mut self, line: u64, word: u64, state: &State) -> Put
+        requires made { line ≤ self.old.lines }
+        ensures way { OnOk result (way_on (table_of self.new) line ≡ way_to state.now.nodes state.now.node) }
+        ensures wanted { self.new.wanted ≡ self.old.wanted }
+        ensures met { self.new.met ≡ self.old.met }
+        ensures lines { self.new.lines ≡ self.old.lines }
+    {
+        let way = state.nodes.way_to(self.alloc, state.node)?;
+        self.ways.insert(line, way)?;
+        let mut latest = self.recent.iter().rev();
+        if let Some(block) = latest.find(|block| block.extent.has_word(word)) {
+            self.blocks.insert(line, *block)?;
+        }
+        Ok(())
+    }
+
+    // A fact that doesn't have its form, or that names what isn't there yet, says nothing.
+    fn note_other(&mut self, bytes: &[u8], state: &State) -> Put {
+        let Some(head) = record_at(bytes) else {
+            return Ok(());
+        };
+        let (_, body) = bytes.split_at(head.len);
+        // The tag is 4 times 32 and the kind, and which operand it has.
+        match (bytes[0] / 4, head.says) {
+            (48, Record::Other(_, size)) => self.add_block(state, size, body),
+            (58, _) => self.add_variable(body),
+            (59, _) => self.add_function(state, body),
+            (60, _) => self.add_thread(state, body),
+            _ => Ok(()),
+        }
+    }
+
+    fn add_block(&mut self, state: &State, size: u64, body: &[u8]) -> Put {
+        let Some((address, _)) = body.split_first_chunk::<6>() else {
+            return Ok(());
+        };
+        let Some(extent) = Extent::new(number(address), size) else {
+            return Ok(());
+        };
+        let (from, to) = self.words_of(extent);
+        if from == to {
+            return Ok(());
+        }
+        let end = extent.address + extent.size;
+        self.recent.retain(|old| old.extent.address < extent.address
+            || end < old.extent.address + old.extent.size);
+        if self.recent.len() >= MOST_BLOCKS {
+            self.recent.remove(0);
+        }
+        let place = state.nodes.place_of(state.node);
+        self.recent.push(Block { extent, place })?;
+        Ok(())
+    }
+
+    fn add_variable(&mut self, body: &[u8]) -> Put {
+        let Some((head, name)) = body.split_first_chunk::<12>() else {
+            return Ok(());
+        };
+        let Some(extent) = Extent::new(number(&head[..6]), number(&head[6..])) else {
+            return Ok(());
+        };
+        if extent.address < self.from || !is_site_name(name) {
+            return Ok(());
+        }
+        self.from = extent.address;
+        let (from, to) = self.words_of(extent);
+        for at in from.max(self.named)..to {
+            if let Some(word) = self.words.get(at) {
+                let name = Vec::from_slice(self.alloc, name)?;
+                self.variables.insert(*word, Variable { extent, name })?;
+            }
+        }
+        self.named = self.named.max(to);
+        Ok(())
+    }
+
+    fn add_function(&mut self, state: &State, body: &[u8]) -> Put {
+        let Some((head, name)) = body.split_first_chunk::<4>() else {
+            return Ok(());
+        };
+        let (place, functions) = (number(head), &mut self.functions);
+        if place < state.places.len() && is_site_name(name) && !functions.contains_key(&place) {
+            functions.insert(place, Vec::from_slice(self.alloc, name)?)?;
+        }
+        Ok(())
+    }
+
+    fn add_thread(&mut self, state: &State, body: &[u8]) -> Put {
+        let Some((head, name)) = body.split_first_chunk::<8>() else {
+            return Ok(());
+        };
+        let (thread, node) = (number(&head[..4]), number(&head[4..]));
+        let is_name = name.is_empty() || is_site_name(name);
+        if thread < state.threads.len() && node <= state.nodes.len() && is_name {
+            let key = Vec::from_slice(self.alloc, state.threads.get(thread))?;
+            let place = state.nodes.place_of(node);
+            let name = Vec::from_slice(self.alloc, name)?;
+            self.threads.insert(key, Start { place, name })?;
+        }
+        Ok(())
+    }
+
+    // Where the wanted words begin that have a byte of these, and where they end.
+    fn words_of(&self, extent: Extent) -> (usize, usize) {
+        let (first, last) = (extent.address / 4, extent.last_word());
+        let from = self.words.partition_point(|word| *word < first);
+        let to = self.words.partition_point(|word| *word <= last);
+        (from, to)
+    }
+}
+
+impl Listener for Facts {
+    fn hear(&mut self, bytes: &[u8], text: &[u8], state: &State) -> Put {
+        if self.met < self.wanted.len() {
+            let word = state.last_word().wrapping_sub(self.lines.wrapping_add(1));
+            let feeds = text.iter().filter(|byte| **byte == b'\n');
+            self.lines = self.lines.saturating_add(feeds.count() as u64);
+            self.meet_lines(word, state)?;
+        }
+        match bytes.first() {
+            Some(tag) if *tag >= 128 => self.note_other(bytes, state),
+            _ => Ok(()),
+        }
+    }
+}
+
+/// What reads the text of a trace, and what was asked and is noted meanwhile.
+#[derive(Drop)]
+pub struct Noting<R> {
+    pub decoded: Decoded<R>,
+    pub facts: Facts,
+}
+
+impl<R: Drop> Noting<R> {
+    ghost use Rattle.er_binary.specs.Decoded.{places_of};
+
+    /// What was noted, as far as the trace was read.
+    pub fn into_facts(self) -> Facts
+        ensures { result ≡ record self.facts { places = places_of self.decoded } }
+    {
+        let Noting { decoded, mut facts } = self;
+        facts.places = decoded.into_places();
+        facts
+    }
+}
+
+impl<R: Read> Noting<R> {
+    /// Reads the rest of a binary trace, which may have facts.
+    pub fn read_on(&mut self) {
+        if !self.decoded.is_binary() {
+            return;
+        }
+        let mut buffer = [0; 4096];
+        for _ in 0..u64::MAX {
+            match self.read(&mut buffer) {
+                Ok(0) | Err(_) => return,
+                Ok(_) => {}
+            }
+        }
+    }
+}
+
+impl<R: Read> Read for Noting<R> {
+    ghost use Rattle.std.specs.Prelude.{option_map};
+    ghost use Rattle.er_binary.specs.Decoded.{source_of, to_come};
+
+    ghost remaining = { λ noting. option_map (to_come noting.decoded) (R.remaining (source_of noting.decoded)) };
+
+    fn read(&mut self, buffer: &mut [u8]) -> io::Result<usize> {
+        self.decoded.read_with(buffer, &mut self.facts)
+    }
+}
