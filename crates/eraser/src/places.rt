@@ -1,4 +1,4 @@
-//! A second look at a trace, for the places of the accesses that reasons name and the calls that led there.
+//! A second look at a trace, for the places of the accesses that reasons name and what the trace says of the program.
 ghost use Rattle.std.specs.Prelude.{◌≡◌, false, true, IfSome};
 ghost use Rattle.er_binary.specs.Decoded.{IsFresh};
 ghost use Rattle.er_device.specs.Device.{has_failed, inner_of};
@@ -8,7 +8,7 @@ use crate::replaying::Job;
 use er_binary::Decoded;
 use er_device::Device;
 use er_exit::open_ordinary;
-use er_places::{Places, lines_of_reports, places_of_reports};
+use er_places::{Noting, Places, facts_of_reports, places_of_reports};
 use er_report::{Form, Reports};
 use er_request::Replay;
 use std::rt::Files;
@@ -23,34 +23,32 @@ pub(crate) fn places_of<R: Files + AllocGlobal>(rt: &R, job: Job<'_>, reports: &
     };
     let options = job.options;
     let found = places_of_reports(alloc, &mut again, options.byte_limit, options.keys, reports);
-    let calls = again.into_inner().into_calls();
     let Ok(places) = found else {
-        drop(calls);
         return Places::new(alloc);
     };
-    match calls {
-        Ok(calls) => places.with_calls(calls),
-        Err(_) => places,
-    }
+    let mut again = again.into_inner();
+    again.read_on();
+    places.with_facts(again.into_facts())
 }
 
-// The trace once more, if its reports have reasons whose places are shown. What is no ordinary file can't be read twice. While it is read, the
-// calls that led to the accesses are noted.
+// The trace once more, if its reports have reasons whose places are shown. What is no ordinary file can't be read twice. While it is read, what it
+// says of the program is noted.
 fn open_again<R: Files + AllocGlobal>(
     rt: &R,
     job: Job<'_>,
     reports: &Reports,
-) -> Option<Device<Decoded<R::File>>>
+) -> Option<Device<Noting<R::File>>>
     ensures open { IfSome result (λ again. has_failed again ≡ false) }
-    ensures fresh { IfSome result (λ again. IsFresh (inner_of again)) }
+    ensures fresh { IfSome result (λ again. IsFresh (inner_of again).decoded) }
     ensures shown { IfSome result (λ again. shows_places job.entry.replay.now ≡ true) }
 {
     if !shows_places(job.replay) {
         return None;
     }
     let file = open_ordinary(rt, job.replay.trace)?;
-    let lines = lines_of_reports(rt.alloc(), job.options.keys, reports).ok()?;
-    Some(Device::new(Decoded::noting(rt.alloc(), file, lines)))
+    let facts = facts_of_reports(rt.alloc(), job.options.keys, reports).ok()?;
+    let decoded = Decoded::new(rt.alloc(), file);
+    Some(Device::new(Noting { decoded, facts }))
 }
 
 // Whether places are shown, and the trace may be a file that is read whole.
