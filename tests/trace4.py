@@ -4,6 +4,7 @@
 trace4.py print [FILE]         prints the text that a trace means; a text means itself
 trace4.py encode [SEED]        makes a trace 4 of the text on standard input; with a seed its lengths, blocks and records without a meaning are random
 trace4.py sizes [FILE]         prints how many bytes, blocks and records of each kind a trace has
+trace4.py facts [FILE]         prints what a trace says of the function and the memory of each line that is an access, and of its threads
 
 It shares no code with the program, nor with the recorder.
 """
@@ -25,7 +26,7 @@ ADDRESS_END = 1 << 48
 # By the bits of a tag.
 OPERANDS, DISTANCES, NODES, SIZES = (1, 2, 4, 8), (1, 2, 4, 6), (0, 1, 2, 4), (1, 4, 8, None)
 (THREAD, NODE, LOCK, UNLOCK, READ_LOCK, READ_UNLOCK, TRY, READ_TRY, FAILED_TRY, FAILED_READ_TRY, SIGNAL, AWAIT, START, JOIN, IGNORE_ON, IGNORE_OFF,
-    REUSE, SHOW, LEVEL, SENT, SAW, THREAD_NAME, LOCK_NAME, PLACE, NEW_NODE, NOTE, VARIABLE, MEMORY, THREAD_FACTS, LOCK_FACTS, LOST, END) = range(32)
+    REUSE, SHOW, LEVEL, SENT, SAW, THREAD_NAME, LOCK_NAME, PLACE, NEW_NODE, NOTE, VARIABLE, FUNCTION, THREAD_FACTS, LOCK_FACTS, LOST, END) = range(32)
 # Which verb a record has in the text, by what it names.
 OF_LOCKS = {LOCK: b"lock", UNLOCK: b"unlock", READ_LOCK: b"rlock", READ_UNLOCK: b"runlock", TRY: b"lock", READ_TRY: b"rlock", SIGNAL: b"signal", AWAIT: b"await"}
 FAILED = (FAILED_TRY, FAILED_READ_TRY)
@@ -54,6 +55,8 @@ Event = collections.namedtuple("Event", "thread kind is_write address size opera
 Node = collections.namedtuple("Node", "caller place flags")
 Variable = collections.namedtuple("Variable", "address size name")
 ThreadFact = collections.namedtuple("ThreadFact", "created_at name")
+Block = collections.namedtuple("Block", "line address size place")
+Memory = collections.namedtuple("Memory", "name offset size place")
 
 
 class Damage(Exception):
@@ -74,6 +77,8 @@ class Trace:
         self.lost, self.has_ended = 0, False
         # By the numbers of lines, the places of the calls that led to their events, the innermost first.
         self.calls = {}
+        # By the numbers of lines, the number of the place of their event, and those of the calls.
+        self.ways, self.functions, self.reused, self.words = {}, {}, [], {}
         try:
             self.read_blocks()
         except Damage as damage:
@@ -148,18 +153,26 @@ class Trace:
 
     def line(self, *words):
         self.lines.append(b" ".join((self.threads[self.thread], *words)))
-        self.calls[str(len(self.lines))] = [place.decode() for place in self.way_out()[1:]]
+        self.ways[len(self.lines)] = way = self.way_out(self.node)
+        self.calls[str(len(self.lines))] = [self.places[place].decode() for place in way[1:]]
 
-    def way_out(self):
-        """The places from that of a line on: the nearest one outside headers of the system, or the outermost, and those of the calls that led there."""
-        node = self.node
+    def way_out(self, node):
+        """The numbers of the places from that of a node on: the nearest one outside headers of the system, or the outermost, and those of the calls that led there."""
         while node and self.nodes[node].flags & IN_HEADER and self.nodes[node].caller:
             node = self.nodes[node].caller
-        return [place for place, _ in self.stack(node)]
+        way = []
+        while node:
+            way.append(self.nodes[node].place)
+            node = self.nodes[node].caller
+        return way
+
+    def place_of(self, node):
+        """The place that is shown for a node, or None."""
+        return next((self.places[place] for place in self.way_out(node)), None)
 
     def site(self):
         """The last word of an access, if it has one."""
-        return self.way_out()[:1]
+        return [self.places[place] for place in self.way_out(self.node)[:1]]
 
     def stack(self, node):
         """The places of a node and its callers with their flags, the innermost first."""
@@ -184,6 +197,7 @@ class Trace:
         self.add_event("access", bool(tag & 64), address, size)
         for word in range(address & ~3, address + size, 4):
             self.line(b"write" if tag & 64 else b"read", b"0x%012x" % word, *self.site())
+            self.words[len(self.lines)] = word
 
     def read_kind(self, kind, operand):
         if kind == THREAD:
@@ -206,7 +220,7 @@ class Trace:
             self.line(ALONE[kind])
         elif kind in (REUSE, SHOW, LEVEL, SENT, SAW):
             self.read_other_event(kind, operand)
-        elif kind in (THREAD_NAME, LOCK_NAME, PLACE, NOTE, VARIABLE, MEMORY, THREAD_FACTS, LOCK_FACTS):
+        elif kind in (THREAD_NAME, LOCK_NAME, PLACE, NOTE, VARIABLE, FUNCTION, THREAD_FACTS, LOCK_FACTS):
             self.read_bytes(kind, self.take(operand))
         elif kind == NEW_NODE:
             place, flags = self.number(4), self.number(1)
@@ -224,6 +238,8 @@ class Trace:
         self.add_event(kind, address=address, size=operand if kind == REUSE else None)
         if kind == REUSE:
             self.line(b"reuse", b"0x%012x" % address, b"%d" % operand, *self.site())
+            if operand and address + operand <= ADDRESS_END:
+                self.reused.append(Block(len(self.lines), address, operand, self.place_of(self.node)))
         elif kind == SHOW:
             self.line(b"show", b"0x%012x" % address)
         elif kind == LEVEL:
@@ -250,7 +266,10 @@ class Trace:
         """Keeps a fact that has the form of one. Any other says nothing."""
         numbers = [int.from_bytes(content[begin:end], "little") for begin, end in ((0, 4), (4, 8), (4, 10), (0, 6), (6, 12))]
         if kind == VARIABLE and reference.is_site(content[12:], b"3") and numbers[4] and sum(numbers[3:]) <= ADDRESS_END:
-            self.variables.append(Variable(*numbers[3:], content[12:]))
+            if not self.variables or numbers[3] >= self.variables[-1].address:
+                self.variables.append(Variable(*numbers[3:], content[12:]))
+        elif kind == FUNCTION and numbers[0] < len(self.places) and len(content) > 4 and reference.is_site(content[4:], b"3"):
+            self.functions.setdefault(numbers[0], content[4:])
         elif kind == THREAD_FACTS and numbers[0] < len(self.threads) and numbers[1] < len(self.nodes) and (len(content) == 8 or reference.is_site(content[8:], b"3")):
             self.thread_facts[self.threads[numbers[0]]] = ThreadFact(numbers[1], content[8:])
         elif kind == LOCK_FACTS and numbers[0] < len(self.locks) and len(content) == 10:
@@ -262,6 +281,39 @@ class Trace:
             if variable.address <= address < variable.address + variable.size:
                 return variable.name + (b"+%d" % (address - variable.address) if address > variable.address else b"")
         return None
+
+    def function_on(self, line):
+        """The function of the event on a line, or None."""
+        return next((self.functions.get(place) for place in self.ways.get(line, ())), None)
+
+    def functions_of_calls(self, line):
+        """The functions of the calls that led to a line, as `calls` has their places."""
+        return [self.functions.get(place) for place in self.ways[line][1:]]
+
+    def variable_of(self, word):
+        """The first variable that has a byte of the word at an address, or None. Its offset is that of the first such byte."""
+        for variable in self.variables:
+            if variable.address < word + 4 and word < variable.address + variable.size:
+                return Memory(variable.name, max(word - variable.address, 0), variable.size, None)
+        return None
+
+    def block_of(self, line, word):
+        """The block that the access on a line touched in a word: what the last reuse before it gave that has a byte of the word, or None."""
+        for block in reversed(self.reused):
+            if block.line < line and block.address < word + 4 and word < block.address + block.size:
+                return Memory(b"", max(word - block.address, 0), block.size, block.place)
+        return None
+
+    def start_of(self, thread):
+        """The place of the call that started a thread, or None, and what the program calls it. None if neither is known."""
+        fact = self.thread_facts.get(thread)
+        return fact and (self.place_of(fact.created_at), fact.name)
+
+    def facts(self):
+        for line, word in self.words.items():
+            yield line, self.function_on(line), self.variable_of(word) or self.block_of(line, word)
+        for thread in self.thread_facts:
+            yield thread, *self.start_of(thread)
 
     def read_end(self, count):
         self.check(self.at == self.end and count == len(self.events))
@@ -284,10 +336,10 @@ def text_of(data):
 
 class Writer:
     """Makes a trace 4. Without dice each number is as short as it may be, and no record is there that says nothing. With `most_calls` each event is reached
-    by so many calls at most, which are random."""
+    by so many calls at most, which are random. With `facts` and dice there are facts that say something, and others that nearly do."""
 
-    def __init__(self, dice=None, most_bytes=USUAL_BYTES, most_calls=0):
-        self.dice, self.most_bytes, self.most_calls = dice, most_bytes, most_calls
+    def __init__(self, dice=None, most_bytes=USUAL_BYTES, most_calls=0, facts=False):
+        self.dice, self.most_bytes, self.most_calls, self.facts, self.touched = dice, most_bytes, most_calls, facts, set()
         self.blocks, self.whole, self.events = 0, bytearray(MAGIC), 0
         self.threads, self.locks, self.places, self.nodes = {}, {}, {}, {}
         self.begin_block()
@@ -355,11 +407,13 @@ class Writer:
             self.thread = number
         if self.chance(6):
             self.add_idle()
+        if self.facts and self.chance(40):
+            self.add_facts()
         self.events += 1
 
     def add_idle(self):
         """A record that no text shows."""
-        kind = self.dice.choice((FAILED_TRY, FAILED_READ_TRY, SENT, SAW, VARIABLE, MEMORY, THREAD_FACTS, LOCK_FACTS, LOST, THREAD_NAME, LOCK_NAME, NODE))
+        kind = self.dice.choice((FAILED_TRY, FAILED_READ_TRY, SENT, SAW, VARIABLE, FUNCTION, THREAD_FACTS, LOCK_FACTS, LOST, THREAD_NAME, LOCK_NAME, NODE))
         if kind in (FAILED_TRY, FAILED_READ_TRY, SENT, SAW):
             operand = self.name(self.locks, LOCK_NAME, b"tried") if kind in FAILED else self.dice.randrange(ADDRESS_END)
             self.record(kind, operand)
@@ -374,6 +428,33 @@ class Writer:
         else:
             content = self.dice.randbytes(self.dice.randrange(40))
             self.record(kind, len(content), content)
+
+    def fact(self, kind, *numbers):
+        """A fact with these numbers, of so many bytes each, and a name, nothing or what is no name."""
+        if len(self.records) >= self.most_bytes:
+            thread = self.thread
+            self.end_block()
+            if thread is not None:
+                self.record(THREAD, thread)
+                self.thread = thread
+        name = self.dice.choice((b"stats", b"Pool::take", b"main::{lambda}", b"f::x.guard", b"a", b"", b"no name", b"x" * 128, b"x" * 129))
+        content = b"".join(number.to_bytes(size, "little") for number, size in numbers) + name
+        content = content[:self.dice.randrange(len(content))] if self.chance(12) else content
+        self.record(kind, len(content), content)
+
+    def add_facts(self):
+        """Facts of the places and threads so far, and of the next ones."""
+        for place in range(len(self.places) + 1):
+            for _ in range(self.dice.randrange(3)):
+                self.fact(FUNCTION, (place, 4))
+        for thread in range(len(self.threads) + 1):
+            self.fact(THREAD_FACTS, (thread, 4), (self.dice.randrange(len(self.nodes) + 2), 4))
+
+    def add_variables(self):
+        """Variables of the words so far. Some share words, and some lie below the one before."""
+        for address in sorted(self.touched):
+            if self.chance(2):
+                self.fact(VARIABLE, (max(address - self.dice.randrange(12), 0), 6), (self.dice.randrange(20), 6))
 
     def at_node(self, node):
         if node != self.node or self.chance(9):
@@ -392,6 +473,7 @@ class Writer:
         self.add(bytes([tag | size_place << 4 | distance_place << 2 | node_place]) + (bytes([size]) if size_place == 3 else b"")
             + distance.to_bytes(DISTANCES[distance_place], "little", signed=True) + (node.to_bytes(NODES[node_place], "little") if node_place else b""))
         self.last[slot], self.node = address, node
+        self.touched.add(address)
 
     def of_lock(self, thread, kind, lock, node=0):
         self.begin_event(thread)
@@ -419,6 +501,9 @@ class Writer:
 
     def finish(self, lost=0):
         """The whole trace."""
+        if self.facts:
+            self.add_facts()
+            self.add_variables()
         if lost or self.dice is not None:
             self.record(LOST, lost)
         self.record(END, self.events)
@@ -550,6 +635,9 @@ def main():
     data = open(rest[0], "rb").read() if rest else sys.stdin.buffer.read()
     if verb == "sizes":
         print_sizes(data)
+    elif verb == "facts":
+        for fact in Trace(data).facts():
+            print(*fact)
     else:
         sys.stdout.buffer.write(text_of(data))
 

@@ -233,7 +233,7 @@ EVENTS_OF = [record_of(kind, 0) for kind in (T.LOCK, T.UNLOCK, T.READ_LOCK, T.RE
 OTHERS = [record_of(T.START, 1), record_of(T.JOIN, 1), record_of(T.IGNORE_ON, 7), record_of(T.IGNORE_OFF, 2**64 - 1), record_of(T.REUSE, 8, b"\3\0\0\0\0\0"), record_of(T.REUSE, 8, b"\3\0\0\0\0\0"),
     record_of(T.SHOW, 2**48 - 1), record_of(T.LEVEL, 31), record_of(T.LEVEL, 0, length=8), record_of(T.SENT, 5), record_of(T.SAW, 5)]
 SOUND = {
-    "every kind of record": ([*BEGIN, *EVENTS_OF, *OTHERS, *(named(kind, b"\0\xff") for kind in (T.VARIABLE, T.MEMORY, T.THREAD_FACTS, T.LOCK_FACTS)), named(T.NOTE, b" a~"),
+    "every kind of record": ([*BEGIN, *EVENTS_OF, *OTHERS, *(named(kind, b"\0\xff") for kind in (T.VARIABLE, T.FUNCTION, T.THREAD_FACTS, T.LOCK_FACTS)), named(T.NOTE, b" a~"),
         record_of(T.LOST, 9), record_of(T.LOST, 2), record_of(T.END, len(EVENTS_OF) + len(OTHERS))],
         b"a lock m\na unlock m\na rlock m\na runlock m\na lock m\na unlock m\na rlock m\na runlock m\na signal m\na await m\na start b\na join b\na ignore-on\na ignore-off\n"
         b"a reuse 0x000000000003 8\na reuse 0x000000000003 8\na show 0xffffffffffff\na level 31\na level 0\n#  a~\n# incomplete: 23 events, 2 lost\nend\n"),
