@@ -24,7 +24,7 @@ static const char magic[8] = "\xe5" "eraser\x04";
 /* Kinds of records. */
 enum kind {
     KIND_THREAD = 0, KIND_NODE = 1, KIND_REUSE = 16, KIND_STORE = 19, KIND_LOAD = 20, KIND_THREAD_NAME = 21, KIND_LOCK_NAME = 22, KIND_PLACE = 23,
-    KIND_NEW_NODE = 24, KIND_NOTE = 25, KIND_VARIABLE_FACT = 26, KIND_THREAD_FACT = 28, KIND_LOCK_FACT = 29, KIND_LOST = 30, KIND_END = 31,
+    KIND_NEW_NODE = 24, KIND_NOTE = 25, KIND_VARIABLE_FACT = 26, KIND_FUNCTION_FACT = 27, KIND_THREAD_FACT = 28, KIND_LOCK_FACT = 29, KIND_LOST = 30, KIND_END = 31,
 };
 static const uint8_t kinds[VERBS] = {2, 3, 4, 5, 10, 11, 12, 13, 14, 15, 6, 7, 8, 9};
 
@@ -198,6 +198,14 @@ bool binary_add_place(const char *text, size_t bytes)
     if (at)
         output_use(put_text(at, KIND_PLACE, text, bytes));
     return at != NULL;
+}
+
+void binary_add_function(uint32_t place, const char *name)
+{
+    size_t bytes = strlen(name);
+    char *at = bytes ? room() : NULL;
+    if (at)
+        output_use(put(put(put_operand(at, KIND_FUNCTION_FACT, sizeof place + bytes), &place, sizeof place), name, bytes));
 }
 
 bool binary_add_node(uint32_t caller, uint32_t place, uint8_t flags)

@@ -12,6 +12,8 @@
 
 /* Writes the next place or the next node, whose number the caller counts. False if the trace has ended. */
 bool binary_add_place(const char *text, size_t bytes);
+/* The function that a place is in, which has the form of a site, or nothing. */
+void binary_add_function(uint32_t place, const char *name);
 bool binary_add_node(uint32_t caller, uint32_t place, uint8_t flags);
 
 #endif

@@ -46,8 +46,8 @@ static char *copy_name(const char *name)
  * variable's name has. The name `none` is not a lock's. */
 char *make_name(uint64_t address, const char *kind, unsigned *count)
 {
-    char symbol[4096], legal[NAME_BYTES + 1], name[NAME_BYTES + 32];
-    if (symbol_of(address, symbol, sizeof symbol)) {
+    char symbol[PLAIN_BYTES], legal[NAME_BYTES + 1], name[NAME_BYTES + 32];
+    if (symbol_of(address, symbol)) {
         legal_name(legal, symbol);
         unsigned nth = count_use(legal);
         if (nth == 1 && strcmp(legal, "none") != 0)

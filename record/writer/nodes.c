@@ -83,7 +83,7 @@ static uint64_t hash_text(const char *text)
     return hash;
 }
 
-/* 1 and the number of a place, or 0 if it can't be written. */
+/* 1 and the number of a place, or 0 if it can't be written. The function that it is in stands behind it. */
 static uint32_t place_of(const struct site *site)
 {
     char text[NAME_BYTES + 1];
@@ -92,8 +92,10 @@ static uint32_t place_of(const struct site *site)
     text[bytes] = 0;
     uint64_t hash = hash_text(text);
     struct entry *entry = find_or_free(&places, hash, 0, text);
-    if (!entry->number && binary_add_place(text, bytes))
+    if (!entry->number && binary_add_place(text, bytes)) {
         add(&places, entry, (struct entry){hash, 0, (uint32_t)places.count + 1, strcpy(get_memory(NULL, bytes + 1), text)});
+        binary_add_function(entry->number - 1, site->function);
+    }
     return entry->number;
 }
 
@@ -117,7 +119,7 @@ static uint32_t node_of_site(const struct site *site, uint32_t caller)
 /* An access in a header of the system stands for its nearest caller that is known. */
 static const struct site *site_or_gap(uint64_t place)
 {
-    static const struct site gap = {.text = " calls-left-out", .bytes = 15, .is_in_header = true};
+    static const struct site gap = {.text = " calls-left-out", .bytes = 15, .is_in_header = true, .function = ""};
     return place == CALLS_LEFT_OUT ? &gap : site_of(place);
 }
 

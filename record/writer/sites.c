@@ -8,7 +8,8 @@
 #include <stdlib.h>
 #include <string.h>
 
-#include "inlined.h"
+#include "functions.h"
+#include "plain.h"
 #include "trace.h"
 
 bool sites_have_paths, sites_have_callers;
@@ -93,7 +94,7 @@ bool sites_set_maps(const char *text, size_t bytes)
     maps_bytes = bytes;
     forget_sites();
     if (files) {
-        inlined_forget();
+        functions_forget();
         dwfl_getmodules(files, free_facts, NULL, 0);
         dwfl_end(files);
     }
@@ -456,28 +457,52 @@ static struct site new_site(const char *text, bool is_in_header)
     char name[NAME_BYTES + 2];
     name[0] = ' ';
     size_t bytes = 1 + legal_site(name + 1, text);
-    return (struct site){.text = keep(name, bytes), .bytes = (uint32_t)bytes, .is_in_header = is_in_header};
+    return (struct site){.text = keep(name, bytes), .bytes = (uint32_t)bytes, .is_in_header = is_in_header, .function = ""};
+}
+
+static const char *keep_name(const char *text)
+{
+    char name[NAME_BYTES + 1];
+    size_t bytes = legal_site(name, text);
+    return bytes ? keep(name, bytes + 1) : "";
 }
 
 /* The sites of the calls of functions that were inlined, from the innermost one on. */
-static const struct site *callers_of(const struct inlined *inlined, const char *folder)
+static const struct site *callers_of(struct function *inlined, Dwarf_Die *unit)
 {
     char text[8192];
     if (!inlined || !inlined->file)
         return NULL;
-    struct site site = new_site(text, describe_line(inlined->file, folder, inlined->line, text, sizeof text));
+    struct site site = new_site(text, describe_line(inlined->file, folder_of(unit), inlined->line, text, sizeof text));
     site.is_instrumented = true;
-    site.caller = callers_of(inlined->outer, folder);
+    site.function = keep_name(function_name(unit, inlined->outer));
+    site.caller = callers_of(inlined->outer, unit);
     block_used = (block_used + _Alignof(struct site) - 1) & ~(_Alignof(struct site) - 1);
     return keep(&site, sizeof site);
 }
 
-static const struct site *find_callers(uint64_t place)
+/* Of a file without debug information the symbols say it. */
+static const char *name_by_symbol(Dwfl_Module *file, uint64_t place)
+{
+    GElf_Off offset;
+    GElf_Sym symbol;
+    char name[PLAIN_BYTES] = "";
+    const char *found = dwfl_module_addrinfo(file, place, &offset, &symbol, NULL, NULL, NULL);
+    if (found && GELF_ST_TYPE(symbol.st_info) == STT_FUNC && offset < symbol.st_size)
+        plain_symbol(found, name);
+    return keep_name(name);
+}
+
+static void find_function(struct site *site, uint64_t place)
 {
     Dwarf_Addr bias = 0;
     Dwfl_Module *file = sites_have_callers ? file_of(place) : NULL;
-    Dwarf_Die *unit = file && sites_is_instrumented(file) ? unit_of(file, place, &bias) : NULL;
-    return unit ? callers_of(inlined_at(unit, place - bias), folder_of(unit)) : NULL;
+    if (!file || !sites_is_instrumented(file))
+        return;
+    Dwarf_Die *unit = unit_of(file, place, &bias);
+    struct function *function = unit ? function_at(unit, place - bias) : NULL;
+    site->function = unit ? keep_name(function_name(unit, function)) : name_by_symbol(file, place);
+    site->caller = unit ? callers_of(function, unit) : NULL;
 }
 
 const struct site *site_of(uint64_t place)
@@ -490,7 +515,7 @@ const struct site *site_of(uint64_t place)
         struct site new = new_site(text, describe(place, text, sizeof text));
         new.place = place;
         new.is_instrumented = sites_has_instrumented(place);
-        new.caller = find_callers(place - 1);
+        find_function(&new, place - 1);
         *site = new;
         table_count++;
     }

@@ -14,12 +14,13 @@ struct site {
     uint32_t bytes;
     bool is_instrumented; /* the code there is in a file that is */
     bool is_in_header;    /* the line is in a header of the system */
+    const char *function; /* that the place is in, if it is known and sites have callers, or "" */
     const struct site *caller; /* where the line's function was inlined, if it was and that is wanted, or NULL */
 };
 
 /* If set before the first look-up, sites have their paths as the compiler has them. */
 extern bool sites_have_paths;
-/* If set before the first look-up, sites have the callers into which their functions were inlined. */
+/* If set before the first look-up, sites have their functions, and the callers into which these were inlined. */
 extern bool sites_have_callers;
 /* Before the first look-up: sites of files below this folder have their paths from there on. Else it is the folder that all sources of the
  * program's own lie below. */

@@ -1,7 +1,6 @@
 #define _GNU_SOURCE
 #include "variables.h"
 
-#include <ctype.h>
 #include <gelf.h>
 #include <stdio.h>
 #include <stdlib.h>
@@ -10,37 +9,7 @@
 #include "sites.h"
 #include "trace.h"
 
-/* One part of a mangled name: a number and as many bytes. Returns what stands behind it, or NULL. */
-static const char *put_part(const char *from, char *to, size_t *used, size_t room)
-{
-    char *text;
-    unsigned long bytes = isdigit((unsigned char)*from) ? strtoul(from, &text, 10) : 0;
-    if (!bytes || bytes > strlen(text) || *used + bytes + 3 > room)
-        return NULL;
-    *used += (size_t)snprintf(to + *used, room - *used, "%s%.*s", *used ? "::" : "", (int)bytes, text);
-    return text + bytes;
-}
-
-/* The plain cases of C++: `_ZL4lock` is lock, `_ZN4pool4lockE` is pool::lock. Anything else keeps the linker's name. */
-static void demangle(const char *symbol, char *name, size_t room)
-{
-    const char *from = symbol;
-    size_t used = 0;
-    bool is_nested = strncmp(symbol, "_ZN", 3) == 0;
-    if (strncmp(symbol, "_ZL", 3) == 0 || is_nested)
-        from += 3;
-    else
-        from = NULL;
-    do {
-        if (from && *from == 'L')
-            from++;
-        from = from ? put_part(from, name, &used, room) : NULL;
-    } while (from && is_nested && *from != 'E');
-    if (!from || strcmp(from, is_nested ? "E" : "") != 0)
-        snprintf(name, room, "%s", symbol);
-}
-
-bool symbol_of(uint64_t address, char *name, size_t room)
+bool symbol_of(uint64_t address, char name[PLAIN_BYTES])
 {
     Dwfl *all = sites_files();
     Dwfl_Module *file = all ? dwfl_addrmodule(all, address) : NULL;
@@ -49,10 +18,10 @@ bool symbol_of(uint64_t address, char *name, size_t room)
     const char *found = file ? dwfl_module_addrinfo(file, address, &offset, &symbol, NULL, NULL, NULL) : NULL;
     if (!found || GELF_ST_TYPE(symbol.st_info) != STT_OBJECT || offset >= symbol.st_size)
         return false;
-    demangle(found, name, room);
+    plain_symbol(found, name);
     if (offset) {
         size_t used = strlen(name);
-        snprintf(name + used, room - used, "_%llu", (unsigned long long)offset);
+        snprintf(name + used, PLAIN_BYTES - used, "_%llu", (unsigned long long)offset);
     }
     return true;
 }
@@ -80,6 +49,12 @@ static void add(struct variables *variables, struct variable variable)
     variables->all[variables->count++] = variable;
 }
 
+/* Tables that a compiler makes for classes: `_ZTV4Pool`. Nobody writes to them. */
+static bool is_of_class(const char *symbol)
+{
+    return strncmp(symbol, "_ZT", 3) == 0;
+}
+
 static int add_variables(Dwfl_Module *file, void **place, const char *name, Dwarf_Addr begin, void *variables)
 {
     (void)place, (void)name, (void)begin;
@@ -90,7 +65,7 @@ static int add_variables(Dwfl_Module *file, void **place, const char *name, Dwar
         GElf_Word section;
         Elf *elf;
         const char *found = dwfl_module_getsym_info(file, i, &symbol, &address, &section, &elf, NULL);
-        if (found && GELF_ST_TYPE(symbol.st_info) == STT_OBJECT && symbol.st_size && is_writable(elf, section))
+        if (found && GELF_ST_TYPE(symbol.st_info) == STT_OBJECT && symbol.st_size && !is_of_class(found) && is_writable(elf, section))
             add(variables, (struct variable){address, symbol.st_size, found});
     }
     return DWARF_CB_OK;
@@ -106,7 +81,7 @@ static int compare(const void *one, const void *other)
 
 void variables_each(void (*visit)(const struct variable *variable))
 {
-    char name[4096];
+    char name[PLAIN_BYTES];
     struct variables variables = {0};
     Dwfl *all = sites_files();
     if (all)
@@ -117,7 +92,7 @@ void variables_each(void (*visit)(const struct variable *variable))
         const struct variable *found = &variables.all[i];
         if (i && found->address == found[-1].address)
             continue;
-        demangle(found->name, name, sizeof name);
+        plain_symbol(found->name, name);
         visit(&(struct variable){found->address, found->size, name});
     }
     free(variables.all);
