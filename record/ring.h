@@ -9,7 +9,7 @@
 #include <stdatomic.h>
 #include <stdint.h>
 
-#define RING_MAGIC 0x37676e6972617265u /* "eraring7" in memory */
+#define RING_MAGIC 0x38676e6972617265u /* "eraring8" in memory */
 #define RING_BITS 18
 #define RING_SLOTS (1u << RING_BITS)
 #define RING_MASK (RING_SLOTS - 1)
@@ -62,12 +62,14 @@ enum event_kind {
     EVENT_STORED,     /* first: atomic, stored by an operation that doesn't release, in a thread that has released by a fence, or if the ring asks for flow */
     EVENT_LET_GO,     /* first: object that a holder lets go, size: enum object_kind: it signals and awaits it, if anybody has signalled it before */
     EVENT_LOADED,     /* first: atomic, loaded by an operation that doesn't acquire, size: LOADS_FOR_FENCES, LOADS_FOR_FLOW or both */
+    EVENT_TAKEN,      /* as EVENT_REUSE, of memory that a call gives to the program. Only calls are recorded with these */
+    EVENT_THREAD_END, /* the thread runs no more of the program's code, and its pthread_t may become another's */
 };
 
 /* Of these events `second` is the program counter of a call, or 0. */
 #define KINDS_WITH_PLACES (1u << EVENT_LOCK | 1u << EVENT_READ_LOCK | 1u << EVENT_UNLOCK | 1u << EVENT_LOCK_TWICE | 1u << EVENT_LOCK_END | 1u << EVENT_REUSE \
                            | 1u << EVENT_FREE | 1u << EVENT_START | 1u << EVENT_JOIN | 1u << EVENT_SIGNAL | 1u << EVENT_AWAIT | 1u << EVENT_FENCE             \
-                           | 1u << EVENT_STORED | 1u << EVENT_LET_GO | 1u << EVENT_LOADED)
+                           | 1u << EVENT_STORED | 1u << EVENT_LET_GO | 1u << EVENT_LOADED | 1u << EVENT_TAKEN)
 
 /* A reuse has addresses below 2^48, so the upper bits of how many bytes it has stand above its address. */
 #define REUSE_BITS 48

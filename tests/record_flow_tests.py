@@ -18,7 +18,7 @@ sys.path.insert(0, str(pathlib.Path(__file__).parent))
 sys.dont_write_bytecode = True
 import trace4
 from alone import run_alone
-from record_stacks_tests import build, expected, lines_of, name_of, refused
+from record_stacks_tests import build, expected, lines_of, name_of, outside, refused
 from record_tests import LEVELS, RUN, SOURCES, TOP, WORKERS, Findings, command, same_text
 
 PROGRAMS = SOURCES / "told"
@@ -69,14 +69,14 @@ def names(folder, findings, compiler, level):
     trace, printed, fault = record_it(folder, program, "--stacks")
     wanted = {(int(address, 16), int(size), name.encode()) for name, address, size in re.findall(r"^(\S+) (0x[0-9a-f]+) (\d+)$", printed, re.M)}
     missing = wanted - {tuple(variable) for variable in trace.variables}
-    findings.check(f"the variables of {program.name}", not fault and len(wanted) == 7 and not missing, f"{fault} {missing} {trace.variables}")
+    findings.check(f"the variables of {program.name}", not fault and len(wanted) == 11 and not missing, f"{fault} {missing} {trace.variables}")
     places = [variable.address for variable in trace.variables]
     findings.check(f"the variables of {program.name} are sorted", places == sorted(set(places)), f"{trace.variables}")
     written = {trace.variable_at(event.address) for event in trace.events if event.kind == "access" and event.is_write}
     findings.check(f"what {program.name} writes to", {b"table+7", b"pool::busy+4", b"in_library+12"} <= written, f"{written}")
     marks = lines_of(source)
-    threads = {(fact.name.decode() or "-", *(name_of(place.decode(), source, marks) for place, _ in trace.stack(fact.created_at))) for fact in trace.thread_facts.values()}
-    findings.check(f"the threads of {program.name}", threads == expected(source, "THREAD") and len(trace.thread_facts) == 2, f"{trace.thread_facts} {threads}")
+    threads = {(fact.name.decode() or "-", *outside(trace, fact.created_at, source, marks)) for fact in trace.thread_facts.values()}
+    findings.check(f"the threads of {program.name}", threads == expected(source, "THREAD") and len(trace.thread_facts) == 5, f"{trace.thread_facts} {threads}")
 
 
 def tests(record):

@@ -48,7 +48,7 @@ OBJECTS = {
     ),
     "given": (["given"], [], []),
     "message": (["flag_8", "flag_16", "flag_32", "flag_64", "fenced_flag"], [], []),
-    "once": (["pthread_flag", "call_flag", "thrown_flag", "_ZGVZL8get_madevE4only"], [], []),
+    "once": (["pthread_flag", "call_flag", "thrown_flag", "get_made::only.guard"], [], []),
     "owned": (["head", "slot"], [], []),
     "piped": (["pipe-2", "pipe-3", "pipe-4", "pipe-5"], ["pipe-6"], ["pipe-7"]),
     "semaphore": (["full", "spare"], [], []),

@@ -1,5 +1,5 @@
 #!/usr/bin/env python3
-"""Records programs with `record/run --stacks`, and compares the calls of each access with what the programs say.
+"""Records programs with `record/run --stacks`, and compares the calls of each access, and the names of functions and blocks, with what the programs say.
 
 The programs of tests/record/stacks have marks (marks.h), and name all stacks that their accesses have: those of the trace are these and no others, by
 two compilers at two levels. tests/trace4.py reads the traces.
@@ -28,7 +28,7 @@ PROGRAMS = SOURCES / "stacks"
 # Of those that are linked together with another file, which.
 PARTS = {"thrown": "through.c"}
 # Programs that say more than which stacks there are.
-ALONE = ("crowd.c", "deep.c", "interrupted.c", "many.c")
+ALONE = ("crowd.c", "deep.c", "interrupted.c", "many.c", "named.cpp")
 # Those that --order has more to say of.
 ORDERED = ("events", "once")
 LEFT_OUT = "calls-left-out"
@@ -96,6 +96,26 @@ def name_of(place, source, marks):
     return LEFT_OUT if place == LEFT_OUT else marks.get(int(line), place) if file == source.name else "*"
 
 
+def outside(trace, node, source, marks):
+    """The marks of a node's places, from the nearest one outside headers of the system on."""
+    return [name_of(place.decode(), source, marks) for place, _ in itertools.dropwhile(lambda part: part[1] & trace4.IN_HEADER, trace.stack(node))]
+
+
+class Named(trace4.Trace):
+    """A trace and the functions of its places."""
+
+    def __init__(self, data):
+        self.functions = {}
+        super().__init__(data)
+
+    def read_fact(self, kind, content):
+        place = int.from_bytes(content[:4], "little")
+        if kind == trace4.MEMORY and place < len(self.places) and len(content) > 4:
+            self.functions.setdefault(self.places[place].decode(), content[4:].decode())
+        else:
+            super().read_fact(kind, content)
+
+
 # ---- The programs
 
 def says_what_it_does(folder, findings, source, compiler, level):
@@ -155,6 +175,31 @@ def crowd(folder, findings, compiler, level):
     findings.check(f"the calls in the report of {program.name}", is_told and shown == output.decode(), f"{shown}, {output}"[:2000])
 
 
+def named(folder, findings, compiler, level):
+    """Functions have the names that a person gives them, and blocks of memory are those that the program got."""
+    source = PROGRAMS / "named.cpp"
+    program = build(folder, findings, source, compiler, level)
+    trace, marks = Named(Recording(folder, program).paths[0].read_bytes()), lines_of(source)
+    functions = {(name_of(place, source, marks), name) for place, name in trace.functions.items() if place.startswith(f"{source.name}:")}
+    wrong = {pair for pair in functions ^ expected(source, "FUNCTION") if pair[0] in marks.values()}
+    findings.check(f"the functions of {program.name}", not wrong, f"{wrong} {trace.damage}")
+    blocks = {(str(event.size), *calls) for event in trace.events if event.kind == trace4.REUSE and (calls := outside(trace, event.node, source, marks)) and calls[0] in marks.values()}
+    findings.check(f"the blocks of {program.name}", blocks == expected(source, "BLOCK"), f"{sorted(blocks ^ expected(source, 'BLOCK'))}")
+
+
+def regions(folder, findings, level):
+    """OpenMP: each place is in a function of the source, and each thread was created at one of its lines."""
+    source, program = SOURCES / "openmp/regions.c", folder / f"regions{level}"
+    built = command(["gcc", "-g", "-fsanitize=thread", "-std=gnu11", *record_tests.WARNINGS, "-fopenmp", level, source, "-o", program])
+    trace = Named(Recording(folder, program).paths[0].read_bytes())
+    known = set(re.findall(r"^(?:static )?\w+ \**(\w+)\(", source.read_text(), re.M))
+    places = {place.decode() for place in trace.places if place.startswith(b"regions.c:")}
+    functions = {trace.functions.get(place, "-") for place in places}
+    findings.check(f"the functions of {program.name}", {"main"} < functions <= known, f"{built} {functions} {known}")
+    created = [outside(trace, fact.created_at, source, {}) for fact in trace.thread_facts.values()]
+    findings.check(f"the threads of {program.name}", len(created) > 1 and all(calls and calls[0] in places for calls in created), f"{created}")
+
+
 def many(folder, findings):
     """More stacks than there is room for: a tree of calls has 2,097,151, and the one of main comes before them. What a second tree of 15 calls does is in
     main, and nobody knows by which calls."""
@@ -179,7 +224,8 @@ def tests(record):
         folder = pathlib.Path(name)
         ways = [(compiler, level) for compiler in ("gcc", "clang") for level in LEVELS]
         done = [pool.submit(says_what_it_does, folder, findings, source, *way) for source in sources for way in ways]
-        done += [pool.submit(test, folder, findings, *way) for test in (crowd, deep, interrupted) for way in ways]
+        done += [pool.submit(test, folder, findings, *way) for test in (crowd, deep, interrupted, named) for way in ways]
+        done += [pool.submit(regions, folder, findings, level) for level in LEVELS]
         done += [pool.submit(many, folder, findings), pool.submit(refused, folder, findings, "--stacks", "a text has no stacks")]
         for one in done:
             one.result()

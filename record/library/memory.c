@@ -5,6 +5,8 @@
 #include <stdarg.h>
 #include <string.h>
 #include <sys/mman.h>
+#include <sys/syscall.h>
+#include <unistd.h>
 
 /* ---- The allocator ---- */
 
@@ -71,24 +73,39 @@ static __attribute__((noinline)) void *note_foreign(void *block)
     return block;
 }
 
-inline void *note_taken(void *block)
+/* A block of which no free is seen may be used as another one before. */
+static inline void emit_taken(const void *block, size_t size, uint64_t place)
 {
-    return LIKELY(!allocator.is_foreign) ? block : note_foreign(block);
+    if (block && is_recording() && is_memory(block, size))
+        emit(EVENT_TAKEN, (uint32_t)size, packed(block, size), place);
 }
 
-/* Nearly always the C library's, of which there is nothing to note. */
-HOOK void *malloc(size_t size) { return LIKELY(allocator.is_plain) ? allocator.malloc(size) : note_taken(get_allocator()->malloc(size)); }
-HOOK void *calloc(size_t count, size_t size) { return LIKELY(allocator.is_plain) ? allocator.calloc(count, size) : note_taken(get_allocator()->calloc(count, size)); }
-HOOK void *aligned_alloc(size_t alignment, size_t size) { return note_taken(REAL(aligned_alloc)(alignment, size)); }
-HOOK void *memalign(size_t alignment, size_t size) { return note_taken(REAL(memalign)(alignment, size)); }
-HOOK void *valloc(size_t size) { return note_taken(REAL(valloc)(size)); }
-HOOK void *pvalloc(size_t size) { return note_taken(REAL(pvalloc)(size)); }
+inline void *note_taken(void *block, size_t size, uint64_t place)
+{
+    if (UNLIKELY(allocator.is_foreign))
+        note_foreign(block);
+    if (KEEPS_STACKS && is_free_seen())
+        emit_taken(block, size, place);
+    return block;
+}
+
+/* Nearly always the C library's. */
+HOOK void *malloc(size_t size) { return LIKELY(NOTES_NONE) ? allocator.malloc(size) : note_taken(get_allocator()->malloc(size), size, CALLER); }
+HOOK void *aligned_alloc(size_t alignment, size_t size) { return note_taken(REAL(aligned_alloc)(alignment, size), size, CALLER); }
+HOOK void *memalign(size_t alignment, size_t size) { return note_taken(REAL(memalign)(alignment, size), size, CALLER); }
+HOOK void *valloc(size_t size) { return note_taken(REAL(valloc)(size), size, CALLER); }
+HOOK void *pvalloc(size_t size) { return note_taken(REAL(pvalloc)(size), size, CALLER); }
+
+HOOK void *calloc(size_t count, size_t size)
+{
+    return LIKELY(NOTES_NONE) ? allocator.calloc(count, size) : note_taken(get_allocator()->calloc(count, size), count * size, CALLER);
+}
 
 HOOK int posix_memalign(void **block, size_t alignment, size_t size)
 {
     int result = REAL(posix_memalign)(block, alignment, size);
     if (result == 0)
-        note_taken(*block);
+        note_taken(*block, size, CALLER);
     return result;
 }
 
@@ -133,7 +150,7 @@ static void *shrink(void *block, size_t had, size_t size, uint64_t place)
     void *now = real(block, size);
     if (is_drawn)
         emit_publish(&draft, now && now != block ? EVENT_REUSE : EVENT_VOID, (uint32_t)moves, packed(block, moves), place);
-    return now;
+    return now != block ? note_taken(now, size, place) : now;
 }
 
 /* The real function would give the old block back before this library could say so. So a block that grows is moved here. */
@@ -141,7 +158,7 @@ static void *resize(void *block, size_t size, uint64_t site)
 {
     size_function size_of = get_allocator()->size_of;
     if (!block)
-        return note_taken(REAL(realloc)(NULL, size));
+        return note_taken(REAL(realloc)(NULL, size), size, site);
     if (!is_recording() || !size_of)
         return REAL(realloc)(block, size);
     size_t had = size_of(block);
@@ -150,8 +167,8 @@ static void *resize(void *block, size_t size, uint64_t site)
         return REAL(realloc)(block, 0);
     }
     if (size <= had)
-        return shrink(block, had, size, CALLER);
-    void *now = malloc(size);
+        return shrink(block, had, size, site);
+    void *now = note_taken(get_allocator()->malloc(size), size, site);
     if (now) {
         memcpy(now, block, had);
         free_behind(block, site);
@@ -172,6 +189,20 @@ HOOK void *reallocarray(void *block, size_t count, size_t size)
 }
 
 /* ---- Pages ---- */
+
+#if KEEPS_STACKS
+/* Only that of the program's own calls: what an allocator gets here it gives out in blocks. Memory that a mapping takes the place of is the program's
+ * already. */
+HOOK void *mmap(void *wanted, size_t size, int protection, int how, int file, off_t begin)
+{
+    void *now = (void *)syscall(SYS_mmap, wanted, size, protection, how, file, begin);
+    if (now != MAP_FAILED && !(how & MAP_FIXED) && is_instrumented(CALLER))
+        emit_taken(now, (size + 4095) & ~(size_t)4095, CALLER);
+    return now;
+}
+
+HOOK void *mmap64(void *wanted, size_t size, int protection, int how, int file, off_t begin) __attribute__((alias("mmap")));
+#endif
 
 HOOK int munmap(void *begin, size_t size)
 {

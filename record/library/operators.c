@@ -60,16 +60,18 @@ static void *need(void *block)
         if (!next)                                           \
             return otherwise;                                \
         void *block = next arguments;                        \
-        return allocator.is_foreign && is_of_allocator(next) ? note_taken(block) : block; \
+        return allocator.is_foreign && is_of_allocator(next) ? note_taken(block, size, CALLER) : block; \
     }
 
-/* Nearly always it is `malloc`, and succeeds. */
+/* Nearly always it is `malloc`, and succeeds. What is behind may be a call of `malloc` that is noted there. */
 #define NEW(name, parameters, arguments, otherwise)          \
     NEW_BEHIND(new_base, name, parameters, arguments, otherwise) \
     HOOK void *name parameters                               \
     {                                                        \
         void *block = is_known_as_ours(&new_base) && LIKELY(allocator.is_plain) ? allocator.malloc(size + !size) : NULL; \
-        return LIKELY(block != NULL) ? block : name##_behind arguments; \
+        if (UNLIKELY(block == NULL))                         \
+            return name##_behind arguments;                  \
+        return NOTES_NONE ? block : note_taken(block, size, CALLER); \
     }
 
 #define NEW_ALIGNED(name, parameters, arguments, otherwise)  \

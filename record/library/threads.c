@@ -6,8 +6,10 @@
 #include <link.h>
 #include <linux/futex.h>
 #include <pthread.h>
+#include <stdarg.h>
 #include <stdlib.h>
 #include <string.h>
+#include <sys/prctl.h>
 #include <sys/syscall.h>
 #include <threads.h>
 #include <time.h>
@@ -39,6 +41,7 @@ static void end_thread(void *again)
         return;
     }
     emit_end_of_thread();
+    emit(EVENT_THREAD_END, 0, 0, 0);
     if (is_ordering())
         dl_iterate_phdr(reuse_local, NULL);
     emit_reuse(stack.begin, stack.size);
@@ -226,14 +229,35 @@ JOIN(pthread_timedjoin_np, (pthread_t thread, void **found, until when), (thread
 JOIN(pthread_clockjoin_np, (pthread_t thread, void **found, clockid_t clock, until when), (thread, found, clock, when))
 JOIN(thrd_join, (thrd_t thread, int *found), (thread, found))
 
+static void note_name(pthread_t thread, const char *name)
+{
+    uint64_t text[2] = {0, 0};
+    if (!is_recording())
+        return;
+    memcpy(text, name, strnlen(name, sizeof text - 1));
+    emit(EVENT_NAME_WHOM, 0, (uint64_t)thread, 0);
+    emit(EVENT_NAME, 0, text[0], text[1]);
+}
+
 HOOK int pthread_setname_np(pthread_t thread, const char *name)
 {
     int result = REAL(pthread_setname_np)(thread, name);
-    if (result == 0 && is_recording()) {
-        uint64_t text[2] = {0, 0};
-        memcpy(text, name, strnlen(name, sizeof text));
-        emit(EVENT_NAME_WHOM, 0, (uint64_t)thread, 0);
-        emit(EVENT_NAME, 0, text[0], text[1]);
-    }
+    if (result == 0)
+        note_name(thread, name);
+    return result;
+}
+
+/* A thread that names itself without the function above. */
+HOOK int prctl(int option, ...)
+{
+    unsigned long values[4];
+    va_list rest;
+    va_start(rest, option);
+    for (unsigned i = 0; i < 4; i++)
+        values[i] = va_arg(rest, unsigned long);
+    va_end(rest);
+    int result = (int)syscall(SYS_prctl, option, values[0], values[1], values[2], values[3]);
+    if (result == 0 && option == PR_SET_NAME)
+        note_name(pthread_self(), (const char *)values[0]);
     return result;
 }

@@ -8,6 +8,7 @@
 #include "form.h"
 #include "nodes.h"
 #include "output.h"
+#include "sites.h"
 #include "stacks.h"
 #include "trace.h"
 #include "variables.h"
@@ -265,7 +266,7 @@ static void write_access(struct thread *thread, bool is_write, uint64_t address,
 
 static void write_reuse(struct thread *thread, uint64_t address, uint64_t bytes, uint64_t place)
 {
-    uint32_t node = node_at(place);
+    uint32_t node = place ? node_of(place, caller_of_event) : caller_of_event;
     char *at = begin_event(thread);
     if (at)
         end_event(thread, put(put_operand(put_node(at, node), KIND_REUSE, bytes), &address, 6));
@@ -320,9 +321,10 @@ static void write_bytes(enum kind kind, const void *bytes, size_t count)
         output_use(put_text(at, kind, bytes, count));
 }
 
+/* A library may have made the call for the program. */
 static void keep_creation(struct thread *thread, uint64_t place)
 {
-    thread->created_at = node_at(place);
+    thread->created_at = caller_of_event && !sites_has_instrumented(place) ? caller_of_event : node_at(place);
 }
 
 static void write_thread_fact(const struct thread *thread)

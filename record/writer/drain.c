@@ -15,6 +15,8 @@
 #include "stacks.h"
 #include "trace.h"
 
+/* A replay takes each page of a block by itself: of longer ones nothing is written. */
+#define MOST_TAKEN (UINT64_C(1) << 28)
 /* The producers see the head once in this number of events. */
 #define HEAD_STEP 512
 /* The most events that are kept back from a reader that waits for them. */
@@ -35,6 +37,7 @@ static struct text *texts;
 struct identity {
     uint64_t self, named, joining;
     uint32_t joined; /* the number of `joining`, 0 if it has none */
+    bool has_ended;
     uint32_t next;   /* in its bucket */
 };
 static struct identity *identities;
@@ -91,11 +94,33 @@ static void set_self(uint32_t number, uint64_t self)
         return;
     uint32_t *bucket = identity_bucket(self);
     get_identity(number)->self = self;
+    get_identity(number)->has_ended = false;
     get_identity(number)->next = *bucket;
     *bucket = number;
 }
 
 /* ---- Names of threads ---- */
+
+/* The last ones of threads that have not begun, or that are not recorded. */
+#define MOST_EARLY 64
+static struct { uint64_t self; char name[17]; } early_names[MOST_EARLY];
+static unsigned early_count;
+
+static void keep_early_name(uint64_t self, const char *name)
+{
+    unsigned at = early_count++ % MOST_EARLY;
+    early_names[at].self = self;
+    strcpy(early_names[at].name, name);
+}
+
+static void use_early_name(uint32_t number, uint64_t self)
+{
+    for (unsigned i = 0; i < MOST_EARLY; i++)
+        if (self && early_names[i].self == self) {
+            trace_thread_name(trace_thread(number), early_names[i].name);
+            early_names[i].self = 0;
+        }
+}
 
 static void name_thread(const struct slot *slot)
 {
@@ -110,8 +135,10 @@ static void name_thread(const struct slot *slot)
         return;
     }
     uint32_t number = number_of(whom);
-    if (number)
+    if (number && !get_identity(number)->has_ended)
         trace_thread_name(trace_thread(number), name);
+    else
+        keep_early_name(whom, name);
 }
 
 /* ---- Begins, starts and joins of threads ---- */
@@ -122,6 +149,7 @@ static void begin_thread(const struct slot *slot)
     set_self(slot->thread, slot->first);
     stacks_set(slot->size);
     trace_created(slot->thread, slot->second);
+    use_early_name(slot->thread, slot->first);
 }
 
 static void start_thread(const struct slot *slot)
@@ -276,6 +304,7 @@ static void take_rare(const struct slot *slot)
     case EVENT_IGNORE_ON: change_ignoring(slot->thread, true); break;
     case EVENT_IGNORE_OFF: change_ignoring(slot->thread, false); break;
     case EVENT_THREAD: begin_thread(slot); break;
+    case EVENT_THREAD_END: get_identity(slot->thread)->has_ended = true; break;
     case EVENT_NAME_WHOM: get_identity(slot->thread)->named = slot->first; break;
     case EVENT_NAME: name_thread(slot); break;
     case EVENT_MAPS_BEGIN: begin_text(slot->thread); break;
@@ -303,6 +332,12 @@ static void reuse(const struct slot *slot)
     pages_reuse(&reuse, slot->first & REUSE_MASK, reuse_size(slot));
 }
 
+static void take_memory(const struct slot *slot)
+{
+    if (reuse_size(slot) <= MOST_TAKEN)
+        trace_reuse(trace_thread(slot->thread), slot->first & REUSE_MASK, reuse_size(slot), slot->second);
+}
+
 static void take(const struct slot *slot)
 {
     enum event_kind kind = slot_kind(slot);
@@ -322,6 +357,7 @@ static void take(const struct slot *slot)
     case EVENT_AWAIT: await_object(slot, (enum object_kind)(slot->size % OBJECT_KINDS)); break;
     case EVENT_REUSE:
     case EVENT_FREE: reuse(slot); break;
+    case EVENT_TAKEN: take_memory(slot); break;
     default: take_rare(slot); break;
     }
 }

@@ -92,19 +92,26 @@ static bool is_scope(int tag)
     return tag == DW_TAG_subprogram || tag == DW_TAG_namespace || is_class(tag);
 }
 
-/* What is in a part of the unit, but for what is in classes. Or what is in a class, and then there is no unit: functions have no code there. */
+static bool is_function(int tag)
+{
+    return tag == DW_TAG_subprogram || tag == DW_TAG_inlined_subroutine;
+}
+
+/* What is in a part of the unit, but for what is in classes, unless a function has them: functions have no code in others. Or what is in a class, and
+ * then there is no unit. */
 static void read_part(struct unit *unit, struct scopes *scopes, Dwarf_Die *part, size_t outer)
 {
     Dwarf_Die die;
     size_t last = NONE;
+    bool enters_classes = !unit || (outer != NONE && dwarf_tag(part) != DW_TAG_namespace);
     for (int more = dwarf_child(part, &die); more == 0; more = dwarf_siblingof(&die, &die)) {
         int tag = dwarf_tag(&die);
         if (last != NONE)
             scopes->all[last].end = dwarf_dieoffset(&die);
         last = is_scope(tag) && dwarf_haschildren(&die) ? add_scope(scopes, &die, outer) : NONE;
-        if (unit && (tag == DW_TAG_subprogram || tag == DW_TAG_inlined_subroutine))
+        if (unit && is_function(tag))
             add_function(unit, &die, tag == DW_TAG_inlined_subroutine);
-        if (unit ? may_have_code(tag) : is_class(tag))
+        if ((unit && may_have_code(tag)) || (enters_classes && is_class(tag)))
             read_part(unit, scopes, &die, last == NONE ? outer : last);
     }
 }

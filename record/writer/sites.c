@@ -17,6 +17,11 @@ bool sites_have_paths, sites_have_callers;
 static char *maps;
 static size_t maps_bytes;
 static Dwfl *files;
+/* The file that was looked for last: most places are in it again. */
+static struct {
+    Dwarf_Addr begin, end;
+    Dwfl_Module *file;
+} last_file;
 
 /* Sites that were looked up, by open addressing, at most half full. */
 static struct site *table;
@@ -99,6 +104,7 @@ bool sites_set_maps(const char *text, size_t bytes)
         dwfl_end(files);
     }
     files = NULL;
+    last_file.file = NULL;
     return true;
 }
 
@@ -382,8 +388,13 @@ static bool describe_line(const char *name, const char *folder, int number, char
 
 static Dwfl_Module *file_of(uint64_t place)
 {
+    if (last_file.file && place >= last_file.begin && place < last_file.end)
+        return last_file.file;
     Dwfl *all = sites_files();
-    return all ? dwfl_addrmodule(all, place) : NULL;
+    last_file.file = all ? dwfl_addrmodule(all, place) : NULL;
+    if (last_file.file)
+        dwfl_module_info(last_file.file, NULL, &last_file.begin, &last_file.end, NULL, NULL, NULL, NULL);
+    return last_file.file;
 }
 
 static bool describe(uint64_t place, char *text, size_t room)

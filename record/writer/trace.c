@@ -145,7 +145,7 @@ void trace_access(struct thread *thread, bool is_write, uint64_t address, uint64
 
 void trace_reuse(struct thread *thread, uint64_t address, uint64_t bytes, uint64_t place)
 {
-    if (place && !site_of(place)->is_instrumented)
+    if (place && !sites_has_instrumented(place))
         place = 0;
     while (bytes) {
         uint64_t part = bytes < REUSE_BYTES ? bytes : REUSE_BYTES;

@@ -27,7 +27,7 @@ struct thread *trace_thread(uint32_t number);
 bool trace_has_thread(uint32_t number);
 /* The place of an event is the program counter behind the call that makes it, or 0. */
 void trace_access(struct thread *thread, bool is_write, uint64_t address, uint64_t bytes, uint64_t place);
-/* The trace has the place only if it is in instrumented code. */
+/* The trace has the place only if it is in instrumented code, and else that of the call around it, if it is known. */
 void trace_reuse(struct thread *thread, uint64_t address, uint64_t bytes, uint64_t place);
 void trace_lock(struct thread *thread, enum verb verb, struct label *lock, uint64_t place);
 void trace_other_thread(uint32_t number, enum verb verb, uint32_t other, uint64_t place);

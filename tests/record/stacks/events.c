@@ -1,4 +1,5 @@
-/* Events that are no accesses have their places and calls as well. EVENT says of which kind they are, and names all of them.
+/* Events that are no accesses have their places and calls as well. EVENT says of which kind they are, and names all of them. The C library takes memory for
+ * a thread.
  *
  * EVENT start begins main-begins
  * EVENT lock takes main-works
@@ -12,6 +13,8 @@
  * EVENT signal stores main-stores
  * EVENT join ends main-ends
  * EVENT reuse frees main-frees
+ * EVENT reuse main-frees
+ * EVENT reuse begins main-begins
  */
 #define _GNU_SOURCE
 #include "marks.h"
