@@ -4,7 +4,6 @@
 #include <ctype.h>
 #include <dlfcn.h>
 #include <stdbool.h>
-#include <stdio.h>
 #include <stdlib.h>
 #include <string.h>
 
@@ -48,8 +47,10 @@ static bool is_lambda(const char *part, size_t bytes)
 
 static void append(char *name, const char *text, size_t bytes)
 {
-    size_t used = strlen(name);
-    snprintf(name + used, PLAIN_BYTES - used, "%.*s", (int)bytes, text);
+    size_t used = strlen(name), most = PLAIN_BYTES - 1 - used;
+    bytes = bytes < most ? bytes : most;
+    memcpy(name + used, text, bytes);
+    name[used + bytes] = 0;
 }
 
 /* Template arguments go, and from the parameters on all does, or from a dot: `work._omp_fn.0` is a parallel region in work. A blank between two words
@@ -154,15 +155,16 @@ static void put_demangled(char name[PLAIN_BYTES], const char *text)
     }
 }
 
-/* What C++'s library makes of a symbol, or NULL if it isn't there or the symbol is none of C++. It is loaded when it is needed first. */
+/* What C++'s library makes of a symbol, or NULL if it isn't there or the symbol is none of C++. It is loaded when it is needed first, and finds most names
+ * that it asks for in itself. */
 static char *demangle(const char *symbol)
 {
     static char *(*found)(const char *, char *, size_t *, int *);
     static bool was_loaded;
     int status;
     if (!was_loaded) {
-        void *library = dlopen("libstdc++.so.6", RTLD_LAZY);
-        library = library ? library : dlopen("libc++abi.so.1", RTLD_LAZY);
+        void *library = dlopen("libstdc++.so.6", RTLD_LAZY | RTLD_DEEPBIND);
+        library = library ? library : dlopen("libc++abi.so.1", RTLD_LAZY | RTLD_DEEPBIND);
         if (library)
             *(void **)&found = dlsym(library, "__cxa_demangle");
         was_loaded = true;

@@ -7,10 +7,13 @@
 #include <stdio.h>
 #include <stdlib.h>
 #include <string.h>
+#include <unistd.h>
 
 #include "functions.h"
 #include "plain.h"
 #include "trace.h"
+
+#define PATH_BYTES 4096
 
 bool sites_have_paths, sites_have_callers;
 
@@ -35,10 +38,49 @@ static size_t block_used;
 
 static int free_facts(Dwfl_Module *file, void **place, const char *name, Dwarf_Addr begin, void *nothing);
 
+#define DEBUG_FOLDER "/usr/lib/debug"
+
+/* Whether there is a file by which `link` names the debug information of another one, in one of the usual places. */
+static bool has_link(const char *file, const char *link)
+{
+    static const char *const forms[] = {"%.*s/%s", "%.*s/.debug/%s", DEBUG_FOLDER "%.*s/%s"};
+    char real[PATH_BYTES], path[2 * PATH_BYTES];
+    bool is_there = false;
+    for (unsigned i = 0; realpath(file, real) && i < sizeof forms / sizeof *forms && !is_there; i++) {
+        snprintf(path, sizeof path, forms[i], (int)(strrchr(real, '/') - real), real, link);
+        is_there = access(path, R_OK) == 0;
+    }
+    return is_there;
+}
+
+/* The same by the number that the linker has given to it. */
+static bool has_build(Dwfl_Module *file)
+{
+    const unsigned char *number;
+    GElf_Addr place;
+    char path[256] = DEBUG_FOLDER "/.build-id/";
+    int bytes = dwfl_module_build_id(file, &number, &place);
+    size_t used = strlen(path);
+    if (bytes < 2 || bytes > 64)
+        return false;
+    for (int i = 0; i < bytes; i++)
+        used += (size_t)sprintf(path + used, i == 0 ? "%02x/" : "%02x", number[i]);
+    strcpy(path + used, ".debug");
+    return access(path, R_OK) == 0;
+}
+
+/* Of a file whose debug information is nowhere libdw would ask a server, and load thirty libraries for that, also if no server is named. */
+static int find_debug(Dwfl_Module *file, void **place, const char *name, Dwarf_Addr begin, const char *path, const char *link, GElf_Word sum, char **found)
+{
+    const char *servers = getenv("DEBUGINFOD_URLS");
+    bool may_be = (servers && *servers) || has_build(file) || (path && link && has_link(path, link));
+    return may_be ? dwfl_standard_find_debuginfo(file, place, name, begin, path, link, sum, found) : -1;
+}
+
 static char *debug_path;
 static const Dwfl_Callbacks callbacks = {
     .find_elf = dwfl_linux_proc_find_elf,
-    .find_debuginfo = dwfl_standard_find_debuginfo,
+    .find_debuginfo = find_debug,
     .debuginfo_path = &debug_path,
 };
 
@@ -129,8 +171,6 @@ Dwfl *sites_files(void)
 }
 
 /* ---- Paths of sources ---- */
-
-#define PATH_BYTES 4096
 
 /* The folder whose files have shorter sites, once it is known: empty if there is none. */
 static char root[PATH_BYTES];
