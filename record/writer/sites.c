@@ -37,6 +37,7 @@ static size_t block_used;
 /* ---- Files ---- */
 
 static int free_facts(Dwfl_Module *file, void **place, const char *name, Dwarf_Addr begin, void *nothing);
+static void forget_sources(void);
 
 #define DEBUG_FOLDER "/usr/lib/debug"
 
@@ -142,6 +143,7 @@ bool sites_set_maps(const char *text, size_t bytes)
     forget_sites();
     if (files) {
         functions_forget();
+        forget_sources();
         dwfl_getmodules(files, free_facts, NULL, 0);
         dwfl_end(files);
     }
@@ -415,15 +417,40 @@ static const char *behind_root(const char *path)
     return *path == '/' && realpath(path, real) && is_below(real, root) ? real + strlen(root) + 1 : path;
 }
 
-/* True if it is a line in a header of the system. */
-static bool describe_line(const char *name, const char *folder, int number, char *text, size_t room)
+/* What a source of the debug information is called in sites. Of those that were looked up lately. */
+#define RECENT_SOURCES 256
+static struct source {
+    const char *name, *folder;
+    char *text;
+    bool is_in_header; /* of the system */
+} recent_sources[RECENT_SOURCES];
+
+static void look_up_source(struct source *source, const char *name, const char *folder)
 {
     char path[PATH_BYTES];
     whole_path(path, folder, name);
     if (!is_root_known)
         find_root(sites_files());
-    snprintf(text, room, "%s:%d", sites_have_paths ? name : behind_root(path), number);
-    return is_below(path, "/usr/include") || is_below(path, "/usr/lib");
+    const char *text = sites_have_paths ? name : behind_root(path);
+    free(source->text);
+    *source = (struct source){name, folder, strcpy(get_memory(NULL, strlen(text) + 1), text), is_below(path, "/usr/include") || is_below(path, "/usr/lib")};
+}
+
+static void forget_sources(void)
+{
+    for (unsigned i = 0; i < RECENT_SOURCES; i++)
+        recent_sources[i].name = NULL;
+}
+
+/* True if it is a line in a header of the system. The names are the debug information's own, and go with it. */
+static bool describe_line(const char *name, const char *folder, int number, char *text, size_t room)
+{
+    uint64_t key = (uint64_t)(uintptr_t)name + 31 * (uint64_t)(uintptr_t)folder;
+    struct source *source = &recent_sources[key * UINT64_C(0x9e3779b97f4a7c15) >> 56];
+    if (source->name != name || source->folder != folder)
+        look_up_source(source, name, folder);
+    snprintf(text, room, "%s:%d", source->text, number);
+    return source->is_in_header;
 }
 
 static Dwfl_Module *file_of(uint64_t place)
