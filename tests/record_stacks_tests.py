@@ -101,19 +101,9 @@ def outside(trace, node, source, marks):
     return [name_of(place.decode(), source, marks) for place, _ in itertools.dropwhile(lambda part: part[1] & trace4.IN_HEADER, trace.stack(node))]
 
 
-class Named(trace4.Trace):
-    """A trace and the functions of its places."""
-
-    def __init__(self, data):
-        self.functions = {}
-        super().__init__(data)
-
-    def read_fact(self, kind, content):
-        place = int.from_bytes(content[:4], "little")
-        if kind == trace4.MEMORY and place < len(self.places) and len(content) > 4:
-            self.functions.setdefault(self.places[place].decode(), content[4:].decode())
-        else:
-            super().read_fact(kind, content)
+def functions_of(trace, source):
+    """The places of a source, and the function of each, or `-`."""
+    return {place.decode(): trace.functions.get(number, b"-").decode() for number, place in enumerate(trace.places) if place.startswith(source.name.encode() + b":")}
 
 
 # ---- The programs
@@ -179,8 +169,8 @@ def named(folder, findings, compiler, level):
     """Functions have the names that a person gives them, and blocks of memory are those that the program got."""
     source = PROGRAMS / "named.cpp"
     program = build(folder, findings, source, compiler, level)
-    trace, marks = Named(Recording(folder, program).paths[0].read_bytes()), lines_of(source)
-    functions = {(name_of(place, source, marks), name) for place, name in trace.functions.items() if place.startswith(f"{source.name}:")}
+    trace, marks = Recording(folder, program).traces[0], lines_of(source)
+    functions = {(name_of(place, source, marks), name) for place, name in functions_of(trace, source).items()}
     wrong = {pair for pair in functions ^ expected(source, "FUNCTION") if pair[0] in marks.values()}
     findings.check(f"the functions of {program.name}", not wrong, f"{wrong} {trace.damage}")
     blocks = {(str(event.size), *calls) for event in trace.events if event.kind == trace4.REUSE and (calls := outside(trace, event.node, source, marks)) and calls[0] in marks.values()}
@@ -191,13 +181,12 @@ def regions(folder, findings, level):
     """OpenMP: each place is in a function of the source, and each thread was created at one of its lines."""
     source, program = SOURCES / "openmp/regions.c", folder / f"regions{level}"
     built = command(["gcc", "-g", "-fsanitize=thread", "-std=gnu11", *record_tests.WARNINGS, "-fopenmp", level, source, "-o", program])
-    trace = Named(Recording(folder, program).paths[0].read_bytes())
+    trace = Recording(folder, program).traces[0]
     known = set(re.findall(r"^(?:static )?\w+ \**(\w+)\(", source.read_text(), re.M))
-    places = {place.decode() for place in trace.places if place.startswith(b"regions.c:")}
-    functions = {trace.functions.get(place, "-") for place in places}
-    findings.check(f"the functions of {program.name}", {"main"} < functions <= known, f"{built} {functions} {known}")
+    functions = functions_of(trace, source)
+    findings.check(f"the functions of {program.name}", {"main"} < set(functions.values()) <= known, f"{built} {functions} {known}")
     created = [outside(trace, fact.created_at, source, {}) for fact in trace.thread_facts.values()]
-    findings.check(f"the threads of {program.name}", len(created) > 1 and all(calls and calls[0] in places for calls in created), f"{created}")
+    findings.check(f"the threads of {program.name}", len(created) > 1 and all(calls and calls[0] in functions for calls in created), f"{created}")
 
 
 def many(folder, findings):
