@@ -19,7 +19,7 @@ struct function {
 size_t count_begun(const void *ranges, size_t count, size_t bytes, Dwarf_Addr place);
 /* The innermost one that has this place of the unit, or NULL. */
 struct function *function_at(Dwarf_Die *unit, Dwarf_Addr place);
-/* What it is called, with its scopes, or nothing. NULL is called nothing. */
+/* What it is called, with its scopes, or nothing. A function that is NULL is called nothing. */
 const char *function_name(Dwarf_Die *unit, struct function *function);
 /* The debug information goes, and all of these with it. */
 void functions_forget(void);

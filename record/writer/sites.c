@@ -559,7 +559,7 @@ static const struct site *callers_of(struct function *inlined, Dwarf_Die *unit)
     return keep(&site, sizeof site);
 }
 
-/* Of a file without debug information the symbols say it. */
+/* Of code without debug information the symbols say it. */
 static const char *name_by_symbol(Dwfl_Module *file, uint64_t place)
 {
     GElf_Off offset;
@@ -579,8 +579,8 @@ static void find_function(struct site *site, uint64_t place)
         return;
     Dwarf_Die *unit = unit_of(file, place, &bias);
     struct function *function = unit ? function_at(unit, place - bias) : NULL;
-    site->function = unit ? keep_name(function_name(unit, function)) : name_by_symbol(file, place);
-    site->caller = unit ? callers_of(function, unit) : NULL;
+    site->function = function ? keep_name(function_name(unit, function)) : name_by_symbol(file, place);
+    site->caller = callers_of(function, unit);
 }
 
 const struct site *site_of(uint64_t place)
