@@ -253,15 +253,28 @@ static inline char *put_access(char *at, bool is_write, uint64_t address, uint64
     return at;
 }
 
+static inline void write_part(struct thread *thread, bool is_write, uint64_t address, uint64_t bytes, uint32_t node)
+{
+    char *at = begin_event(thread);
+    if (at)
+        end_event(thread, put_access(at, is_write, address, bytes, node));
+}
+
+static __attribute__((noinline)) void write_long_access(struct thread *thread, bool is_write, uint64_t address, uint64_t bytes, uint32_t node)
+{
+    for (uint64_t end = address + bytes, next = address; address < end; address = next) {
+        next = end - address <= ACCESS_BYTES ? end : (address | (ACCESS_BYTES - 1)) + 1;
+        write_part(thread, is_write, address, next - address, node);
+    }
+}
+
 static void write_access(struct thread *thread, bool is_write, uint64_t address, uint64_t bytes, uint64_t place)
 {
     uint32_t node = node_of(place, caller_of_event);
-    for (uint64_t end = address + bytes, next = address; address < end; address = next) {
-        next = end - address <= ACCESS_BYTES ? end : (address | (ACCESS_BYTES - 1)) + 1;
-        char *at = begin_event(thread);
-        if (at)
-            end_event(thread, put_access(at, is_write, address, next - address, node));
-    }
+    if (bytes <= ACCESS_BYTES)
+        write_part(thread, is_write, address, bytes, node);
+    else
+        write_long_access(thread, is_write, address, bytes, node);
 }
 
 static void write_reuse(struct thread *thread, uint64_t address, uint64_t bytes, uint64_t place)

@@ -8,7 +8,6 @@
 #include "locks.h"
 #include "objects.h"
 
-#define PAGE_BITS 12
 #define REGION_BITS 27
 #define ADDRESS_BITS 48
 #define REGION_PAGES (1u << (REGION_BITS - PAGE_BITS))
@@ -20,8 +19,8 @@ struct region {
     uint64_t locked[REGION_PAGES / 64];
 };
 static struct region *regions[REGIONS];
-/* The page that was marked last: most accesses are to the same page again. */
-static uint64_t last_marked = UINT64_MAX;
+/* At first page 0, which no program has in any memory. */
+uint64_t recent_pages[RECENT_PAGES];
 
 static struct region *get_region(uint64_t address)
 {
@@ -37,18 +36,16 @@ static inline uint32_t page_in_region(uint64_t address)
     return (uint32_t)(address >> PAGE_BITS) & (REGION_PAGES - 1);
 }
 
-void pages_mark(uint64_t address, uint64_t bytes)
+void pages_mark_new(uint64_t address, uint64_t bytes)
 {
     uint64_t end = (address + bytes - 1) >> PAGE_BITS;
-    if (address >> PAGE_BITS == last_marked && end == last_marked)
-        return;
     if (bytes == 0 || end >> (ADDRESS_BITS - PAGE_BITS))
         return;
     for (uint64_t page = address >> PAGE_BITS; page <= end; page++) {
         uint32_t at = page_in_region(page << PAGE_BITS);
         get_region(page << PAGE_BITS)->accessed[at / 64] |= UINT64_C(1) << at % 64;
     }
-    last_marked = end;
+    recent_pages[end % RECENT_PAGES] = end;
 }
 
 void pages_mark_lock(uint64_t address)
@@ -100,7 +97,7 @@ void pages_reuse(const struct reuse *reuse, uint64_t address, uint64_t bytes)
 {
     struct run run = {reuse, 0, 0};
     uint64_t end = address + bytes;
-    last_marked = UINT64_MAX;
+    memset(recent_pages, 0, sizeof recent_pages);
     if (end > UINT64_C(1) << ADDRESS_BITS)
         return;
     while (address < end) {

@@ -7,8 +7,21 @@
 
 #include "trace.h"
 
+#define PAGE_BITS 12
+/* Pages that were marked lately: most accesses are to one of these again. */
+#define RECENT_PAGES 64u
+extern uint64_t recent_pages[RECENT_PAGES];
+
+void pages_mark_new(uint64_t address, uint64_t bytes);
+
 /* Words of these bytes are accessed. */
-void pages_mark(uint64_t address, uint64_t bytes);
+static inline void pages_mark(uint64_t address, uint64_t bytes)
+{
+    uint64_t page = address >> PAGE_BITS;
+    if (__builtin_expect(recent_pages[page % RECENT_PAGES] != page || (address + bytes - 1) >> PAGE_BITS != page, 0))
+        pages_mark_new(address, bytes);
+}
+
 /* A lock or another object that threads wait for is at this address. */
 void pages_mark_lock(uint64_t address);
 struct reuse {

@@ -14,8 +14,7 @@
 const struct form *trace_form = &text_form;
 uint64_t trace_events, trace_lost;
 
-/* The program's threads, and those that stand for their fences, by the bits that tell them apart. */
-static struct threads { struct thread *all; uint32_t room; } tables[4];
+struct threads trace_threads[4];
 static uint32_t thread_count;
 
 void *get_memory(void *old, size_t bytes)
@@ -83,7 +82,7 @@ char *put_number(char *at, uint64_t number)
 
 static struct threads *table_of(uint32_t number)
 {
-    return &tables[number / PASSES_ON];
+    return &trace_threads[number / PASSES_ON];
 }
 
 bool trace_has_thread(uint32_t number)
@@ -104,8 +103,8 @@ static struct thread *place_of(uint32_t number)
     return &table->all[at];
 }
 
-/* Threads are named by their first event. Apart, so that each other event pays nothing for it. */
-static __attribute__((noinline)) struct thread *new_thread(uint32_t number)
+/* Threads are named by their first event. */
+struct thread *trace_new_thread(uint32_t number)
 {
     struct thread *thread = place_of(number);
     thread->text[0] = 't';
@@ -115,16 +114,9 @@ static __attribute__((noinline)) struct thread *new_thread(uint32_t number)
     return thread;
 }
 
-struct thread *trace_thread(uint32_t number)
-{
-    const struct threads *table = table_of(number);
-    uint32_t at = number % PASSES_ON;
-    return at < table->room && table->all[at].bytes ? &table->all[at] : new_thread(number);
-}
-
 void trace_each_thread(void (*visit)(const struct thread *thread))
 {
-    for (const struct thread *thread = tables[0].all; thread < tables[0].all + tables[0].room; thread++)
+    for (const struct thread *thread = trace_threads[0].all; thread < trace_threads[0].all + trace_threads[0].room; thread++)
         if (thread->bytes)
             visit(thread);
 }
@@ -132,15 +124,13 @@ void trace_each_thread(void (*visit)(const struct thread *thread))
 /* ---- Events ---- */
 
 /* What lies behind the end of memory is lost. */
-void trace_access(struct thread *thread, bool is_write, uint64_t address, uint64_t bytes, uint64_t place)
+void trace_access_beyond(struct thread *thread, bool is_write, uint64_t address, uint64_t bytes, uint64_t place)
 {
     uint64_t most = address < ADDRESS_END ? ADDRESS_END - address : 0;
-    if (bytes > most) {
+    if (bytes > most)
         trace_lost += (bytes - most + 3) / 4;
-        bytes = most;
-    }
-    if (bytes)
-        trace_form->access(thread, is_write, address, bytes, place);
+    if (bytes && most)
+        trace_form->access(thread, is_write, address, most, place);
 }
 
 void trace_reuse(struct thread *thread, uint64_t address, uint64_t bytes, uint64_t place)

@@ -22,11 +22,33 @@ void trace_end(uint64_t lost);
 #define PASSES_ON (UINT32_C(1) << 30)
 #define HAS_SEEN (UINT32_C(1) << 31)
 
-struct thread *trace_thread(uint32_t number);
+/* The program's threads, and those that stand for their fences, by the bits that tell them apart. */
+struct threads {
+    struct thread *all;
+    uint32_t room;
+};
+extern struct threads trace_threads[4];
+struct thread *trace_new_thread(uint32_t number);
+
+static inline struct thread *trace_thread(uint32_t number)
+{
+    const struct threads *table = &trace_threads[number / PASSES_ON];
+    uint32_t at = number % PASSES_ON;
+    return __builtin_expect(at < table->room && table->all[at].bytes, 1) ? &table->all[at] : trace_new_thread(number);
+}
 /* True if it has an event, or one that names it. */
 bool trace_has_thread(uint32_t number);
 /* The place of an event is the program counter behind the call that makes it, or 0. */
-void trace_access(struct thread *thread, bool is_write, uint64_t address, uint64_t bytes, uint64_t place);
+void trace_access_beyond(struct thread *thread, bool is_write, uint64_t address, uint64_t bytes, uint64_t place);
+
+static inline void trace_access(struct thread *thread, bool is_write, uint64_t address, uint64_t bytes, uint64_t place)
+{
+    if (__builtin_expect(address < ADDRESS_END && bytes - 1 < ADDRESS_END - address, 1))
+        trace_form->access(thread, is_write, address, bytes, place);
+    else
+        trace_access_beyond(thread, is_write, address, bytes, place);
+}
+
 /* The trace has the place only if it is in instrumented code, and else that of the call around it, if it is known. */
 void trace_reuse(struct thread *thread, uint64_t address, uint64_t bytes, uint64_t place);
 void trace_lock(struct thread *thread, enum verb verb, struct label *lock, uint64_t place);
