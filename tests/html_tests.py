@@ -359,8 +359,10 @@ def hostile_tests(record, one, folder):
     (before, between, behind), report, _ = blocks_of(page)
     document = json.loads(report)
     document["races"] = [{"line": 9 * place + 9, "thread": name, "kind": "write", "address": name, "site": name, "held": [name], "reasons": [
-        {"line": 1, "thread": name, "kind": "read", "label": "first", "lock": None, "calls": [name]}, {"line": 2, "thread": "t" + name, "kind": "write", "label": "joined", "lock": None},
-        {"line": 9 * place + 9, "thread": name, "kind": "write", "label": "not covering", "lock": name}]} for place, name in enumerate(HOSTILE)]
+        {"line": 1, "thread": name, "kind": "read", "label": "first", "lock": None, "calls": [name], "functions": [name, name]}, {"line": 2, "thread": "t" + name, "kind": "write", "label": "joined", "lock": None},
+        {"line": 9 * place + 9, "thread": name, "kind": "write", "label": "not covering", "lock": name}],
+        **({"block": {"size": 8, "offset": 4, "site": name}} if place % 2 else {"variable": {"name": name, "offset": 4}})} for place, name in enumerate(HOSTILE)]
+    document["threads"] = [{"thread": name, "name": name, "site": name} for name in HOSTILE]
     document["refused"] = [{"line": 1, "thread": name, "event": name, "lock": name, "why": name} for name in HOSTILE]
     document["shown"] = [{"line": 1, "address": name, "state": name, "owner": name, "candidates": [name]} for name in HOSTILE]
     sources = json.dumps([{"site": name, "line": 1, "text": name} for name in HOSTILE]).encode()
@@ -372,7 +374,12 @@ def hostile_tests(record, one, folder):
     record("hostile names are text", is_calm(one) and is_harmless(one) and sites == HOSTILE, f"{one.troubles}, {sites}")
     record("hostile names have pictures", len(one.value(PICTURES)) == len(HOSTILE), f"{len(one.value(PICTURES))}")
     calls = one.value("[...document.querySelectorAll('ul.calls > li')].map(call => call.textContent)")
-    record("hostile names of calls are text", calls == [f"called at {name}" for name in HOSTILE], f"{calls}")
+    record("hostile names of calls are text", calls == [text for name in HOSTILE for text in (f"in {name}", f"called at {name} in {name}")], f"{calls}")
+    told = one.value("[...document.querySelectorAll('ul.threads > li')].map(start => start.textContent)")
+    record("hostile names of threads are text", told == [f'{name} "{name}" was started at {name}' for name in HOSTILE], f"{told}")
+    told = one.value("[...document.querySelectorAll('details.site > .body > p:first-child')].map(first => first.textContent)")
+    wanted = [f"byte 4 of a block of 8 bytes from {name}, the word" if place % 2 else f"{name}+4, the word" for place, name in enumerate(HOSTILE)]
+    record("hostile names of variables and blocks are text", len(told) == len(wanted) and all(words in text for words, text in zip(wanted, told)), f"{told}")
     # And if a block were not escaped, the policy would keep the script from running.
     opened(b"".join((before, b"{}</script><script>window.hostile = 6</script><img src=x onerror='window.hostile = 7'>", between, b"[]", behind)), folder, one)
     record("the policy lets no other script run", one.value("typeof window.hostile") == "undefined" and any("Content Security Policy" in trouble for trouble in one.troubles), f"{one.troubles}")
@@ -477,11 +484,15 @@ def calls_tests(record, one, folder):
     of_reader, of_writer = writer.node_of(b"pool.c:5", writer.node_of(b"main.c:7")), writer.node_of(b"main.c:9")
     for thread, is_write, place, caller in ((b"main", True, b"job.c:3", 0), (b"w1", False, b"job.c:20", of_reader), (b"w2", True, b"job.c:30", of_writer)):
         writer.access(thread, is_write, 0x1000, 4, writer.node_of(place, caller))
+    # Of the reader the function, of its caller none; where a thread was started, and the variable.
+    writer.record(trace4.FUNCTION, 8, (4).to_bytes(4, "little") + b"take")
+    writer.record(trace4.THREAD_FACTS, 14, (1).to_bytes(4, "little") + of_writer.to_bytes(4, "little") + b"reader")
+    writer.record(trace4.VARIABLE, 16, (0xff8).to_bytes(6, "little") + (16).to_bytes(6, "little") + b"jobs")
     path = pathlib.Path(folder) / "calls.trace"
     path.write_bytes(writer.finish())
     stories = "[...document.querySelectorAll('ol.story')].map(story => [...story.children].map(line => [line.firstChild.textContent, ...[...line.querySelectorAll('ul.calls > li')].map(call => call.textContent)]))"
     # What is unordered in the run, and then the race by locks.
-    unordered = [["Line 2: "], ["Line 3: ", "called at pool.c:5", "called at main.c:7"]]
+    unordered = [["Line 2: "], ["Line 3: ", "in take", "called at pool.c:5", "called at main.c:7"]]
     for way, trace, text, wanted in (
         ("a file", str(path), b"", [unordered, [*unordered, ["Line 4: ", "called at main.c:9"]]]),
         ("standard input", "-", path.read_bytes(), [[["Line 2: "], ["Line 3: "]], [["Line 2: "], ["Line 3: "], ["Line 4: "]]]),
@@ -489,6 +500,9 @@ def calls_tests(record, one, folder):
         opened(run(["replay", "--analysis", "both", "--format", "html", trace], text)[0], folder, one)
         found = one.value(stories)
         record(f"the calls on a page of {way}", is_calm(one) and found == wanted, f"{found}, {one.troubles}")
+        told = one.value("[document.body.textContent.includes('jobs+8, the word at '), [...document.querySelectorAll('ul.threads > li')].map(start => start.textContent)]")
+        known = [True, ['w1 "reader" was started at main.c:9'] * 2] if way == "a file" else [False, []]
+        record(f"what raced and who, on a page of {way}", told == known, f"{told}")
 
 
 def large_tests(record, one, folder):

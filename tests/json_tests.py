@@ -20,7 +20,7 @@ import reference
 import site_tests
 from alone import OUTCOMES, each_refused, outcome_of, run_alone
 from analysis_tests import unordered_report
-from site_tests import NOWHERE, RACE, REASON, REUSE, TOP, holds_of, locks_in, places_in, preloaded, run, run_file, run_with
+from site_tests import NOWHERE, RACE, REASON, REUSE, TOP, holds_of, locks_in, places_in, plain_name, preloaded, run, run_file, run_with, starts
 
 SCHEMA = TOP / "docs/report.schema.json"
 REFUSED = re.compile(r"line (\d+): refused: (\S+) (\S+)(?: (\S+))?: ([^:]+)")
@@ -85,7 +85,7 @@ def text_of(document):
     """The bytes of a document: one line for each member and for each item of its first three lists. An analysis stands on the first line."""
     members = []
     for name, value in document.items():
-        rows = "[" + ",".join("\n" + plain(row) for row in value) + "]" if name in ("races", "refused", "shown") else plain(value)
+        rows = "[" + ",".join("\n" + plain(row) for row in value) + "]" if name in ("races", "refused", "shown", "threads") else plain(value)
         members.append(f'"{name}":{rows}')
     if "analysis" in document:
         members[:2] = [",".join(members[:2])]
@@ -96,13 +96,32 @@ def placed(reason, places):
     """A reason with the site of its access, the locks that its thread held and the calls that led there, if they are known."""
     if str(reason["line"]) not in places:
         return reason
-    site, locks, calls = places[str(reason["line"])]
-    held = {"held": [lock for lock, _ in locks], "held_to_read": [lock for lock, writes in locks if not writes]}
-    return {**reason, "site": None if site == "-" else site, **held, **called(calls)}
+    place = places[str(reason["line"])]
+    held = {"held": [lock for lock, _ in place.locks], "held_to_read": [lock for lock, writes in place.locks if not writes]}
+    return {**reason, "site": None if place.site == "-" else place.site, **held, **led(place)}
 
 
-def called(calls):
-    return {"calls": calls} if calls else {}
+def led(place):
+    """The calls that led to an access, and the functions, if one is known."""
+    return {**({"calls": place.calls} if place.calls else {}), **({"functions": place.functions} if any(place.functions) else {})}
+
+
+def subject(race, trace, words, lines):
+    """The variable or the block of a race's word, if it is looked up."""
+    memory = trace and "kind" in race and (trace.variable_of(int(race["address"], 16)) if race["address"] in words else None)
+    if memory:
+        return {"variable": {"name": memory.name.decode(), "offset": memory.offset}}
+    block = trace and "kind" in race and race["line"] in lines and trace.block_of(race["line"], int(race["address"], 16))
+    return {"block": {"size": block.size, "offset": block.offset, "site": plain_name(block.place)}} if block else {}
+
+
+def threads_of(document, trace):
+    """Where the threads of a document's races were started, in front of its totals, if a trace 4 says it of one."""
+    threads = [thread for race in document["races"] for thread in (race["thread"], *(reason["thread"] for reason in race["reasons"]))]
+    rows = [{"thread": thread, "name": name, "site": site} for thread, name, site in starts(threads, trace)]
+    if rows:
+        totals = document.pop("totals")
+        document.update({"threads": rows, "totals": totals})
 
 
 def wanted_lines(races):
@@ -116,18 +135,23 @@ def wanted_lines(races):
             yield from (reason["line"] for reason in race["reasons"])
 
 
-def documents_of(text, rules, explain, analysis="lockset", is_file=False, calls=None):
-    """The documents of a text that has no fault. Reasons have places if it is a file, which can be read twice, and these calls led to its lines."""
+def documents_of(text, rules, explain, analysis="lockset", is_file=False, trace=None):
+    """The documents of a text that has no fault. Reasons have places if it is a file, which can be read twice, with what this trace 4 says."""
     documents = []
     if analysis != "happens-before":
         documents.append(document_of(reference.replay(text, rules or b"", explain=explain)[0]))
     if analysis != "lockset":
         documents.append(document_of(unordered_report(text, reference.rules_of(rules or b""), explain)[0], holds_of(text)))
     wanted = {str(line) for document in documents for line in wanted_lines(document["races"])}
-    places = {line: place for line, place in (places_in(text, calls) if is_file else {}).items() if line in wanted}
-    for race in [race for document in documents for race in document["races"]]:
+    places = {line: place for line, place in (places_in(text, trace) if is_file else {}).items() if line in wanted}
+    races = [race for document in documents for race in document["races"]]
+    words = {race["address"] for race in races if "kind" in race and str(race["line"]) in wanted}
+    for race in races:
         race["reasons"] = [placed(reason, places) for reason in race["reasons"]]
-        race.update(called(places.get(str(race["line"]), NOWHERE).calls if "kind" in race else []))
+        race.update(led(places.get(str(race["line"]), NOWHERE)) if "kind" in race else {})
+        race.update(subject(race, trace, words, {int(line) for line in wanted}))
+    for document in documents:
+        threads_of(document, trace)
     return documents
 
 
@@ -136,11 +160,11 @@ def order_note(text, documents):
     return reference.order_note_of(text, sum(document["totals"]["races"] for document in documents if "analysis" in document))
 
 
-def expected(text, rules, explain, analysis="lockset", is_file=False, calls=None):
+def expected(text, rules, explain, analysis="lockset", is_file=False, trace=None):
     output, errors, status = reference.replay(text, rules or b"", explain=explain)
     if status == 2:
         return output.encode(), errors.encode(), status
-    documents = documents_of(text, rules, explain, analysis, is_file, calls)
+    documents = documents_of(text, rules, explain, analysis, is_file, trace)
     texts = [text_of(document) for document in documents]
     output = "[\n" + ",\n".join(texts) + "]\n" if len(texts) > 1 else texts[0]
     return output.encode(), (errors + order_note(text, documents)).encode(), 1 if any(document["totals"]["races"] for document in documents) else 0

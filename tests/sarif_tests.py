@@ -4,6 +4,7 @@
 `tests/run` calls `tests`. By itself this file runs these tests alone.
 """
 
+import itertools
 import json
 import pathlib
 import re
@@ -19,7 +20,7 @@ import reference
 import site_tests
 from alone import each_refused, run_alone
 from json_tests import ANALYSES, REUSED, documents_of, order_note, plain
-from site_tests import DID, PLACED, TOP, places_in, preloaded, run, run_fifo, run_file, run_with
+from site_tests import DID, NOWHERE, PLACED, TOP, places_in, preloaded, run, run_fifo, run_file, run_with, subject
 
 # What differs between the runs: what the rules begin with, what they say of each kind, why a race is one, and the name of the run.
 BY_LOCKS = ("race/", {"read": "A read that no lock protects", "write": "A write that no lock protects"}, "no lock protects it", {})
@@ -50,12 +51,17 @@ PLACES = {
 
 # ---- The log of a report's text
 
-def location(site):
+def location(site, function=None):
     place = re.fullmatch(r"(.+):([1-9]\d{0,8})", site)
+    inside = [{"fullyQualifiedName": function, "kind": "function"}] if function else []
     if not place:
-        return {"logicalLocations": [{"fullyQualifiedName": site}]}
+        return {"logicalLocations": [{"fullyQualifiedName": site}, *inside]}
     uri = urllib.parse.quote(place[1], safe="/!$&'()*+,;=@")
-    return {"physicalLocation": {"artifactLocation": {"uri": uri}, "region": {"startLine": int(place[2])}}}
+    return {"physicalLocation": {"artifactLocation": {"uri": uri}, "region": {"startLine": int(place[2])}}, **({"logicalLocations": inside} if inside else {})}
+
+
+def function_of(place):
+    return next(iter(place.functions), None)
 
 
 def reason(found, places):
@@ -63,16 +69,17 @@ def reason(found, places):
     text = f"{label}: {found['thread']} {found['kind']} on line {found['line']} of the trace"
     if str(found["line"]) not in places:
         return {"message": {"text": text}}
-    site, locks, _ = places[str(found["line"])]
+    place = places[str(found["line"])]
+    site, locks, *_ = place
     held = ", ".join(lock + ("" if writes else " (to read)") for lock, writes in locks) or "no lock"
-    return {**({} if site == "-" else location(site)), "message": {"text": f"{text}, holding {held}"}}
+    return {**({} if site == "-" else location(site, function_of(place))), "message": {"text": f"{text}, holding {held}"}}
 
 
 def stacks_of(race, places):
     """The stacks of a race's access, if it isn't a reuse, and of those that its reasons name, as far as the calls that led there are known."""
     lines = [race["line"]] * ("kind" in race) + [found["line"] for found in race["reasons"] if found["line"] != race["line"]]
     called = [(line, places[str(line)]) for line in lines if str(line) in places and places[str(line)].calls]
-    stacks = [{"message": {"text": f"line {line} of the trace"}, "frames": [{"location": location(site)} for site in (place.site, *place.calls)]} for line, place in called]
+    stacks = [{"message": {"text": f"line {line} of the trace"}, "frames": [{"location": location(*frame)} for frame in itertools.zip_longest((place.site, *place.calls), place.functions)]} for line, place in called]
     return {"stacks": stacks} if stacks else {}
 
 
@@ -81,7 +88,7 @@ def words_of(document):
     return BY_ORDER if "analysis" in document else BY_LOCKS
 
 
-def results_of(document, places):
+def results_of(document, places, trace):
     """The results, each with the first race of its site and kind. Each reuse without a site is one of its own, at its address."""
     front, _, why, _ = words_of(document)
     sorts = {}
@@ -91,13 +98,14 @@ def results_of(document, places):
         sorts.setdefault(sort, []).append(race)
     for (*_, site, kind), races in sorts.items():
         race = races[0]
-        deed = f"gave back {race['bytes']} bytes at {race['reuse']}" if kind == "reuse" else f"{DID[kind]} the word at {race['address']}"
+        deed = f"gave back {race['bytes']} bytes at {race['reuse']}" if kind == "reuse" else f"{DID[kind]}{subject(trace, race['line'], race['address'], 1000)} the word at {race['address']}"
+        function = None if kind == "reuse" else function_of(places.get(str(race["line"]), NOWHERE))
         yield {
             "ruleId": front + kind,
             "level": "error",
             "message": {"text": f"{race['thread']} {deed}, and {why}"},
             "occurrenceCount": len(races),
-            "locations": [location(site)],
+            "locations": [location(site, function)],
             "partialFingerprints": {"siteAndKind/v1": f"{site} {kind}"},
             "relatedLocations": [reason(found, places) for found in race["reasons"]],
             **stacks_of(race, places),
@@ -129,12 +137,12 @@ def suppressed_of(rules, document):
             }
 
 
-def run_text(document, places, rules):
+def run_text(document, places, rules, trace=None):
     """The run of a document: its races are explained, and these rules took the others."""
     front, kinds, _, named = words_of(document)
     kinds = {**kinds, "suppressed": "Races that a rule of suppressions takes"}
     driver = {"name": "eraser", "rules": [{"id": front + kind, "shortDescription": {"text": text}} for kind, text in kinds.items()]}
-    rows = ",".join("\n" + plain(result) for result in [*results_of(document, places), *suppressed_of(rules, document)])
+    rows = ",".join("\n" + plain(result) for result in [*results_of(document, places, trace), *suppressed_of(rules, document)])
     members = [f'"{name}":{plain(value)}' for name, value in {"tool": {"driver": driver}, **named}.items()] + [f'"results":[{rows}]']
     if "lost" in document["totals"]:
         notice = {"level": "warning", "message": {"text": f"{document['totals']['lost']} events were lost: the report is of a part of the run"}}
@@ -146,11 +154,11 @@ def log_of(runs):
     return '{"$schema":"https://json.schemastore.org/sarif-2.1.0.json",\n"version":"2.1.0",\n"runs":[' + ",".join(runs) + "]}\n"
 
 
-def expected(text, rules, is_file=False, analysis="lockset", calls=None):
+def expected(text, rules, is_file=False, analysis="lockset", trace=None):
     output, errors, status = reference.replay(text, rules or b"", explain=True)
     if status < 2:
         documents = documents_of(text, rules, True, analysis)
-        output = log_of(run_text(document, places_in(text, calls) if is_file else {}, reference.rules_of(rules or b"")) for document in documents)
+        output = log_of(run_text(document, places_in(text, trace) if is_file else {}, reference.rules_of(rules or b""), trace) for document in documents)
         errors, status = errors + order_note(text, documents), 1 if any(document["totals"]["races"] for document in documents) else 0
     return output.encode(), errors.encode(), status
 

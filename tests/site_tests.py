@@ -5,6 +5,7 @@
 """
 
 import collections
+import itertools
 import os
 import pathlib
 import re
@@ -131,9 +132,10 @@ def holds_of(text):
     return holding.holds
 
 
-# Where an access stood, the locks that its thread held, each with whether it was held to write, and the calls that led there, the innermost first.
-Place = collections.namedtuple("Place", "site locks calls")
-NOWHERE = Place("-", [], [])
+# Where an access stood, the locks that its thread held, each with whether it was held to write, the calls that led there, the innermost first, and the
+# function of the access and of each of these calls, as far as they are known.
+Place = collections.namedtuple("Place", "site locks calls functions")
+NOWHERE = Place("-", [], [], [])
 MOST_CALLS = 8
 
 
@@ -149,31 +151,70 @@ class Placed(reference.Replay):
             held = self.held.get(thread, {})
             locks = self.in_order(list(held) + list(range(1, self.level.get(thread, 0) + 1)))
             site = operands[1].decode() if len(operands) > 1 else "-"
-            self.places[str(line)] = Place(site, [(self.name(lock), held.get(lock) != b"rlock") for lock in locks], [])
+            self.places[str(line)] = Place(site, [(self.name(lock), held.get(lock) != b"rlock") for lock in locks], [], [])
         super().step(line, thread, verb, operands)
 
 
-def places_in(text, calls=None):
-    """Where the accesses of a trace stood, by their lines, if these calls led to its lines."""
+def plain_name(name):
+    return name.decode() if name else None
+
+
+def places_in(text, trace=None):
+    """Where the accesses of a trace stood, by their lines, with what this trace 4 says of them."""
     run = Placed()
     for line, (thread, verb, operands) in reference.events_of(text):
         run.step(line, thread, verb, operands)
-    return {line: place._replace(calls=(calls or {}).get(line, [])) for line, place in run.places.items()}
+    if trace is None:
+        return run.places
+    led = {line: [plain_name(name) for name in (trace.function_on(int(line)), *trace.functions_of_calls(int(line)))] for line in run.places}
+    return {line: place._replace(calls=trace.calls[line], functions=led[line]) for line, place in run.places.items()}
 
 
-def call_lines(calls):
+def led_lines(place):
+    """The function of an access, and the calls that led there."""
+    own, *functions = place.functions or [None]
+    calls = [f"    called at {short(call, 72)}{f' in {short(name, 72)}' if name else ''}" for call, name in itertools.zip_longest(place.calls, functions)]
     left_out = len(calls) - MOST_CALLS
-    return [*(f"    called at {short(call, 72)}" for call in calls[:MOST_CALLS]), *([f"    .. and {left_out} more"] if left_out > 0 else [])]
+    return [*([f"    in {short(own, 72)}"] if own else []), *calls[:MOST_CALLS], *([f"    .. and {left_out} more"] if left_out > 0 else [])]
+
+
+def memory_of(trace, line, address):
+    """The variable of a race's word, or the block that it was in, as a trace 4 says it."""
+    return trace and (trace.variable_of(int(address, 16)) or trace.block_of(int(line), int(address, 16)))
+
+
+def subject(trace, line, address, most=72):
+    """The same in words, in front of the word."""
+    memory = memory_of(trace, line, address)
+    if not memory:
+        return ""
+    if memory.name:
+        return f" {short(memory.name.decode(), most)}{f'+{memory.offset}' if memory.offset else ''},"
+    return f" byte {memory.offset} of a block of {memory.size} bytes{f' from {short(memory.place.decode(), most)}' if memory.place else ''},"
+
+
+def starts(threads, trace):
+    """Of these threads, each once, where it was started and what the program calls it, if a trace 4 says where."""
+    found = {thread: trace and trace.start_of(thread.encode()) for thread in threads}
+    return [(thread, plain_name(start[1]), start[0].decode()) for thread, start in found.items() if start and start[0]]
+
+
+def start_lines(races, trace):
+    """The threads that these races and their reasons name."""
+    threads = [thread for race in races for thread in (race[1], *(reason[2] for reason in race[-1]))]
+    called = lambda name: f' "{short(name, 72)}"' if name else ""
+    lines = [f"  {short(thread, 24)}{called(name)} was started at {short(site, 72)}" for thread, name, site in starts(threads, trace)]
+    return ["threads:", *lines, ""] if lines else []
 
 
 def place_lines(place):
     """The lines behind a reason whose place is known."""
-    site, locks, calls = place
+    site, locks, *_ = place
     at = "" if site == "-" else f"at {short(site, 72)}"
     if not locks:
-        return ["    " + ", ".join(part for part in (at, "holding no lock") if part), *call_lines(calls)]
+        return ["    " + ", ".join(part for part in (at, "holding no lock") if part), *led_lines(place)]
     held = [f"    holding {lock_name(lock)}" + ("" if writes else ", but only to read") for lock, writes in locks]
-    return [*([f"    {at}"] if at else []), *call_lines(calls), *held]
+    return [*([f"    {at}"] if at else []), *led_lines(place), *held]
 
 
 def title(race, places):
@@ -185,7 +226,7 @@ def title(race, places):
     return f"{short(site, 72)}:" if met in ("-", site) else f"{short(site, 57)} and {short(met, 57)}:"
 
 
-def story(race, places):
+def story(race, places, trace):
     """A race in sentences. That of a reuse has a size in place of the address of a word."""
     line, thread, kind, address, site, held, reasons = race
     who = short(thread, 24)
@@ -194,9 +235,9 @@ def story(race, places):
     if kind == "reuse":
         yield from given_back(line, thread, address, reasons, places)
         return
-    yield f"  {who} {DID[kind]} the word at {address} (line {line})"
+    yield f"  {who} {DID[kind]}{subject(trace, line, address)} the word at {address} (line {line})"
     own = places.get(line, NOWHERE)
-    yield from call_lines(own.calls)
+    yield from led_lines(own)
     unwritten = {lock for lock, writes in own.locks if not writes}
     for lock in held:
         is_weak = lock in unwritten or {("joined", line), (f"{lock} not covering", line)} & {(label, at) for label, at, _, _ in reasons}
@@ -269,7 +310,7 @@ def rows_of(races, numbers):
     return sorted(sites.items(), key=lambda row: (row[0].startswith(SYSTEM), -len(row[1]), numbers[row[0]]))
 
 
-def table(rows, places):
+def table(rows, places, trace):
     """The lines of a table and of an example for each of its rows."""
     if not rows:
         return []
@@ -279,48 +320,54 @@ def table(rows, places):
         threads, locks = len({race[1] for race in found}), len({lock for race in found for lock in race[5]})
         lines.append(f"{len(found):<10}{kinds:<12}{threads:<10}{locks:<10}{short(site, 72)}")
     for _, found in rows:
-        lines += story(found[0], places)
+        lines += story(found[0], places, trace)
     return [*lines, ""]
 
 
-def part(heading, nothing, rows, places):
+def part(heading, nothing, rows, places, trace):
     """A heading, and below it the table and the examples, if there are rows."""
-    return [heading, *table(rows, places)] if rows else [f"{heading}: {nothing}", ""]
+    return [heading, *table(rows, places, trace)] if rows else [f"{heading}: {nothing}", ""]
 
 
-def by_site(report, text, places):
+def examples(rows):
+    return [found[0] for _, found in rows]
+
+
+def by_site(report, text, places, trace=None):
     """The text for people, from the lines of an explained report of a trace and where accesses stood as far as that is known."""
     races, _, refused, rest = read_report(report)
-    return "".join(line + "\n" for line in [*table(rows_of(races, sites_in(text)), places), *refused, *rest])
+    rows = rows_of(races, sites_in(text))
+    return "".join(line + "\n" for line in [*table(rows, places, trace), *start_lines(examples(rows), trace), *refused, *rest])
 
 
-def in_run(races, reuses, numbers, places):
+def in_run(rows, reuses, places, trace):
     """What is unordered in the run: the sites of accesses and reuses, and then the other reuses."""
-    rows = rows_of(races, numbers)
-    sites = ["races in this run"] if reuses and not rows else part("races in this run", "none", rows, places)
+    sites = ["races in this run"] if reuses and not rows else part("races in this run", "none", rows, places, trace)
     return [*sites, *(line for reuse in reuses for line in reuse_story(reuse, places))]
 
 
-def by_site_of_order(unordered, text, places):
+def by_site_of_order(unordered, text, places, trace=None):
     """The text for people of an explained report by happens-before."""
     races, reuses, refused, rest = read_report(unordered, holds_of(text))
-    return "".join(line + "\n" for line in [*in_run(races, reuses, sites_in(text), places), *refused, *rest])
+    rows = rows_of(races, sites_in(text))
+    return "".join(line + "\n" for line in [*in_run(rows, reuses, places, trace), *start_lines([*examples(rows), *reuses], trace), *refused, *rest])
 
 
-def by_site_of_both(lockset, unordered, text, places):
+def by_site_of_both(lockset, unordered, text, places, trace=None):
     """The same of a trace that was analysed both ways: what is unordered in the run, and the other sites of races by locks."""
     (races, _, refused, rest), (others, reuses, _, more) = read_report(lockset), read_report(unordered, holds_of(text))
     numbers = sites_in(text)
-    unordered_sites = dict(rows_of(others, numbers))
-    apart = [row for row in rows_of(races, numbers) if row[0] not in unordered_sites]
-    lines = [*in_run(others, reuses, numbers, places), *part("no common lock", "no further site", apart, places)]
+    first = rows_of(others, numbers)
+    apart = [row for row in rows_of(races, numbers) if row[0] not in dict(first)]
+    lines = [*in_run(first, reuses, places, trace), *part("no common lock", "no further site", apart, places, trace)]
+    lines += start_lines([*examples(first), *reuses, *examples(apart)], trace)
     return "".join(line + "\n" for line in [*lines, *refused, *rest, *more])
 
 
-def expected(text, rules, is_file=False, calls=None):
+def expected(text, rules, is_file=False, trace=None):
     output, errors, status = reference.replay(text, rules or b"", explain=True)
     if status < 2:
-        output = by_site(output, text, places_in(text, calls) if is_file else {})
+        output = by_site(output, text, places_in(text, trace) if is_file else {}, trace)
     return output.encode(), errors.encode(), status
 
 

@@ -34,6 +34,9 @@ from alone import OUTCOMES, each_failed, each_refused, outcome_of, run_alone
 from site_tests import TOP, preloaded, run, run_file
 
 RANDOM_TRACES = 200
+# What reports have of calls and facts.
+SHOWN = (b"called at", b" more\n", b"    in Pool::take\n", b" in stats\n", b" stats+", b" of a block of ", b" was started at ", b' "stats" was', b'"calls":', b'"functions":[', b'"functions":[null', b'"variable":', b'"block":',
+    b'"site":null}', b'"threads":', b'"name":null', b'"stacks":', b'"kind":"function"')
 SCHEMA = json.loads(json_tests.SCHEMA.read_text())
 # Options of a replay. Each trace is replayed with some of them.
 FORMS = ([], ["--explain"], ["--by-site"], ["--format", "json"], ["--format", "sarif"], ["--format", "html"], ["--workers", "3"], ["--strict"],
@@ -123,13 +126,13 @@ def long_traces(record):
 
 def check_calls(record, name, text, data):
     """The forms of a report that tell places show the calls that led there, as the second readings say. Returns which of them do."""
-    calls = trace4.Trace(data).calls
+    trace = trace4.Trace(data)
     wanted = {
-        "by site": site_tests.expected(text, None, True, calls),
-        "json": json_tests.expected(text, None, True, "lockset", True, calls),
-        "json of both": json_tests.expected(text, None, True, "both", True, calls),
-        "sarif": sarif_tests.expected(text, None, True, "lockset", calls),
-        "sarif of both": sarif_tests.expected(text, None, True, "both", calls),
+        "by site": site_tests.expected(text, None, True, trace),
+        "json": json_tests.expected(text, None, True, "lockset", True, trace),
+        "json of both": json_tests.expected(text, None, True, "both", True, trace),
+        "sarif": sarif_tests.expected(text, None, True, "lockset", trace),
+        "sarif of both": sarif_tests.expected(text, None, True, "both", trace),
     }
     for form, want in wanted.items():
         options = ["--by-site"] if form == "by site" else ["--explain", "--format", form.split()[0]]
@@ -141,15 +144,15 @@ def check_calls(record, name, text, data):
         if "sarif" in form and want[2] < 2:
             wrong = list(sarif_tests.faults(json.loads(found[0] or b"{}")))
             record(f"trace 4: the calls of {name}, {form} by what SARIF requires", not wrong, f"{wrong}")
-        yield from (word for word in (b"called at", b" more\n", b'"calls":', b'"stacks":') if word in found[0])
+        yield from (word for word in SHOWN if word in found[0])
 
 
 def shown_calls(record):
     met = collections.Counter()
     for at, (name, text) in enumerate(random_texts()):
-        data = trace4.encode(text, random.Random(at), most_bytes=random.Random(at).choice([100, 65536]), most_calls=at % 14)
+        data = trace4.encode(text, random.Random(at), most_bytes=random.Random(at).choice([100, 65536]), most_calls=at % 14, facts=at % 4 > 0)
         met.update(check_calls(record, name, trace4.text_of(data), data))
-    record("trace 4: reports show calls", all(met[word] > 20 for word in (b"called at", b" more\n", b'"calls":', b'"stacks":')), f"{met}")
+    record("trace 4: reports show what a trace says", all(met[word] > 5 for word in SHOWN), f"{met}")
     # The calls of the race, of the write that it is unordered with, and none where a place has no caller.
     data = of_blocks([*BEGIN, named(T.PLACE, b"main.c:3"), record_of(T.NEW_NODE, 0, bytes([2, 0, 0, 0, 0])), record_of(T.NEW_NODE, 4, bytes([0, 0, 0, 0, 0])), record_of(T.NEW_NODE, 5, bytes([1, 0, 0, 0, 1])),
         bytes([64 | 16 | 1, 16, 6]), record_of(T.THREAD, 1), bytes([64 | 16 | 1, 16, 2]), record_of(T.END, 2)])
@@ -334,10 +337,10 @@ def refusals(record, preloaded, folder):
 def refusals_again(record, preloaded, folder):
     """Memory that is refused to a report by site of a file, which is read again: its calls are left out, or its places and calls, and nothing else is."""
     library, path, met = preloaded(folder, "refuse"), pathlib.Path(folder) / "calls.trace", set()
-    path.write_bytes(trace4.encode(b"eraser trace 3\nt1 lock m\nt1 write 0x1000 a.c:1\nt2 write 0x1000 b.c:2\n", random.Random(4), most_bytes=40, most_calls=3))
+    path.write_bytes(trace4.encode(b"eraser trace 3\nt1 lock m\nt1 write 0x1000 a.c:1\nt2 write 0x1000 b.c:2\n", random.Random(4), most_bytes=40, most_calls=3, facts=True))
     trace = trace4.Trace(path.read_bytes())
     reports = {
-        site_tests.expected(trace.text(), None, True, trace.calls): "whole",
+        site_tests.expected(trace.text(), None, True, trace): "whole",
         site_tests.expected(trace.text(), None, True): "without calls",
         site_tests.expected(trace.text(), None): "without places",
         (b"", b"read fault\n", 4): "read fault",

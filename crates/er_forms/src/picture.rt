@@ -27,7 +27,7 @@ const shortened = (name, most) => (name.length > most ? "\u2026" + name.slice(1 
 // each access is known.
 function accessesOf(race) {
   const byLine = new Map();
-  const own = isUnordered(race) ? [{ label: "", line: race.line, thread: race.thread, kind: isReuse(race) ? "reuse" : race.kind, calls: race.calls }] : [];
+  const own = isUnordered(race) ? [{ label: "", line: race.line, thread: race.thread, kind: isReuse(race) ? "reuse" : race.kind, calls: race.calls, functions: race.functions }] : [];
   for (const reason of [...race.reasons, ...own]) {
     if (!byLine.has(reason.line)) {
       byLine.set(reason.line, { ...reason, isFirst: false, isJoined: false, isWrite: false, lost: [] });
@@ -148,10 +148,24 @@ function storyOf(race) {
   const story = make("ol", { class: "story" });
   for (const access of accesses) {
     const item = make("li", access.isRace ? { class: "race" } : {}, `Line ${access.line}: `, sentenceOf(access, race));
-    if (access.calls) item.append(make("ul", { class: "calls" }, ...access.calls.map((call) => make("li", {}, "called at ", named(call)))));
+    const led = ledOf(access);
+    if (led.length) item.append(make("ul", { class: "calls" }, ...led));
     story.append(item);
   }
   return story;
+}
+
+// The function that an access is in and the calls that led there, as far as they are known.
+function ledOf({ calls = [], functions = [] }) {
+  const inside = (name, before) => (name ? [before, named(name)] : []);
+  const lines = calls.map((call, place) => make("li", {}, "called at ", named(call), ...inside(functions[place + 1], " in ")));
+  return functions[0] ? [make("li", {}, ...inside(functions[0], "in ")), ...lines] : lines;
+}
+
+// What is known of the word of a race: its variable, or the block that it was in.
+function subjectOf({ variable, block }) {
+  if (variable) return `${variable.name}${variable.offset ? `+${variable.offset}` : ""}, `;
+  return block ? `byte ${block.offset} of a block of ${block.size} bytes${block.site === null ? "" : ` from ${block.site}`}, ` : "";
 }
 
 function sentenceOf(access, race) {

@@ -40,7 +40,10 @@ function partsOf(reports) {
     parts[1].sites = parts[1].sites.filter((site) => !names.has(site.name));
   }
   parts.flatMap((part) => part.sites).forEach((site, place) => (site.id = `site-${place + 1}`));
-  for (const part of parts) for (const site of part.sites) site.isOrder = part.isOrder;
+  for (const part of parts) {
+    const starts = new Map((part.report.threads || []).map((start) => [start.thread, start]));
+    for (const site of part.sites) Object.assign(site, { isOrder: part.isOrder, starts });
+  }
   return parts;
 }
 
@@ -90,13 +93,15 @@ function sourceOf(excerpt) {
 function exampleOf(site, excerpt) {
   const race = site.races[0];
   const body = make("div", { class: "body" });
-  const deed = isReuse(race) ? ` gave back ${counted(race.bytes, "byte", "bytes")} at ` : ` ${did(race.kind)} the word at `;
+  const deed = isReuse(race) ? ` gave back ${counted(race.bytes, "byte", "bytes")} at ` : ` ${did(race.kind)} ${subjectOf(race)}the word at `;
   body.append(make("p", {}, named(race.thread), deed, named(addressOf(race)), ` on line ${race.line} of the trace`,
     race.held.length ? ", holding " : ", holding no lock", race.held.length ? named(listed(race.held)) : "",
     site.isOrder ? ", and nothing orders this after an earlier access." : ", and no lock protects it."));
   if (race.reasons.length) {
     body.append(make("h3", {}, site.isOrder ? "What nothing orders" : "How the locks ran out"), make("div", { class: "wide", tabindex: "0", role: "group", "aria-label": "Picture of the race" }, pictureOf(race)), storyOf(race));
   }
+  const starts = [...new Set([race, ...race.reasons].map((one) => one.thread))].flatMap((thread) => site.starts.get(thread) || []);
+  if (starts.length) body.append(make("ul", { class: "threads" }, ...starts.map(startOf)));
   if (excerpt) body.append(make("h3", {}, "Source"), sourceOf(excerpt));
   body.append(make("h3", {}, "All races here"), make("p", {}, "Threads: ", named(listed([...site.threads])), ". Locks held at some of them: ", named(listed([...site.locks])), "."));
   const caption = site.words > LISTED ? `The first ${LISTED} of ${counted(site.words, "race", "races")}` : counted(site.words, "race", "races");
@@ -105,6 +110,7 @@ function exampleOf(site, excerpt) {
   return body;
 }
 
+const startOf = ({ thread, name, site }) => make("li", {}, named(thread), name === null ? "" : ` "${name}"`, " was started at ", named(site));
 const addressOf = (race) => (isReuse(race) ? race.reuse : race.address);
 
 // A site's part of the page. What is in it is made when it is opened first.

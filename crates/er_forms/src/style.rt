@@ -46,7 +46,7 @@ summary .name { font-weight: 600; }
 .body { padding: 0.25rem 0.75rem 0.75rem; }
 ol.story { padding-left: 1.5rem; margin: 0.25rem 0; }
 ol.story li { margin: 0.2rem 0; }
-ul.calls { padding-left: 1.5rem; margin: 0; list-style: none; }
+ul.calls, ul.threads { padding-left: 1.5rem; margin: 0; list-style: none; }
 li.race { color: var(--bad); }
 pre.source { margin: 0.25rem 0; padding: 0.5rem 0; border: 1px solid var(--line); border-radius: 6px; overflow-x: auto; tab-size: 4; }
 pre.source span { display: block; padding: 0 0.75rem; min-width: max-content; }

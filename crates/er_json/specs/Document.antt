@@ -1,5 +1,6 @@
 -- The JSON of reports: each word here is the text of one value.
-use Rattle.std.specs.Prelude.{ℕ, Bool, true, false, cond, not, ◌&&◌, is_some, List, [], ◌∷◌, ◌++◌, flat_map, filter, Option, Some, None, codes, decimal}
+use Rattle.std.specs.Prelude.{ℕ, ◌*◌, ◌-◌, Bool, true, false, cond, not, ◌&&◌, ◌||◌, is_some, List, [], ◌∷◌, ◌++◌, flat_map, filter, Option, Some, None, codes, decimal}
+use Rattle.std.specs.List.{list_any}
 use Rattle.er_event.specs.Lockset.{has}
 use Rattle.er_event.specs.Refusal.{text_of, refusal_of}
 use Rattle.er_event.specs.declared.refusals.NoRoom.{NoRoom}
@@ -9,11 +10,15 @@ use Rattle.er_event.specs.declared.steps.Event.TheVariants.{Acquire, Release}
 use Rattle.er_event.specs.declared.steps.Step.{Step}
 use Rattle.er_event.specs.declared.steps.WordState.{WordState}
 use Rattle.er_event.specs.declared.steps.WordState.TheVariants.{Virgin, Exclusive, Shared, SharedModified}
+use Rattle.er_places.specs.Names.{block_of, call_function, function_of, start_of, variable_of}
 use Rattle.er_places.specs.Places.{PlaceTable, call_name}
+use Rattle.er_places.specs.declared.facts.Block.{Block}
+use Rattle.er_places.specs.declared.facts.Start.{Start}
+use Rattle.er_places.specs.declared.facts.Variable.{Variable}
 pub use Rattle.er_places.specs.Places.{HasPlaceNames, calls_of}
 pub use Rattle.er_places.specs.Reasons.{race_place, reason_place}
 use Rattle.er_places.specs.declared.places.Place.{Place}
-use Rattle.er_print.specs.Printed.{address_text, bytes_between, event_verb, kind_text, lost_text}
+use Rattle.er_print.specs.Printed.{address_text, bytes_between, event_verb, kind_text, lost_text, name_at}
 use Rattle.er_print.specs.Styles.{lock_in, locks_in, named_site, site_in, string_text, thread_in}
 use Rattle.er_print.specs.Values.{array_text}
 pub use Rattle.er_print.specs.Values.{values_text}
@@ -31,6 +36,7 @@ use Rattle.er_report.specs.declared.report.Label.{Label}
 use Rattle.er_report.specs.declared.report.Label.TheVariants as label
 use Rattle.er_report.specs.declared.report.Report.{Report}
 use Rattle.er_report.specs.declared.reports.Reports.{Reports}
+use Rattle.er_sites.specs.Threads.{each_once, view_threads}
 use Rattle.er_trace.specs.Names.{NameTable}
 
 -- objects on lines of their own, with commas between them
@@ -65,10 +71,33 @@ abbrev pub calls_member : PlaceTable → List ℕ → List ℕ
 calls_member table [] = []
 calls_member table (call ∷ calls) = codes ",\"calls\":" ++ array_text (call_text table) (call ∷ calls)
 
--- the place of an access and the calls that led there, if that is known
+abbrev pub is_known : List ℕ → Bool
+is_known [] = false
+is_known (byte ∷ name) = true
+
+-- a name, null if it isn't known
+abbrev pub name_value : List ℕ → List ℕ
+name_value [] = codes "null"
+name_value (byte ∷ name) = string_text (byte ∷ name)
+
+-- the function that a call is in, behind a comma
+abbrev pub function_item : PlaceTable → ℕ → List ℕ
+function_item table call = codes "," ++ name_value (call_function table call)
+
+-- the function that the access at a place is in, and those of the calls that led there
+abbrev pub functions_text : PlaceTable → Option Place → List ℕ
+functions_text table place =
+    codes ",\"functions\":[" ++ name_value (function_of table place) ++ flat_map (function_item table) (calls_of table place) ++ codes "]"
+
+-- if one of them is known
+abbrev pub functions_member : PlaceTable → Option Place → List ℕ
+functions_member table place =
+    cond (is_known (function_of table place) || list_any (λ (call : ℕ). is_known (call_function table call)) (calls_of table place)) (functions_text table place) []
+
+-- the place of an access, the calls that led there and the functions, if that is known
 abbrev pub place_if : PlaceTable → Option Place → List ℕ
 place_if table None = []
-place_if table (Some place) = place_member table.names place ++ calls_member table (calls_of table (Some place))
+place_if table (Some place) = place_member table.names place ++ calls_member table (calls_of table (Some place)) ++ functions_member table (Some place)
 
 -- one of a race's reasons: who did what, what it has to do with the race, and where; the lines of a trace count from 1
 unfoldable pub reason_text : NameTable → PlaceTable → Because → List ℕ
@@ -87,9 +116,30 @@ race_front names race (deed.Reuse range) =
     ++ codes "\",\"bytes\":" ++ decimal (bytes_between range.lo range.hi)
     ++ named_site style.Json names (codes ",\"site\":") race.site ++ codes ",\"held\":" ++ locks_in style.Json names race.held ++ codes ",\"reasons\":["
 
--- why it is a race, and the calls that led to its access
+-- where memory was taken
+abbrev pub taken_at : PlaceTable → Option ℕ → List ℕ
+taken_at table None = codes "null"
+taken_at table (Some place) = string_text (call_name table place)
+
+-- the variable that a word is in, else the block that it was in, and how far in the word begins, if one of them is known
+abbrev pub subject_by : PlaceTable → ℕ → Option Variable → Option Block → List ℕ
+subject_by table word (Some variable) block =
+    codes ",\"variable\":{\"name\":" ++ string_text variable.name.items ++ codes ",\"offset\":" ++ decimal (4 * word - variable.extent.address) ++ codes "}"
+subject_by table word None (Some block) =
+    codes ",\"block\":{\"size\":" ++ decimal block.extent.size ++ codes ",\"offset\":" ++ decimal (4 * word - block.extent.address) ++ codes ",\"site\":"
+    ++ taken_at table block.place ++ codes "}"
+subject_by table word None None = []
+
+-- a reuse has none
+unfoldable pub subject_member : PlaceTable → ℕ → Deed → List ℕ
+subject_member table number (deed.Access kind word) = subject_by table word (variable_of table word) (block_of table number word)
+subject_member table number (deed.Reuse range) = []
+
+-- why it is a race, what led to its access, and what raced
 abbrev pub reasons_end : NameTable → PlaceTable → RaceView → List ℕ
-reasons_end names table race = values_text (reason_text names table) race.explained ++ codes "]" ++ calls_member table (calls_of table (race_place table race)) ++ codes "}"
+reasons_end names table race =
+    values_text (reason_text names table) race.explained ++ codes "]" ++ calls_member table (calls_of table (race_place table race))
+    ++ functions_member table (race_place table race) ++ subject_member table race.line race.deed ++ codes "}"
 
 -- the lock of a lock event; any other has none
 abbrev pub event_lock : NameTable → Event → List ℕ
@@ -162,9 +212,32 @@ lists_text heading names table lines =
     ++ codes "],\n\"refused\":[" ++ rows_text (flat_map (rows_if is_refused names table) lines)
     ++ codes "],\n\"shown\":[" ++ rows_text (flat_map (rows_if is_shown names table) lines)
 
+-- a thread of this name was started at this place, behind a comma, if that is known
+abbrev pub started_row : NameTable → PlaceTable → ℕ → List ℕ → Option ℕ → List ℕ
+started_row names table thread name None = []
+started_row names table thread name (Some place) =
+    codes ",\n{\"thread\":" ++ thread_in style.Json names thread ++ codes ",\"name\":" ++ name_value name
+    ++ (codes ",\"site\":" ++ string_text (call_name table place) ++ codes "}")
+
+abbrev pub began_row : NameTable → PlaceTable → ℕ → Option Start → List ℕ
+began_row names table thread None = []
+began_row names table thread (Some start) = started_row names table thread start.name.items start.place
+
+abbrev pub thread_row : NameTable → PlaceTable → ℕ → List ℕ
+thread_row names table thread = began_row names table thread (start_of table (name_at names.threads thread))
+
+-- items behind this heading, if there are some: the first has no comma
+abbrev pub list_member : List ℕ → List ℕ → List ℕ
+list_member heading [] = []
+list_member heading (comma ∷ items) = heading ++ items ++ codes "]"
+
+-- where the threads of these races were started, each once
+unfoldable pub threads_member : NameTable → PlaceTable → List LineView → List ℕ
+threads_member names table lines = list_member (codes ",\n\"threads\":[") (flat_map (thread_row names table) (each_once (flat_map view_threads lines)))
+
 -- the document of a report
 unfoldable pub document_text : List ℕ → NameTable → PlaceTable → Summary → List ℕ
-document_text heading names table s = lists_text heading names table s.lines ++ stop_member s.stop ++ counts_member s.rule_counts ++ totals_member s
+document_text heading names table s = lists_text heading names table s.lines ++ stop_member s.stop ++ counts_member s.rule_counts ++ threads_member names table s.lines ++ totals_member s
 
 -- if there is such a report
 abbrev pub document_if : List ℕ → NameTable → PlaceTable → Option Report → List ℕ

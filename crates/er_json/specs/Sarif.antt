@@ -2,7 +2,8 @@
 use Rattle.std.specs.Prelude.{ℕ, zero, suc, ◌+◌, ◌==◌, cond, List, [], ◌∷◌, ◌++◌, flat_map, take, drop, length, max, count_by, slice_get, Option, Some, None, codes, decimal}
 use Rattle.er_event.specs.Lockset.{has}
 use Rattle.er_event.specs.declared.steps.Kind.TheVariants as kind
-use Rattle.er_json.specs.Document.{rows_text, sign_if}
+use Rattle.er_json.specs.Document.{list_member, rows_text, sign_if}
+use Rattle.er_places.specs.Names.{call_function, function_of}
 use Rattle.er_places.specs.Places.{PlaceTable, call_name}
 pub use Rattle.er_places.specs.Places.{HasPlaceNames, calls_of}
 pub use Rattle.er_places.specs.Reasons.{race_place, reason_place}
@@ -27,7 +28,7 @@ use Rattle.er_json.specs.Uris.{uri_byte}
 use Rattle.er_print.specs.declared.lines.ReportKind.{ReportKind}
 use Rattle.er_print.specs.declared.lines.ReportKind.TheVariants.{Lockset, Unordered}
 use Rattle.er_sites.specs.Table.{reads_at, reuses_at, writes_at}
-use Rattle.er_sites.specs.Text.{did_text}
+use Rattle.er_sites.specs.Text.{did_text, subject_text}
 use Rattle.er_trace.specs.Names.{NameTable}
 use Rattle.er_triage.specs.Texts.{target_text}
 
@@ -36,9 +37,9 @@ abbrev pub verb_of : Deed → List ℕ
 verb_of (deed.Access kind word) = kind_text kind
 verb_of (deed.Reuse range) = codes "reuse"
 
-abbrev pub deed_words : Deed → List ℕ
-deed_words (deed.Access kind word) = did_text kind ++ codes " the word at " ++ address_text word
-deed_words (deed.Reuse range) = codes " gave back " ++ decimal (bytes_between range.lo range.hi) ++ codes " bytes at " ++ address_text range.lo
+abbrev pub deed_words : PlaceTable → ℕ → Deed → List ℕ
+deed_words table number (deed.Access kind word) = did_text kind ++ subject_text style.InString table number word ++ (codes " the word at " ++ address_text word)
+deed_words table number (deed.Reuse range) = codes " gave back " ++ decimal (bytes_between range.lo range.hi) ++ codes " bytes at " ++ address_text range.lo
 
 -- what the results of a run begin with: the front of a rule
 abbrev pub rule_front : ReportKind → List ℕ
@@ -50,25 +51,30 @@ abbrev pub cause_words : ReportKind → List ℕ
 cause_words Lockset = codes ", and no lock protects it"
 cause_words Unordered = codes ", and nothing orders this after an earlier access"
 
+-- a function between these, if it is known
+unfoldable pub function_text : List ℕ → List ℕ → List ℕ → List ℕ
+function_text before [] behind = []
+function_text before (byte ∷ name) behind = before ++ codes "{\"fullyQualifiedName\":" ++ string_text (byte ∷ name) ++ codes ",\"kind\":\"function\"}" ++ behind
+
 -- a site that doesn't end with a line is a name
 unfoldable pub name_member : List ℕ → List ℕ
-name_member site = codes "{\"logicalLocations\":[{\"fullyQualifiedName\":" ++ string_text site ++ codes "}]"
+name_member site = codes "{\"logicalLocations\":[{\"fullyQualifiedName\":" ++ string_text site ++ codes "}"
 
 -- and of another the file ends at the colon
 unfoldable pub file_member : List ℕ → ℕ → List ℕ
 file_member site n =
     codes "{\"physicalLocation\":{\"artifactLocation\":{\"uri\":\"" ++ flat_map uri_byte (take n site) ++ codes "\"},\"region\":{\"startLine\":" ++ drop (n + 1) site ++ codes "}}"
 
-abbrev pub place_by : List ℕ → Option ℕ → List ℕ
-place_by site None = name_member site
-place_by site (Some n) = file_member site n
+abbrev pub place_by : List ℕ → List ℕ → Option ℕ → List ℕ
+place_by site function None = name_member site ++ function_text (codes ",") function [] ++ codes "]"
+place_by site function (Some n) = file_member site n ++ function_text (codes ",\"logicalLocations\":[") function (codes "]")
 
--- a location with this site, which is left open
-unfoldable pub open_location : List ℕ → List ℕ
-open_location site = place_by site (file_end site)
+-- a location with this site and this function, which is left open
+unfoldable pub open_location : List ℕ → List ℕ → List ℕ
+open_location site function = place_by site function (file_end site)
 
 unfoldable pub location_member : List ℕ → List ℕ
-location_member site = codes ",\"locations\":[" ++ open_location site ++ codes "}]"
+location_member site = codes ",\"locations\":[" ++ open_location site [] ++ codes "}]"
 
 -- who did what there, and what it has to do with the race
 unfoldable pub sentence_words : NameTable → Because → List ℕ
@@ -94,25 +100,25 @@ unfoldable pub holding_words : NameTable → Option Place → List ℕ
 holding_words names None = []
 holding_words names (Some place) = codes ", holding" ++ locks_words names place.write_held place.held
 
--- where an access stood: the missing site is left out
-unfoldable pub opening_of : NameTable → ℕ → List ℕ
-opening_of names zero = codes "{"
-opening_of names (suc n) = open_location (name_at names.sites n) ++ codes ","
+-- where an access in this function stood: the missing site is left out
+unfoldable pub opening_of : NameTable → List ℕ → ℕ → List ℕ
+opening_of names function zero = codes "{"
+opening_of names function (suc n) = open_location (name_at names.sites n) function ++ codes ","
 
 -- if that is known
-abbrev pub opening_text : NameTable → Option Place → List ℕ
-opening_text names None = codes "{"
-opening_text names (Some place) = opening_of names place.site
+abbrev pub opening_text : PlaceTable → Option Place → List ℕ
+opening_text table None = codes "{"
+opening_text table (Some place) = opening_of table.names (function_of table (Some place)) place.site
 
 -- one of a race's reasons
 unfoldable pub reason_text : NameTable → PlaceTable → Because → List ℕ
 reason_text names table because =
-    opening_text table.names (reason_place table because) ++ sentence_words names because ++ holding_words table.names (reason_place table because) ++ codes "\"}}"
+    opening_text table (reason_place table because) ++ sentence_words names because ++ holding_words table.names (reason_place table because) ++ codes "\"}}"
 
 -- what is wrong, and how often; then comes where
-unfoldable pub front_text : ReportKind → NameTable → RaceView → ℕ → List ℕ
-front_text of names race count =
-    rule_front of ++ verb_of race.deed ++ codes "\",\"level\":\"error\",\"message\":{\"text\":\"" ++ thread_in style.InString names race.thread ++ deed_words race.deed
+unfoldable pub front_text : ReportKind → NameTable → PlaceTable → RaceView → ℕ → List ℕ
+front_text of names table race count =
+    rule_front of ++ verb_of race.deed ++ codes "\",\"level\":\"error\",\"message\":{\"text\":\"" ++ thread_in style.InString names race.thread ++ deed_words table race.line race.deed
     ++ (cause_words of ++ codes "\"},\"occurrenceCount\":" ++ decimal count ++ codes ",\"locations\":[")
 
 -- where it is: at its site, or a reuse without one at the address of its first byte
@@ -122,23 +128,23 @@ race_site names (suc n) (deed.Reuse range) = site_text names (suc n)
 race_site names site (deed.Access kind word) = site_text names site
 
 -- that, and a fingerprint that is the same in each run; then come the accesses that make the first race
-unfoldable pub place_text : List ℕ → Deed → List ℕ
-place_text site deed =
-    open_location site ++ (codes "}],\"partialFingerprints\":{\"siteAndKind/v1\":\"" ++ escaped_text site ++ codes " " ++ verb_of deed ++ codes "\"},\"relatedLocations\":[")
+unfoldable pub place_text : List ℕ → List ℕ → Deed → List ℕ
+place_text site function deed =
+    open_location site function ++ (codes "}],\"partialFingerprints\":{\"siteAndKind/v1\":\"" ++ escaped_text site ++ codes " " ++ verb_of deed ++ codes "\"},\"relatedLocations\":[")
 
--- a frame of a stack is at this site
-unfoldable pub frame_text : List ℕ → List ℕ
-frame_text site = codes "{\"location\":" ++ open_location site ++ codes "}}"
+-- a frame of a stack is at this site, in this function
+unfoldable pub frame_text : List ℕ → List ℕ → List ℕ
+frame_text site function = codes "{\"location\":" ++ open_location site function ++ codes "}}"
 
 -- that of a call, behind a comma
 abbrev pub call_frame : PlaceTable → ℕ → List ℕ
-call_frame table call = codes "," ++ frame_text (call_name table call)
+call_frame table call = codes "," ++ frame_text (call_name table call) (call_function table call)
 
 -- behind a comma, the stack of an access: its line, its site, and these calls that led there. Without a call it has none
 unfoldable pub stack_text : PlaceTable → Place → List ℕ → List ℕ
 stack_text table place [] = []
 stack_text table place (call ∷ calls) =
-    codes ",{\"message\":{\"text\":\"line " ++ decimal place.line ++ codes " of the trace\"},\"frames\":[" ++ frame_text (site_text table.names place.site)
+    codes ",{\"message\":{\"text\":\"line " ++ decimal place.line ++ codes " of the trace\"},\"frames\":[" ++ frame_text (site_text table.names place.site) (function_of table (Some place))
     ++ flat_map (call_frame table) (call ∷ calls) ++ codes "]}"
 
 -- if the place is known
@@ -154,10 +160,9 @@ reason_stack table number because = cond (because.line == number) [] (stack_if t
 abbrev pub stacks_text : PlaceTable → RaceView → List ℕ
 stacks_text table race = stack_if table (race_place table race) ++ flat_map (reason_stack table race.line) race.explained
 
--- these stacks, if there are some: the first has no comma
-unfoldable pub stacks_member : List ℕ → List ℕ
-stacks_member [] = []
-stacks_member (comma ∷ stacks) = codes ",\"stacks\":[" ++ stacks ++ codes "]"
+-- these stacks, if there are some
+abbrev pub stacks_member : List ℕ → List ℕ
+stacks_member stacks = list_member (codes ",\"stacks\":[") stacks
 
 -- how it came about, the calls that led there, the line of the first race, and the locks that its thread held
 unfoldable pub back_text : NameTable → PlaceTable → RaceView → List ℕ
@@ -167,7 +172,8 @@ back_text names table race =
 
 -- a result: so many races here, and the first of them
 unfoldable pub result_text : ReportKind → NameTable → PlaceTable → RaceView → ℕ → List ℕ
-result_text of names table race count = front_text of names race count ++ place_text (race_site names race.site race.deed) race.deed ++ back_text names table race
+result_text of names table race count =
+    front_text of names table race count ++ place_text (race_site names race.site race.deed) (function_of table (race_place table race)) race.deed ++ back_text names table race
 
 -- how many of the lines are races of the line's site and kind; a reuse without a site is like none
 abbrev pub races_like : List Line → Line → ℕ

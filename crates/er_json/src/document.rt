@@ -1,14 +1,15 @@
 //! The whole text: a document for each report.
-ghost use Rattle.std.specs.Prelude.{◌≡◌, ◌++◌, ◌&&◌, All, false, flat_map, map, IfOk, IfSome, OnOk};
-ghost use Rattle.er_json.specs.Document.{HasNames, HaveNames, counts_member, document_if, document_text, json_reports, line_view, lists_text, rows_text, sign_if, stop_member, told, totals_member};
+ghost use Rattle.std.specs.Prelude.{◌≡◌, ◌++◌, ◌<◌, ◌&&◌, All, false, flat_map, length, map, IfOk, IfSome, OnOk};
+ghost use Rattle.er_json.specs.Document.{HasNames, HaveNames, counts_member, document_if, document_text, json_reports, line_view, list_member, lists_text, rows_text, sign_if, started_row, stop_member, thread_row, threads_member, told, totals_member};
 ghost use Rattle.er_json.specs.Inner.Sections.{has_none, is_in, next_text, rows_in, separator_text};
 
-use crate::rows::put_row;
-use er_event::NoRoom;
+use crate::rows::{put_name, put_row};
+use er_event::{NoRoom, ThreadId};
 use er_places::Legend;
-use er_print::Piece::{Number, Text};
+use er_print::Piece::{Name, Number, Text, Thread};
 use er_print::{Built, Put, Style, comma_before, put, put_lost, put_number};
 use er_report::{Line, Report, Reports};
+use er_sites::threads_of;
 use er_trace::Names;
 use std::alloc::{AllocError, Global};
 
@@ -55,6 +56,7 @@ fn put_document(out: &mut Vec<u8>, heading: &[u8], legend: &Legend, report: &Opt
             put_lists(out, heading, legend, &report.lines)?;
             put_stop(out, legend.names, report.stop)?;
             put_counts(out, &report.rule_counts)?;
+            put_threads(out, legend, &report.lines)?;
             put_totals(out, legend.names, report)
         }
         None => Ok(()),
@@ -160,6 +162,72 @@ fn put_counts(out: &mut Vec<u8>, counts: &[u64]) -> Put
         put_number(out, *count)?;
     }
     out.extend_from_slice(b"]")
+}
+
+// Puts where the threads of the races were started, as far as that is known.
+#[tactic(auto, unfolding(crate::specs::Document::threads_member))]
+fn put_threads(out: &mut Vec<u8>, legend: &Legend, lines: &[Line]) -> Put
+    requires { All (HasNames legend.now.names.now) lines.now }
+    ensures { OnOk result (out.new.items ≡ out.old.items ++ threads_member legend.now.names.now legend.now.places.now (map line_view lines.now)) }
+{
+    let alloc = *out.allocator();
+    let threads = threads_of(alloc, lines)?;
+    let mut rows = Vec::new(alloc);
+    put_thread_rows(&mut rows, legend, threads.as_slice())?;
+    put_list(out, b",\n\"threads\":[", &rows)
+}
+
+fn put_thread_rows(out: &mut Vec<u8>, legend: &Legend, threads: &[ThreadId]) -> Put
+    requires { All (λ thread. thread < length legend.now.names.now.threads) threads.now }
+    ensures { OnOk result (out.new.items ≡ out.old.items ++ flat_map (thread_row legend.now.names.now legend.now.places.now) threads.now) }
+{
+    for thread in threads {
+        put_thread_row(out, legend, *thread)?;
+    }
+    Ok(())
+}
+
+fn put_thread_row(out: &mut Vec<u8>, legend: &Legend, thread: ThreadId) -> Put
+    requires { thread < length legend.now.names.now.threads }
+    ensures { OnOk result (out.new.items ≡ out.old.items ++ thread_row legend.now.names.now legend.now.places.now thread) }
+{
+    let name = legend.names.thread_name(thread).as_bytes();
+    match legend.places.start_of(name) {
+        Some(start) => put_started(out, legend, thread, start.name.as_slice(), start.place),
+        None => Ok(()),
+    }
+}
+
+fn put_started(
+    out: &mut Vec<u8>,
+    legend: &Legend,
+    thread: ThreadId,
+    name: &[u8],
+    place: Option<u32>,
+) -> Put
+    requires { thread < length legend.now.names.now.threads }
+    ensures { OnOk result (out.new.items ≡ out.old.items ++ started_row legend.now.names.now legend.now.places.now thread name.now place) }
+{
+    let Some(place) = place else {
+        return Ok(());
+    };
+    let (names, site) = (legend.names, legend.places.call_name(place));
+    put!(out, Style::Json, names; Thread(b",\n{\"thread\":", thread), Text(b",\"name\":"))?;
+    put_name(out, name)?;
+    put!(out, Style::Json, names; Name(b",\"site\":", site), Text(b"}"))
+}
+
+/// Puts items behind this heading, if there are some. The comma of the first is left out.
+pub(crate) fn put_list(out: &mut Vec<u8>, heading: &[u8], items: &[u8]) -> Put
+    ensures { OnOk result (out.new.items ≡ out.old.items ++ list_member heading.now items.now) }
+{
+    let [_, items @ ..] = items else {
+        return Ok(());
+    };
+    out.extend_from_slice(heading)?;
+    out.extend_from_slice(items)?;
+    out.extend_from_slice(b"]")?;
+    Ok(())
 }
 
 // Puts the totals, and closes the document.

@@ -2,11 +2,11 @@
 ghost use Rattle.std.specs.Prelude.{◌≡◌, ◌++◌, ◌<◌, ◌≤◌, codes, flat_map, length, option_copied, All, IfSome, OnOk};
 ghost use Rattle.std.specs.List.{list_all};
 ghost use Rattle.er_json.specs.Places.{colon_below, file_end, is_digit, is_line};
-ghost use Rattle.er_json.specs.Sarif.{HasLockName, HasLockNames, HasPlaceNames, HasReasonNames, file_member, holding_words, location_member, lock_words, locks_words, mode_words, name_member, open_location, opening_of, opening_text, reason_place, reason_text, sentence_words, values_text};
+ghost use Rattle.er_json.specs.Sarif.{HasLockName, HasLockNames, HasPlaceNames, HasReasonNames, file_member, function_text, holding_words, location_member, lock_words, locks_words, mode_words, name_member, open_location, opening_of, opening_text, reason_place, reason_text, sentence_words, values_text};
 ghost use Rattle.er_json.specs.Uris.{digit_byte, is_path_byte, uri_byte};
 
-use er_event::{LockId, Lockset};
-use er_places::{Legend, Place};
+use er_event::{LockId, Lockset, Site};
+use er_places::{Legend, Place, Places};
 use er_print::Piece::{Label, Lock, Number, Text, Thread, Verb};
 use er_print::{Put, Style, comma_before, put, put_string};
 use er_report::Because;
@@ -18,22 +18,53 @@ pub(crate) fn put_location(out: &mut Vec<u8>, site: &[u8]) -> Put
     ensures { OnOk result (out.new.items ≡ out.old.items ++ location_member site.now) }
 {
     out.extend_from_slice(b",\"locations\":[")?;
-    open_location(out, site)?;
+    open_location(out, site, b"")?;
     out.extend_from_slice(b"}]")?;
     Ok(())
 }
 
-/// Opens a location with its site.
+/// Opens a location with its site and its function, if that is known.
 #[tactic(auto, unfolding(crate::specs::Sarif::open_location))]
-pub(crate) fn open_location(out: &mut Vec<u8>, site: &[u8]) -> Put
-    ensures { OnOk result (out.new.items ≡ out.old.items ++ open_location site.now) }
+pub(crate) fn open_location(out: &mut Vec<u8>, site: &[u8], function: &[u8]) -> Put
+    ensures { OnOk result (out.new.items ≡ out.old.items ++ open_location site.now function.now) }
 {
-    if let Some(place) = file_end(site) {
-        return put_file(out, site, place);
+    match file_end(site) {
+        Some(place) => {
+            put_file(out, site, place)?;
+            put_function(out, b",\"logicalLocations\":[", function, b"]")
+        }
+        None => {
+            put_site_name(out, site)?;
+            put_function(out, b",", function, b"")?;
+            out.extend_from_slice(b"]")?;
+            Ok(())
+        }
     }
+}
+
+#[tactic(auto, unfolding(crate::specs::Sarif::name_member))]
+fn put_site_name(out: &mut Vec<u8>, site: &[u8]) -> Put
+    ensures { OnOk result (out.new.items ≡ out.old.items ++ name_member site.now) }
+{
     out.extend_from_slice(b"{\"logicalLocations\":[{\"fullyQualifiedName\":")?;
     put_string(out, site)?;
-    out.extend_from_slice(b"}]")?;
+    out.extend_from_slice(b"}")?;
+    Ok(())
+}
+
+// Puts a function between these texts, if it is known.
+#[tactic(auto, unfolding(crate::specs::Sarif::function_text))]
+fn put_function(out: &mut Vec<u8>, before: &[u8], function: &[u8], behind: &[u8]) -> Put
+    ensures { OnOk result (out.new.items ≡ out.old.items ++ function_text before.now function.now behind.now) }
+{
+    if function.is_empty() {
+        return Ok(());
+    }
+    out.extend_from_slice(before)?;
+    out.extend_from_slice(b"{\"fullyQualifiedName\":")?;
+    put_string(out, function)?;
+    out.extend_from_slice(b",\"kind\":\"function\"}")?;
+    out.extend_from_slice(behind)?;
     Ok(())
 }
 
@@ -69,7 +100,7 @@ fn put_reason(out: &mut Vec<u8>, legend: &Legend, because: &Because) -> Put
 {
     let names = legend.places.names();
     let place = legend.places.of_reason(because);
-    put_opening(out, names, place)?;
+    put_opening(out, legend.places, place)?;
     put_sentence(out, legend.names, because)?;
     put_holding(out, names, place)?;
     out.extend_from_slice(b"\"}}")?;
@@ -88,19 +119,30 @@ fn put_sentence(out: &mut Vec<u8>, names: &Names, because: &Because) -> Put
     )
 }
 
-// Opens the location of a reason, with its site if that is known.
-#[tactic(auto, unfolding(crate::specs::Sarif::opening_of))]
-fn put_opening(out: &mut Vec<u8>, names: &Names, place: Option<&Place>) -> Put
-    requires { IfSome (option_copied place) (HasPlaceNames names.now) }
-    ensures { OnOk result (out.new.items ≡ out.old.items ++ opening_text names.now (option_copied place.entry)) }
+// Opens the location of a reason, with its site and its function if that is known.
+fn put_opening(out: &mut Vec<u8>, places: &Places, place: Option<&Place>) -> Put
+    requires { IfSome (option_copied place) (HasPlaceNames places.now.names) }
+    ensures { OnOk result (out.new.items ≡ out.old.items ++ opening_text places.now (option_copied place.entry)) }
 {
     match place {
-        Some(place) if place.site.number() > 0 => {
-            open_location(out, names.site_name(place.site).as_bytes())?;
-            out.extend_from_slice(b",")
+        Some(place) => {
+            let function = places.function_of(Some(place));
+            put_opening_at(out, places.names(), function, place.site)
         }
-        _ => out.extend_from_slice(b"{"),
+        None => out.extend_from_slice(b"{"),
     }
+}
+
+#[tactic(auto, unfolding(crate::specs::Sarif::opening_of))]
+fn put_opening_at(out: &mut Vec<u8>, names: &Names, function: &[u8], site: Site) -> Put
+    requires { site ≤ length names.now.sites }
+    ensures { OnOk result (out.new.items ≡ out.old.items ++ opening_of names.now function.now site) }
+{
+    if site.number() == 0 {
+        return out.extend_from_slice(b"{");
+    }
+    open_location(out, names.site_name(site).as_bytes(), function)?;
+    out.extend_from_slice(b",")
 }
 
 // Puts what the thread of a reason held, if that is known.

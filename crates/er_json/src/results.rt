@@ -7,11 +7,11 @@ ghost use Rattle.er_sites.specs.Inner.Counted.{AreCounts};
 use crate::document::put_separator;
 use crate::locations::{open_location, put_reasons};
 use crate::stacks::put_stacks;
-use er_places::Legend;
+use er_places::{Legend, Places};
 use er_print::Piece::{Address, Locks, Name, Number, Site, Text, Thread};
 use er_print::{Put, ReportKind, Style, bytes_of, put, verb};
 use er_report::{Deed, Line, Race};
-use er_sites::{Counts, did_text};
+use er_sites::{Counts, did_text, put_subject};
 use er_trace::Names;
 use std::alloc::AllocError;
 
@@ -79,22 +79,24 @@ fn put_result(
 {
     let mut site = Vec::new(*out.allocator());
     put_site(&mut site, legend.names, race)?;
-    put_front(out, of, legend.names, race, count)?;
-    put_place(out, legend.names, &site, race.deed)?;
+    put_front(out, of, legend, race, count)?;
+    let function = legend.places.function_of(legend.places.of_race(race));
+    put_place(out, legend.names, &site, function, race.deed)?;
     put_back(out, legend, race)
 }
 
 // Opens the result: what its first race is, and how many there are.
 #[tactic(auto, unfolding(crate::specs::Sarif::front_text))]
-fn put_front(out: &mut Vec<u8>, of: ReportKind, names: &Names, race: &Race<'_>, count: u64) -> Put
-    requires { HasRaceNames names.now race.now }
-    ensures { OnOk result (out.new.items ≡ out.old.items ++ front_text of names.now race.now count) }
+fn put_front(out: &mut Vec<u8>, of: ReportKind, legend: &Legend, race: &Race<'_>, count: u64) -> Put
+    requires { HasRaceNames legend.now.names.now race.now }
+    ensures { OnOk result (out.new.items ≡ out.old.items ++ front_text of legend.now.names.now legend.now.places.now race.now count) }
 {
+    let names = legend.names;
     put!(out, Style::InString, names;
         Text(rule_front(of)), Text(verb_of(race.deed)),
         Thread(b"\",\"level\":\"error\",\"message\":{\"text\":\"", race.thread)
     )?;
-    put_deed(out, names, race.deed)?;
+    put_deed(out, legend.places, race.line, race.deed)?;
     put!(out, Style::InString, names;
         Text(cause_words(of)), Number(b"\"},\"occurrenceCount\":", count),
         Text(b",\"locations\":[")
@@ -111,12 +113,15 @@ fn verb_of(deed: Deed) -> &'static [u8]
     }
 }
 
-fn put_deed(out: &mut Vec<u8>, names: &Names, deed: Deed) -> Put
-    ensures { OnOk result (out.new.items ≡ out.old.items ++ deed_words deed) }
+fn put_deed(out: &mut Vec<u8>, places: &Places, line: u64, deed: Deed) -> Put
+    ensures { OnOk result (out.new.items ≡ out.old.items ++ deed_words places.now line deed) }
 {
+    let names = places.names();
     match deed {
         Deed::Access(kind, word) => {
-            put!(out, Style::InString, names; Text(did_text(kind)), Address(b" the word at ", word))
+            out.extend_from_slice(did_text(kind))?;
+            put_subject(out, Style::InString, places, line, word)?;
+            put!(out, Style::InString, names; Address(b" the word at ", word))
         }
         Deed::Reuse(range) => put!(out, Style::InString, names;
             Number(b" gave back ", bytes_of(&range)), Address(b" bytes at ", range.lo)
@@ -139,10 +144,10 @@ fn put_site(out: &mut Vec<u8>, names: &Names, race: &Race<'_>) -> Put
 
 // Puts the location and what is the same in each run, and opens the array of reasons.
 #[tactic(auto, unfolding(crate::specs::Sarif::place_text))]
-fn put_place(out: &mut Vec<u8>, names: &Names, site: &[u8], deed: Deed) -> Put
-    ensures { OnOk result (out.new.items ≡ out.old.items ++ place_text site.now deed) }
+fn put_place(out: &mut Vec<u8>, names: &Names, site: &[u8], function: &[u8], deed: Deed) -> Put
+    ensures { OnOk result (out.new.items ≡ out.old.items ++ place_text site.now function.now deed) }
 {
-    open_location(out, site)?;
+    open_location(out, site, function)?;
     put!(out, Style::InString, names;
         Name(b"}],\"partialFingerprints\":{\"siteAndKind/v1\":\"", site), Text(b" "),
         Text(verb_of(deed)), Text(b"\"},\"relatedLocations\":[")

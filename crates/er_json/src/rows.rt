@@ -1,10 +1,12 @@
 //! A line of a report as an object of the document.
-ghost use Rattle.std.specs.Prelude.{◌≡◌, ◌++◌, ◌<◌, All, filter, length, IfOk, OnOk};
-ghost use Rattle.er_json.specs.Document.{HasEventNames, HasLabelName, HasLockNames, HasNames, HasPlaceNames, HasRaceNames, HasReasonNames, HasStateNames, call_text, calls_member, candidates_member, event_lock, is_held_to_read, label_member, line_view, place_if, place_member, race_front, reason_place, reason_text, reasons_end, refused_text, row_text, state_member, values_text};
+ghost use Rattle.std.specs.Prelude.{◌≡◌, ◌++◌, ◌<◌, ◌||◌, All, filter, flat_map, length, option_copied, None, Some, IfOk, OnOk};
+ghost use Rattle.std.specs.List.{list_any};
+ghost use Rattle.er_places.specs.Names.{call_function};
+ghost use Rattle.er_json.specs.Document.{HasEventNames, HasLabelName, HasLockNames, HasNames, HasPlaceNames, HasRaceNames, HasReasonNames, HasStateNames, call_text, calls_member, candidates_member, event_lock, is_held_to_read, label_member, line_view, place_if, place_member, race_front, reason_place, reason_text, reasons_end, refused_text, row_text, state_member, values_text, function_item, functions_member, is_known, name_value, subject_by, subject_member, taken_at};
 
-use er_event::{Event, LockId, Lockset, Refusal, Step, WordState};
-use er_places::{Legend, Place, Places};
-use er_print::Piece::{Address, Lock, Locks, NamedSite, Number, Site, Text, Thread, Verb};
+use er_event::{Event, LockId, Lockset, Refusal, Step, Word, WordState};
+use er_places::{Block, Legend, Place, Places};
+use er_print::Piece::{Address, Lock, Locks, Name, NamedSite, Number, Site, Text, Thread, Verb};
 use er_print::{Put, Style, bytes_of, comma_before, event_verb, put, put_string};
 use er_report::{Because, Deed, Label, Line, Race};
 use er_trace::Names;
@@ -65,7 +67,10 @@ fn put_end(out: &mut Vec<u8>, legend: &Legend, race: &Race<'_>) -> Put
     let places = legend.places;
     put_reasons(out, legend, race.explained)?;
     out.extend_from_slice(b"]")?;
-    put_calls(out, places, places.calls_of(places.of_race(race)))?;
+    let own = places.of_race(race);
+    put_calls(out, places, places.calls_of(own))?;
+    put_functions(out, places, own)?;
+    put_subject(out, places, race.line, race.deed)?;
     out.extend_from_slice(b"}")
 }
 
@@ -110,14 +115,15 @@ fn put_label(out: &mut Vec<u8>, names: &Names, label: Label) -> Put
     }
 }
 
-// Puts where the access of a reason stood, what its thread held and the calls that led there, if that is known.
+// Puts where the access of a reason stood, what its thread held and what led there, if that is known.
 fn put_place(out: &mut Vec<u8>, places: &Places, because: &Because) -> Put
     ensures { OnOk result (out.new.items ≡ out.old.items ++ place_if places.now (reason_place places.now because.now)) }
 {
     match places.of_reason(because) {
         Some(place) => {
             put_known(out, places.names(), place)?;
-            put_calls(out, places, places.calls_of(Some(place)))
+            put_calls(out, places, places.calls_of(Some(place)))?;
+            put_functions(out, places, Some(place))
         }
         None => Ok(()),
     }
@@ -136,6 +142,111 @@ fn put_calls(out: &mut Vec<u8>, places: &Places, calls: &[u32]) -> Put
         put_string(out, places.call_name(*call))?;
     }
     out.extend_from_slice(b"]")
+}
+
+// Puts the function that the access at a place is in, and those of the calls that led there, if one is known.
+fn put_functions(out: &mut Vec<u8>, places: &Places, place: Option<&Place>) -> Put
+    ensures { OnOk result (out.new.items ≡ out.old.items ++ functions_member places.now (option_copied place.entry)) }
+{
+    let (own, calls) = (places.function_of(place), places.calls_of(place));
+    if !is_one_known(places, own, calls) {
+        return Ok(());
+    }
+    out.extend_from_slice(b",\"functions\":[")?;
+    put_name(out, own)?;
+    put_call_functions(out, places, calls)?;
+    out.extend_from_slice(b"]")?;
+    Ok(())
+}
+
+fn is_known(name: &[u8]) -> bool
+    ensures { result ≡ is_known name.now }
+{
+    match name {
+        [] => false,
+        [_, ..] => true,
+    }
+}
+
+// Whether this name or the function of one of these calls is known.
+fn is_one_known(places: &Places, own: &[u8], calls: &[u32]) -> bool
+    ensures { result ≡ (is_known own.now || list_any (λ call. is_known (call_function places.now call)) calls.now) }
+{
+    is_known(own) || knows_one(places, calls)
+}
+
+fn knows_one(places: &Places, calls: &[u32]) -> bool
+    ensures { result ≡ list_any (λ call. is_known (call_function places.now call)) calls.now }
+{
+    calls
+        .iter()
+        .any(|call| is_known(places.call_function(*call)))
+}
+
+fn put_call_functions(out: &mut Vec<u8>, places: &Places, calls: &[u32]) -> Put
+    ensures { OnOk result (out.new.items ≡ out.old.items ++ flat_map (function_item places.now) calls.now) }
+{
+    for call in calls {
+        put_call_function(out, places, *call)?;
+    }
+    Ok(())
+}
+
+fn put_call_function(out: &mut Vec<u8>, places: &Places, call: u32) -> Put
+    ensures { OnOk result (out.new.items ≡ out.old.items ++ function_item places.now call) }
+{
+    out.extend_from_slice(b",")?;
+    put_name(out, places.call_function(call))
+}
+
+/// Puts a name as a value, null if it isn't known.
+pub(crate) fn put_name(out: &mut Vec<u8>, name: &[u8]) -> Put
+    ensures { OnOk result (out.new.items ≡ out.old.items ++ name_value name.now) }
+{
+    match name {
+        [] => out.extend_from_slice(b"null"),
+        [_, ..] => put_string(out, name),
+    }
+}
+
+// Puts the variable that a race's word is in, else the block that it was in, if one of them is known.
+#[tactic(auto, unfolding(crate::specs::Document::subject_member))]
+fn put_subject(out: &mut Vec<u8>, places: &Places, line: u64, deed: Deed) -> Put
+    ensures { OnOk result (out.new.items ≡ out.old.items ++ subject_member places.now line deed) }
+{
+    let Deed::Access(_, word) = deed else {
+        return Ok(());
+    };
+    if let Some(variable) = places.variable_of(word) {
+        return put!(out, Style::Json, places.names();
+            Name(b",\"variable\":{\"name\":", variable.name.as_slice()),
+            Number(b",\"offset\":", variable.extent.offset_of(word.number())), Text(b"}")
+        );
+    }
+    match places.block_of(line, word) {
+        Some(block) => put_block(out, places, word, block),
+        None => Ok(()),
+    }
+}
+
+fn put_block(out: &mut Vec<u8>, places: &Places, word: Word, block: &Block) -> Put
+    ensures { OnOk result (out.new.items ≡ out.old.items ++ subject_by places.now word None (Some block.now)) }
+{
+    put!(out, Style::Json, places.names();
+        Number(b",\"block\":{\"size\":", block.extent.size),
+        Number(b",\"offset\":", block.extent.offset_of(word.number())), Text(b",\"site\":")
+    )?;
+    put_taken(out, places, block.place)?;
+    out.extend_from_slice(b"}")
+}
+
+fn put_taken(out: &mut Vec<u8>, places: &Places, place: Option<u32>) -> Put
+    ensures { OnOk result (out.new.items ≡ out.old.items ++ taken_at places.now place) }
+{
+    match place {
+        Some(place) => put_string(out, places.call_name(place)),
+        None => out.extend_from_slice(b"null"),
+    }
 }
 
 #[tactic(auto, unfolding(crate::specs::Document::place_member))]

@@ -2,6 +2,7 @@
 ghost use Rattle.std.specs.Prelude.{◌≡◌, ◌++◌, flat_map, option_copied, IfSome, OnOk};
 ghost use Rattle.er_json.specs.Sarif.{HasPlaceNames, call_frame, calls_of, frame_text, reason_stack, stack_if, stack_text, stacks_member, stacks_text};
 
+use crate::document::put_list;
 use crate::locations::open_location;
 use er_places::{Place, Places};
 use er_print::Piece::{Number, Site, Text};
@@ -9,20 +10,13 @@ use er_print::{Put, Style, put};
 use er_report::{Because, Race};
 
 /// Puts the stacks of a race's access and of those that its reasons name, as far as the calls that led there are known.
-#[tactic(auto, unfolding(crate::specs::Sarif::stacks_member))]
 pub(crate) fn put_stacks(out: &mut Vec<u8>, places: &Places, race: &Race<'_>) -> Put
     ensures { OnOk result (out.new.items ≡ out.old.items ++ stacks_member (stacks_text places.now race.now)) }
 {
     let mut stacks = Vec::new(*out.allocator());
     put_stack(&mut stacks, places, places.of_race(race))?;
     put_reason_stacks(&mut stacks, places, race.line, race.explained)?;
-    let [_, stacks @ ..] = stacks.as_slice() else {
-        return Ok(());
-    };
-    out.extend_from_slice(b",\"stacks\":[")?;
-    out.extend_from_slice(stacks)?;
-    out.extend_from_slice(b"]")?;
-    Ok(())
+    put_list(out, b",\"stacks\":[", &stacks)
 }
 
 fn put_reason_stacks(out: &mut Vec<u8>, places: &Places, line: u64, explained: &[Because]) -> Put
@@ -55,7 +49,7 @@ fn put_stack(out: &mut Vec<u8>, places: &Places, place: Option<&Place>) -> Put
         Number(b",{\"message\":{\"text\":\"line ", place.line),
         Text(b" of the trace\"},\"frames\":[")
     )?;
-    put_frame(out, &site)?;
+    put_frame(out, &site, places.function_of(Some(place)))?;
     put_calls(out, places, calls)?;
     out.extend_from_slice(b"]}")?;
     Ok(())
@@ -65,17 +59,24 @@ fn put_calls(out: &mut Vec<u8>, places: &Places, calls: &[u32]) -> Put
     ensures { OnOk result (out.new.items ≡ out.old.items ++ flat_map (call_frame places.now) calls.now) }
 {
     for call in calls {
-        out.extend_from_slice(b",")?;
-        put_frame(out, places.call_name(*call))?;
+        put_call(out, places, *call)?;
     }
     Ok(())
 }
 
+// Puts the frame of a call behind a comma.
+fn put_call(out: &mut Vec<u8>, places: &Places, call: u32) -> Put
+    ensures { OnOk result (out.new.items ≡ out.old.items ++ call_frame places.now call) }
+{
+    out.extend_from_slice(b",")?;
+    put_frame(out, places.call_name(call), places.call_function(call))
+}
+
 #[tactic(auto, unfolding(crate::specs::Sarif::frame_text))]
-fn put_frame(out: &mut Vec<u8>, site: &[u8]) -> Put
-    ensures { OnOk result (out.new.items ≡ out.old.items ++ frame_text site.now) }
+fn put_frame(out: &mut Vec<u8>, site: &[u8], function: &[u8]) -> Put
+    ensures { OnOk result (out.new.items ≡ out.old.items ++ frame_text site.now function.now) }
 {
     out.extend_from_slice(b"{\"location\":")?;
-    open_location(out, site)?;
+    open_location(out, site, function)?;
     out.extend_from_slice(b"}}")
 }

@@ -4,3 +4,5 @@ pub mod RowLemmas
 pub mod SiteLemmas
 pub mod PutLemmas
 pub mod CountLemmas
+pub mod ThreadLemmas
+pub mod NamedLemmas

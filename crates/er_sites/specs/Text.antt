@@ -1,5 +1,5 @@
 -- The text for people: a table of the sites with races, a race of each site in sentences, and the reuses.
-use Rattle.std.specs.Prelude.{ℕ, zero, suc, ◌-◌, ◌==◌, ◌&&◌, ◌||◌, not, Bool, true, false, cond, List, [], ◌∷◌, ◌++◌, length, drop, take, flat_map, min, reverse, option_and_then, Option, Some, None, codes, decimal, slice_get}
+use Rattle.std.specs.Prelude.{ℕ, zero, suc, ◌*◌, ◌-◌, ◌==◌, ◌&&◌, ◌||◌, not, Bool, true, false, cond, List, [], ◌∷◌, ◌++◌, length, drop, take, flat_map, min, reverse, option_and_then, Option, Some, None, codes, decimal, slice_get}
 use Rattle.std.specs.List.{list_any, find}
 use Rattle.er_event.specs.Lockset.{has}
 use Rattle.er_event.specs.Refusal.{text_of}
@@ -7,6 +7,9 @@ use Rattle.er_event.specs.declared.addresses.PageRange.{PageRange}
 use Rattle.er_event.specs.declared.steps.Kind.{Kind}
 use Rattle.er_event.specs.declared.steps.Kind.TheVariants as kind
 use Rattle.er_trace.specs.Names.{NameTable}
+use Rattle.er_places.specs.Names.{block_of, call_function, function_of, variable_of}
+use Rattle.er_places.specs.declared.facts.Block.{Block}
+use Rattle.er_places.specs.declared.facts.Variable.{Variable}
 use Rattle.er_places.specs.Places.{PlaceTable, call_name}
 use Rattle.er_places.specs.Reasons.{race_place}
 pub use Rattle.er_places.specs.Places.{calls_of}
@@ -14,7 +17,8 @@ pub use Rattle.er_places.specs.Places.{HasPlaceNames}
 pub use Rattle.er_places.specs.Reasons.{reason_place}
 use Rattle.er_places.specs.declared.places.Place.{Place}
 use Rattle.er_print.specs.Printed.{name_at, address_text, bytes_between}
-use Rattle.er_print.specs.Styles.{lock_in, short, site_in, thread_in}
+use Rattle.er_print.specs.Styles.{lock_in, name_in, short, site_in, thread_in}
+use Rattle.er_print.specs.declared.styles.Style.{Style}
 use Rattle.er_print.specs.declared.styles.Style.TheVariants as style
 use Rattle.er_report.specs.Lines.{LineView, RaceView, RacedView, RefusedView, ShownView}
 pub use Rattle.er_report.specs.Lines.{line_view, race_of}
@@ -123,9 +127,14 @@ kept_text names writes lock = codes "    holding " ++ lock_in style.Short names 
 abbrev pub at_text : NameTable → ℕ → List ℕ → List ℕ → List ℕ
 at_text names site alone behind = cond (site == 0) alone (codes "    at " ++ site_in style.Short names site ++ behind)
 
--- where a call that led to an access stands
+-- a name behind this text and before that; one that isn't known is empty
+abbrev pub known_text : Style → List ℕ → List ℕ → List ℕ → List ℕ
+known_text style before [] behind = []
+known_text style before (byte ∷ name) behind = before ++ name_in style 72 (byte ∷ name) ++ behind
+
+-- where a call that led to an access stands, and in which function
 abbrev pub call_text : PlaceTable → ℕ → List ℕ
-call_text table call = codes "    called at " ++ short 72 (call_name table call) ++ codes "\n"
+call_text table call = codes "    called at " ++ short 72 (call_name table call) ++ known_text style.Short (codes " in ") (call_function table call) [] ++ codes "\n"
 
 -- how many calls are left out
 abbrev pub more_calls : ℕ → List ℕ
@@ -136,20 +145,24 @@ more_calls (suc n) = codes "    .. and " ++ decimal (suc n) ++ codes " more\n"
 unfoldable pub called_text : PlaceTable → List ℕ → List ℕ
 called_text table calls = flat_map (call_text table) (take 8 calls) ++ more_calls (length calls - 8)
 
--- where an access stood, the calls that led there, and these locks that its thread held
+-- the function that an access is in, and the calls that led there
+abbrev pub led_text : PlaceTable → Option Place → List ℕ
+led_text table place = known_text style.Short (codes "    in ") (function_of table place) (codes "\n") ++ called_text table (calls_of table place)
+
+-- where an access stood, what led there, and these locks that its thread held
 abbrev pub stood_text : PlaceTable → Place → List ℕ → List ℕ
-stood_text table place [] = at_text table.names place.site (codes "    holding no lock\n") (codes ", holding no lock\n") ++ called_text table (calls_of table (Some place))
+stood_text table place [] = at_text table.names place.site (codes "    holding no lock\n") (codes ", holding no lock\n") ++ led_text table (Some place)
 stood_text table place (lock ∷ locks) =
-    at_text table.names place.site [] (codes "\n") ++ called_text table (calls_of table (Some place)) ++ flat_map (kept_text table.names place.write_held) (lock ∷ locks)
+    at_text table.names place.site [] (codes "\n") ++ led_text table (Some place) ++ flat_map (kept_text table.names place.write_held) (lock ∷ locks)
 
 -- if that is known
-abbrev pub known_text : PlaceTable → Option Place → List ℕ
-known_text table None = []
-known_text table (Some place) = stood_text table place place.held
+abbrev pub stood_if : PlaceTable → Option Place → List ℕ
+stood_if table None = []
+stood_if table (Some place) = stood_text table place place.held
 
 -- and if the access is not the race itself, which is on this line
 abbrev pub where_text : PlaceTable → ℕ → Because → List ℕ
-where_text table number because = cond (because.line == number) [] (known_text table (reason_place table because))
+where_text table number because = cond (because.line == number) [] (stood_if table (reason_place table because))
 
 -- one of the reasons of the race on this line
 abbrev pub reason_text : NameTable → PlaceTable → ℕ → Because → List ℕ
@@ -198,15 +211,46 @@ met_text names others site (Some place) = cond (place.site == 0 || place.site ==
 abbrev pub title_text : NameTable → PlaceTable → RaceView → List ℕ
 title_text names table race = 10 ∷ [] ++ met_text names table.names race.site (option_and_then (reason_place table) (met race)) ++ 58 ∷ 10 ∷ []
 
--- the access of a race
-abbrev pub head_text : NameTable → RaceView → Kind → ℕ → List ℕ
-head_text names race kind word =
-    codes "  " ++ thread_in style.Short names race.thread ++ did_text kind ++ codes " the word at " ++ address_text word ++ codes " (line " ++ decimal race.line ++ codes ")\n"
+-- a number that isn't 0, behind a sign
+abbrev pub plus_text : ℕ → List ℕ
+plus_text zero = []
+plus_text (suc n) = codes "+" ++ decimal (suc n)
 
--- with the calls that led to it, its locks and its reasons
+-- the variable that has a word, and how far in the word begins
+unfoldable pub variable_text : Style → ℕ → Variable → List ℕ
+variable_text style word variable = codes " " ++ name_in style 72 variable.name.items ++ plus_text (4 * word - variable.extent.address) ++ codes ","
+
+-- where memory was taken, if that is known
+abbrev pub from_text : Style → PlaceTable → Option ℕ → List ℕ
+from_text style table None = []
+from_text style table (Some place) = codes " from " ++ name_in style 72 (call_name table place)
+
+-- how far in which block a word begins
+unfoldable pub block_text : Style → PlaceTable → ℕ → Block → List ℕ
+block_text style table word block =
+    (codes " byte " ++ decimal (4 * word - block.extent.address) ++ codes " of a block of " ++ decimal block.extent.size ++ codes " bytes")
+    ++ from_text style table block.place ++ codes ","
+
+-- the variable, else the block, if one of them is known
+abbrev pub subject_by : Style → PlaceTable → ℕ → Option Variable → Option Block → List ℕ
+subject_by style table word (Some variable) block = variable_text style word variable
+subject_by style table word None (Some block) = block_text style table word block
+subject_by style table word None None = []
+
+-- what is known of a race's word
+unfoldable pub subject_text : Style → PlaceTable → ℕ → ℕ → List ℕ
+subject_text style table line word = subject_by style table word (variable_of table word) (block_of table line word)
+
+-- the access of a race
+unfoldable pub head_text : NameTable → PlaceTable → RaceView → Kind → ℕ → List ℕ
+head_text names table race kind word =
+    codes "  " ++ thread_in style.Short names race.thread ++ did_text kind ++ subject_text style.Short table race.line word
+    ++ (codes " the word at " ++ address_text word ++ codes " (line " ++ decimal race.line ++ codes ")\n")
+
+-- with what led to it, its locks and its reasons
 abbrev pub access_story : NameTable → PlaceTable → RaceView → Kind → ℕ → List ℕ
 access_story names table race kind word =
-    head_text names race kind word ++ called_text table (calls_of table (race_place table race))
+    head_text names table race kind word ++ led_text table (race_place table race)
     ++ holds_text names race (race_place table race) race.held ++ flat_map (reason_text names table race.line) race.explained ++ so_text race.explained
 
 -- who gave back how much memory

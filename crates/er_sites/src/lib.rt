@@ -12,8 +12,11 @@
 pub use counts::{Counts, count_races};
 pub use names::{did_text, is_system_name};
 pub use row::SiteRow;
+pub use standing::put_known;
+pub use stories::put_subject;
 pub use table::site_rows;
 pub use text::sites_text;
+pub use threads::{Threads, threads_of};
 
 mod counts;
 mod names;
@@ -22,3 +25,4 @@ mod standing;
 mod stories;
 mod table;
 mod text;
+mod threads;

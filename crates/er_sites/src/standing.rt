@@ -1,6 +1,6 @@
 //! Where the access of a reason stood, what its thread held, and the calls that led there.
-ghost use Rattle.std.specs.Prelude.{◌≡◌, ◌++◌, ◌≤◌, flat_map, length, OnOk};
-ghost use Rattle.er_sites.specs.Text.{HasLockName, HasLockNames, HasPlaceNames, at_text, call_text, called_text, kept_text, mode_text, stood_text, where_text};
+ghost use Rattle.std.specs.Prelude.{◌≡◌, ◌++◌, ◌≤◌, flat_map, length, option_copied, OnOk};
+ghost use Rattle.er_sites.specs.Text.{HasLockName, HasLockNames, HasPlaceNames, at_text, call_text, called_text, kept_text, known_text, led_text, mode_text, stood_text, where_text};
 
 use er_event::{LockId, Lockset, Site};
 use er_places::{Place, Places};
@@ -26,7 +26,7 @@ fn put_place(out: &mut Vec<u8>, places: &Places, place: &Place) -> Put
     requires { HasPlaceNames places.now.names place.now }
     ensures { OnOk result (out.new.items ≡ out.old.items ++ stood_text places.now place.now place.now.held) }
 {
-    let (names, calls) = (places.names(), places.calls_of(Some(place)));
+    let names = places.names();
     match place.held.as_slice() {
         [] => {
             put_at(
@@ -36,19 +36,52 @@ fn put_place(out: &mut Vec<u8>, places: &Places, place: &Place) -> Put
                 b"    holding no lock\n",
                 b", holding no lock\n",
             )?;
-            put_called(out, places, calls)
+            put_led(out, places, Some(place))
         }
         locks => {
             put_at(out, names, place.site, b"", b"\n")?;
-            put_called(out, places, calls)?;
+            put_led(out, places, Some(place))?;
             put_kept_locks(out, names, &place.write_held, locks)
         }
     }
 }
 
-/// Puts where the first of these calls stand, and how many more there are.
+/// Puts the function that an access is in, and the calls that led there.
+pub(crate) fn put_led(out: &mut Vec<u8>, places: &Places, place: Option<&Place>) -> Put
+    ensures { OnOk result (out.new.items ≡ out.old.items ++ led_text places.now (option_copied place.entry)) }
+{
+    let function = places.function_of(place);
+    put_known(
+        out,
+        Style::Short,
+        places.names(),
+        b"    in ",
+        function,
+        b"\n",
+    )?;
+    put_called(out, places, places.calls_of(place))
+}
+
+/// Puts a name behind this text and before that. Of one that isn't known, which is empty, nothing.
+pub fn put_known<'a>(
+    out: &mut Vec<u8>,
+    style: Style,
+    names: &Names,
+    before: &'a [u8],
+    name: &'a [u8],
+    behind: &'a [u8],
+) -> Put
+    ensures { OnOk result (out.new.items ≡ out.old.items ++ known_text style before.now name.now behind.now) }
+{
+    match name {
+        [] => Ok(()),
+        [_, ..] => put!(out, style, names; Name(before, name), Text(behind)),
+    }
+}
+
+// Puts where the first of these calls stand, and how many more there are.
 #[tactic(auto, using(crate::proofs::PutLemmas::called_few, crate::proofs::PutLemmas::called_many))]
-pub(crate) fn put_called(out: &mut Vec<u8>, places: &Places, calls: &[u32]) -> Put
+fn put_called(out: &mut Vec<u8>, places: &Places, calls: &[u32]) -> Put
     ensures { OnOk result (out.new.items ≡ out.old.items ++ called_text places.now calls.now) }
 {
     if calls.len() <= 8 {
@@ -64,11 +97,18 @@ fn put_calls(out: &mut Vec<u8>, places: &Places, calls: &[u32]) -> Put
     ensures { OnOk result (out.new.items ≡ out.old.items ++ flat_map (call_text places.now) calls.now) }
 {
     for call in calls {
-        put!(out, Style::Short, places.names();
-            Name(b"    called at ", places.call_name(*call)), Text(b"\n")
-        )?;
+        put_call(out, places, *call)?;
     }
     Ok(())
+}
+
+fn put_call(out: &mut Vec<u8>, places: &Places, call: u32) -> Put
+    ensures { OnOk result (out.new.items ≡ out.old.items ++ call_text places.now call) }
+{
+    let (names, function) = (places.names(), places.call_function(call));
+    put!(out, Style::Short, names; Name(b"    called at ", places.call_name(call)))?;
+    put_known(out, Style::Short, names, b" in ", function, b"")?;
+    out.extend_from_slice(b"\n")
 }
 
 // Puts the site of an access and what stands behind it, and of the missing site what stands alone.

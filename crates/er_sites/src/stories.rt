@@ -1,14 +1,14 @@
 //! One race in sentences.
 ghost use Rattle.std.specs.Prelude.{◌≡◌, ◌++◌, ◌≤◌, flat_map, length, option_and_then, option_copied, IfSome, OnOk, Some};
 ghost use Rattle.std.specs.List.{list_any};
-ghost use Rattle.er_sites.specs.Text.{HasLockName, HasNames, HasPlaceNames, HasRaceNames, HasReasonNames, line_view, race_of, reason_place, access_story, example_text, head_text, held_text, holds_text, is_weak, is_weak_at, lacks_lock, may_meet, met, met_text, title_text, reason_text, reuse_story, reuse_text, so_text, story_text, is_without};
+ghost use Rattle.er_sites.specs.Text.{HasLockName, HasNames, HasPlaceNames, HasRaceNames, HasReasonNames, line_view, race_of, reason_place, access_story, example_text, head_text, held_text, holds_text, is_weak, is_weak_at, lacks_lock, may_meet, met, met_text, title_text, reason_text, reuse_story, reuse_text, so_text, story_text, is_without, block_text, from_text, plus_text, subject_text, variable_text};
 
 use crate::names::{did_text, put_pair};
-use crate::standing::{mode_text, put_called, put_where};
+use crate::standing::{mode_text, put_led, put_where};
 use er_event::{Kind, LockId, PageRange, Site, Word};
-use er_places::{Legend, Place};
-use er_print::Piece::{Address, Lock, Number, Site as At, Text, Thread};
-use er_print::{Put, Style, bytes_of, put};
+use er_places::{Block, Legend, Place, Places, Variable};
+use er_print::Piece::{Address, Lock, Name, Number, Site as At, Text, Thread};
+use er_print::{Put, Style, bytes_of, put, put_number};
 use er_report::{Because, Deed, Label, Line, Race};
 use er_trace::Names;
 
@@ -119,22 +119,86 @@ fn put_access(out: &mut Vec<u8>, legend: &Legend, race: &Race<'_>, kind: Kind, w
     requires { HasRaceNames legend.now.names.now race.now }
     ensures { OnOk result (out.new.items ≡ out.old.items ++ access_story legend.now.names.now legend.now.places.now race.now kind word) }
 {
-    put_head(out, legend.names, race, kind, word)?;
+    put_head(out, legend, race, kind, word)?;
     let own = legend.places.of_race(race);
-    put_called(out, legend.places, legend.places.calls_of(own))?;
+    put_led(out, legend.places, own)?;
     put_locks(out, legend.names, race, own)?;
     put_reasons(out, legend, race)?;
     put_so(out, race)
 }
 
-fn put_head(out: &mut Vec<u8>, names: &Names, race: &Race<'_>, kind: Kind, word: Word) -> Put
-    requires { HasRaceNames names.now race.now }
-    ensures { OnOk result (out.new.items ≡ out.old.items ++ head_text names.now race.now kind word) }
+#[tactic(auto, unfolding(crate::specs::Text::head_text))]
+fn put_head(out: &mut Vec<u8>, legend: &Legend, race: &Race<'_>, kind: Kind, word: Word) -> Put
+    requires { HasRaceNames legend.now.names.now race.now }
+    ensures { OnOk result (out.new.items ≡ out.old.items ++ head_text legend.now.names.now legend.now.places.now race.now kind word) }
 {
+    let names = legend.names;
+    put!(out, Style::Short, names; Thread(b"  ", race.thread), Text(did_text(kind)))?;
+    put_subject(out, Style::Short, legend.places, race.line, word)?;
     put!(out, Style::Short, names;
-        Thread(b"  ", race.thread), Text(did_text(kind)), Address(b" the word at ", word),
-        Number(b" (line ", race.line), Text(b")\n")
+        Address(b" the word at ", word), Number(b" (line ", race.line), Text(b")\n")
     )
+}
+
+/// Puts the variable that a race's word is in, else the block that it was in, as far as that is known.
+#[tactic(auto, unfolding(crate::specs::Text::subject_text))]
+pub fn put_subject(out: &mut Vec<u8>, style: Style, places: &Places, line: u64, word: Word) -> Put
+    ensures { OnOk result (out.new.items ≡ out.old.items ++ subject_text style places.now line word) }
+{
+    if let Some(variable) = places.variable_of(word) {
+        return put_variable(out, style, places.names(), word, variable);
+    }
+    match places.block_of(line, word) {
+        Some(block) => put_block(out, style, places, word, block),
+        None => Ok(()),
+    }
+}
+
+#[tactic(auto, unfolding(crate::specs::Text::variable_text))]
+fn put_variable(
+    out: &mut Vec<u8>,
+    style: Style,
+    names: &Names,
+    word: Word,
+    variable: &Variable,
+) -> Put
+    ensures { OnOk result (out.new.items ≡ out.old.items ++ variable_text style word variable.now) }
+{
+    put!(out, style, names; Name(b" ", variable.name.as_slice()))?;
+    put_plus(out, variable.extent.offset_of(word.number()))?;
+    out.extend_from_slice(b",")
+}
+
+fn put_plus(out: &mut Vec<u8>, n: u64) -> Put
+    ensures { OnOk result (out.new.items ≡ out.old.items ++ plus_text n) }
+{
+    if n == 0 {
+        return Ok(());
+    }
+    out.extend_from_slice(b"+")?;
+    put_number(out, n)
+}
+
+#[tactic(auto, unfolding(crate::specs::Text::block_text))]
+fn put_block(out: &mut Vec<u8>, style: Style, places: &Places, word: Word, block: &Block) -> Put
+    ensures { OnOk result (out.new.items ≡ out.old.items ++ block_text style places.now word block.now) }
+{
+    let offset = block.extent.offset_of(word.number());
+    put!(out, style, places.names();
+        Number(b" byte ", offset), Number(b" of a block of ", block.extent.size), Text(b" bytes")
+    )?;
+    put_from(out, style, places, block.place)?;
+    out.extend_from_slice(b",")?;
+    Ok(())
+}
+
+fn put_from(out: &mut Vec<u8>, style: Style, places: &Places, place: Option<u32>) -> Put
+    ensures { OnOk result (out.new.items ≡ out.old.items ++ from_text style places.now place) }
+{
+    match place {
+        Some(place) => put!(out, style, places.names(); Name(b" from ", places.call_name(place))),
+        None => Ok(()),
+    }
 }
 
 // Puts the locks that the thread of a race held, and which of them only to read as far as its place is known.

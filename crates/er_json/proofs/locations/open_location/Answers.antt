@@ -1,13 +1,16 @@
--- A site without a line is put by three parts, one behind another.
-use Rattle.std.proofs.Common.{◌∙◌, ◌++◌, ℕ, Option, codes, sym, ap}
-use Rattle.er_json.proofs.PutLemmas.{put_three}
-use Rattle.er_print.specs.Styles.{string_text}
-use Rattle.er_json.specs.Sarif.{name_member, open_location, place_by}
+-- The function stands behind the site.
+use Rattle.std.proofs.lemmas.Result.{on_ok_weaker}
+use Rattle.er_json.proofs.PutLemmas.{put_three, put_two}
+use Rattle.er_json.specs.Sarif.{open_location}
 use Rattle.er_json.proofs.locations.open_location.Goals as goal
 
-pub returns : goal.returns
-unfolding open_location name_member
-returns c =
-    put_three _ _ _ _ (codes "{\"logicalLocations\":[{\"fullyQualifiedName\":") (string_text c.args.site.now) (codes "}]") c.in_ok-extend_from_slice.ensures.items
-    c.in_ok-put_string.ensures c.in_ok-extend_from_slice-2.ensures.items
-    ∙ ap (λ (place : Option ℕ). c.args.out.now.items ++ place_by c.args.site.now place) (sym c.in_default.is ∙ c.file_end.ensures)
+pub returns-in_ok-put_file-in-Some : goal.returns-in_ok-put_file-in-Some
+unfolding open_location
+returns-in_ok-put_file-in-Some c =
+    rw (← c.in-Some.ensures) (on_ok_weaker c.put_function.result (put_two c.args.out.now.items _ _ _ _ c.in_ok-put_file-in-Some.ensures) c.put_function.ensures)
+
+pub returns-in_ok-extend_from_slice-in-None : goal.returns-in_ok-extend_from_slice-in-None
+unfolding open_location
+returns-in_ok-extend_from_slice-in-None c =
+    rw (← c.in-None.ensures)
+    (put_three c.args.out.now.items _ _ _ _ _ _ c.in_ok-put_site_name-in-None.ensures c.in_ok-put_function-in-None.ensures c.in_ok-extend_from_slice-in-None.ensures.items)

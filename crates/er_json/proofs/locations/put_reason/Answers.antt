@@ -11,7 +11,7 @@ unfolding reason_text
 returns c =
     let table : PlaceTable = c.args.legend.now.places.now in
     let place = c.of_reason-place.ensures.place in
-    put_four _ _ _ _ _ (opening_text table.names (reason_place table c.args.because.now)) (sentence_words c.args.legend.now.names.now c.args.because.now)
+    put_four _ _ _ _ _ (opening_text table (reason_place table c.args.because.now)) (sentence_words c.args.legend.now.names.now c.args.because.now)
     (holding_words table.names (reason_place table c.args.because.now)) (codes "\"}}")
-    (rw (c.names-names.ensures, place) at c.in_ok-put_opening.ensures) c.in_ok-put_sentence.ensures
+    (rw place at c.in_ok-put_opening.ensures) c.in_ok-put_sentence.ensures
     (rw (c.names-names.ensures, place) at c.in_ok-put_holding.ensures) c.in_ok-extend_from_slice.ensures.items

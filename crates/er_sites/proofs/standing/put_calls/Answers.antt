@@ -1,12 +1,10 @@
 -- One call more.
-use Rattle.std.proofs.Common.{◌∙◌, List, ℕ, ◌++◌, codes, ap, get_or, refl}
+use Rattle.std.proofs.Common.{get_or, refl}
 use Rattle.er_print.proofs.LineLemmas.{one_more}
-use Rattle.er_print.specs.Styles.{short}
 use Rattle.er_sites.specs.Text.{call_text}
 use Rattle.er_sites.proofs.standing.put_calls.Goals as goal
 
 pub loop-call-preserved : goal.loop-call-preserved
 loop-call-preserved c =
     one_more (call_text c.args.places.now) c.args.calls.now c.loop-call.call-index 0 (get_or c.args.calls.now c.loop-call.call-index 0) c.args.out.now.items c.loop-call.out.items
-    c.put.new.out.items c.loop-call-test.true refl c.loop-call.invariant
-    (c.in_ok-put.ensures.joined ∙ ap (λ (name : List ℕ). c.loop-call.out.items ++ (codes "    called at " ++ short 72 name ++ codes "\n")) c.call_name.ensures)
+    c.put_call.new.out.items c.loop-call-test.true refl c.loop-call.invariant c.in_ok-put_call.ensures
