@@ -99,6 +99,7 @@ impl<'t> Crew<'t> {
         noting: bool,
         gate: &G,
     ) -> Result<Vec<Unusual>, ReplayFault>
+        ensures count { length self.new.machines ≡ length self.old.machines }
         ensures goes_on { (past : List Steps) → HaveAnswered self.old past → OnOk result (HaveAnswered self.new (past ++ steps.now)) }
         ensures answers { (past : List Steps) → HaveAnswered self.old past → IfOk result (λ unusual. AreUnusual past steps.now unusual.items) }
         ensures noted { (past : List Steps) → HaveAnswered self.old past → IsTrue noting → IfOk result (λ unusual. AreNoted past steps.now unusual.items) }

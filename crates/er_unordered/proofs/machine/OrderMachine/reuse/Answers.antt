@@ -26,7 +26,7 @@ pub returns-clause-answered : goal.returns-clause-answered
 returns-clause-answered g c =
     let before : Ordered g.row.A.Denot = record { holders = c.self.inside.holders; clocks = c.self.inside.clocks; words = c.self.inside.words } in
     let clock : count_by c.clock-clock.result ≡ clock_of before c.args.thread = fun_ext c.clock-clock.ensures.clock in
-    let ignores : c.ignoring-ignores.result ≡ nat_lt 0 (holding before c.args.thread).depth = ltb_from_iff c.ignoring-ignores.ensures ∙ ap (λ (h : Holdings). nat_lt 0 h.depth) c.get.ensures in
+    let ignores : c.ignoring-ignores.result ≡ nat_lt 0 (holding before c.args.thread).depth = ltb_from_iff c.ignoring-ignores.ensures ∙ ap (λ (h : Holdings). nat_lt 0 h.depth) c.get.ensures.found in
     let word : Option ℕ = option_map (λ (found : ℕ × g.row.A.Denot). found.0) c.reset-found.result in
     let used : word_used (clock_of before c.args.thread) (stored_of before) c.args.range ≡ word =
     rw (← clock)
