@@ -1,8 +1,11 @@
 //! Answers the steps of a batch by one machine, and adds them to a report.
-ghost use Rattle.std.specs.Prelude.{◌≡◌, ◌+◌, ◌<◌, ◌≤◌, ◌^◌, nat_lt, ℕ, List, length, is_some, IfSome, IfOk, IsTrue, OnOk, false, true};
+ghost use Rattle.std.specs.Prelude.{◌≡◌, ◌+◌, ◌<◌, ◌≤◌, ◌^◌, nat_lt, ℕ, List, length, is_some, IfSome, IfOk, IsFalse, IsTrue, OnOk, false, true};
 ghost use Rattle.er_batch.specs.Inner.Answering.{Answers, HasAnswered, Lags};
 ghost use Rattle.er_batch.specs.Runs.{HasRun, recorded};
+ghost use Rattle.er_event.specs.declared.steps.Event.{Event as Events};
 ghost use Rattle.er_event.specs.declared.steps.Step.{Step as Steps};
+ghost use Rattle.er_event.specs.declared.steps.WordState.{WordState as WordStates};
+ghost use Rattle.er_replay.specs.Standing.{found_no_room, in_full};
 ghost use Rattle.er_replay.specs.Wants.{is_access};
 ghost use Rattle.er_report.specs.Builder.{IsBuilt, IsReported, IsStepAt, is_plain};
 ghost use Rattle.er_report.specs.Names.{HasSiteName};
@@ -13,7 +16,7 @@ ghost use Rattle.er_trace.specs.Trace.{Recording};
 
 use er_event::{Event, Lockset, NoRoom, Refusal, Reply, Site, Step};
 use er_journal::Stopped;
-use er_replay::{Machine, no_room};
+use er_replay::{Brief, Machine, no_room};
 use er_report::{ReportBuilder, view_of};
 use er_trace::{Names, Trace};
 use std::alloc::AllocError;
@@ -57,16 +60,12 @@ pub fn is_plain(answer: &Result<Reply, Refusal>) -> bool
 // Whether the report says nothing of a step that is answered so: it needs no line, and if reasons are wanted it is an access that has not
 // changed its word.
 #[inline(always)]
-fn says_nothing(
-    explains: bool,
-    event: Event,
-    answer: &Result<Reply, Refusal>,
-    changed: bool,
-) -> bool
-    ensures plain { IsTrue result → is_plain answer.now ≡ true }
+fn says_nothing(explains: bool, event: Event, answer: Result<Brief, Refusal>, changed: bool) -> bool
+    ensures plain { IsTrue result → (states : ℕ → WordStates) (event : Events) → is_plain (in_full states event answer) ≡ true }
+    ensures room { IsTrue result → IsFalse (found_no_room answer) }
     ensures keeps { IsTrue result → explains ≡ true → (is_access event ≡ true) × (changed ≡ false) }
 {
-    let plain = is_plain(answer);
+    let plain = matches!(answer, Ok(Brief::Quiet | Brief::Done | Brief::Ignored));
     if explains {
         plain && !changed && matches!(event, Event::Access(..))
     } else {
@@ -147,21 +146,25 @@ fn answer_steps<R: Wait>(
     let mut plain = 0;
     for (k, step) in steps.iter().enumerate() {
         machine.look_ahead(steps, k);
-        let (answer, changed) = machine.step_noting(rt, *step);
-        if let Some(cause) = no_room(&answer) {
-            builder.add_plain(plain);
-            return Ok(Some(Stopped {
-                at: k as u64,
-                cause,
-            }));
-        }
-        if says_nothing(explains, step.event, &answer, changed) {
+        let (brief, changed) = machine.take(rt, *step);
+        if says_nothing(explains, step.event, brief, changed) {
             plain += 1;
         } else {
+            let answer = machine.in_full(step, brief);
+            if let Some(cause) = no_room(&answer) {
+                drop(answer);
+                builder.add_plain(plain);
+                return Ok(Some(Stopped {
+                    at: k as u64,
+                    cause,
+                }));
+            }
             let held = machine.held(step.thread).held();
             let line = trace.lines()[k];
             let site = trace.sites()[k];
-            add_behind(builder, plain, names, line, site, step, &answer, held)?;
+            let added = add_behind(builder, plain, names, line, site, step, &answer, held);
+            drop(answer);
+            added?;
             plain = 0;
         }
     }

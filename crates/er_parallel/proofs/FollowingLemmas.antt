@@ -1,12 +1,10 @@
 -- What a step does to a worker whose machine has the states of its own shards' words alone.
-use Rattle.std.proofs.Common.{◌≡◌, ℕ, ◌%◌, ◌==◌, nat_lt, Bool, true, false, IsFalse, cond, List, Result, refl, ap, ◌∙◌}
+use Rattle.std.proofs.Common.{◌≡◌, ℕ, ◌%◌, ◌==◌, nat_lt, Bool, true, false, cond, List, refl, ap, ◌∙◌}
 use Rattle.std.proofs.lemmas.Bool.{eqb-true}
-use Rattle.er_event.specs.declared.refusals.Refusal.{Refusal}
 use Rattle.er_event.specs.declared.steps.Event.{Event}
 use Rattle.er_event.specs.declared.steps.Event.TheVariants.{Acquire, Release, Access, Reuse, IgnoreOn, IgnoreOff, Show, Level, Sync}
 use Rattle.er_event.specs.declared.addresses.PageRange.{PageRange}
 use Rattle.er_event.specs.declared.steps.Kind.{Kind}
-use Rattle.er_event.specs.declared.steps.Reply.{Reply}
 use Rattle.er_event.specs.declared.steps.Reply.TheVariants.{State}
 use Rattle.er_event.specs.declared.steps.WordState.{WordState}
 use Rattle.er_event.specs.declared.steps.WordState.TheVariants.{Virgin}
@@ -17,22 +15,8 @@ use Rattle.er_journal.specs.Merges.{shard_of}
 use Rattle.er_model.specs.Table.{moved, advanced}
 use Rattle.er_model.specs.Words.{Counted, Reused, Nothing, reuses, counts, is_within}
 use Rattle.er_journal.proofs.Merges.{touch_shard}
-use Rattle.er_parallel.specs.Usual.{usual}
 use Rattle.er_parallel.specs.Tasks.{worker_for}
-use Rattle.er_replay.specs.Standing.{found_no_room}
 use Rattle.er_replay.specs.Wants.{asks_by}
-
--- a usual answer is no lack of room
-pub usual-found : (e : Event) (a : Result Reply Refusal) → a ≡ usual e → IsFalse (found_no_room a)
-usual-found (Access kind w site) a is = rw is refl
-usual-found (Acquire l m) a is = rw is refl
-usual-found (Release l m) a is = rw is refl
-usual-found (Reuse range) a is = rw is refl
-usual-found IgnoreOn a is = rw is refl
-usual-found IgnoreOff a is = rw is refl
-usual-found (Show w) a is = rw is refl
-usual-found (Level n) a is = rw is refl
-usual-found (Sync sync) a is = rw is refl
 
 -- a step on words of other shards leaves a word as it was
 module _ (shards workers worker w t : ℕ) (h : Holdings) (before : WordState) (mine : shard_of shards w % workers ≡ worker) where

@@ -7,14 +7,13 @@ ghost use Rattle.er_parallel.specs.Inner.Faults.{MayBeFull};
 ghost use Rattle.er_parallel.specs.Inner.Taking.{AreIdle, HasCome, HasDone, HasTaken, IsBusy, IsIdle, IsKept, IsOwn};
 ghost use Rattle.er_parallel.specs.Tasks.{IsShare, shard_for, worker_for};
 ghost use Rattle.er_parallel.specs.Usual.{usual};
-ghost use Rattle.er_model.specs.Following.{answered, state_after};
-ghost use Rattle.er_model.specs.Holdings.{after_step};
-ghost use Rattle.er_replay.specs.Standing.{found_no_room, holding, states, Stands};
-ghost use Rattle.er_replay.specs.Wants.{asks_by, is_access};
+ghost use Rattle.er_event.specs.declared.steps.WordState.{WordState as WordStates};
+ghost use Rattle.er_replay.specs.Standing.{found_no_room, holding, in_full, Stands};
+ghost use Rattle.er_replay.specs.Wants.{is_access};
 
 use er_event::{Event, Lockset, NoRoom, PageRange, Refusal, Reply, Step, ThreadId};
 use er_keys::HashKeys;
-use er_replay::{Machine, no_room};
+use er_replay::{Brief, Machine, no_room};
 use er_table::LocksetTable;
 use std::alloc::{AllocError, Global};
 use std::collections::VecDeque;
@@ -199,15 +198,16 @@ fn answer_own<R: Wait>(
     ensures full { (past : List Steps) → HasCome at past steps.now share found.old.items machine.old → IsErrOf result NoRoom.TableFull → AsksForSet (past ++ steps.now) }
 {
     let Step { thread, .. } = *step;
-    let (answer, noted) = answer_one(rt, machine, step, share.noting);
-    if !noted && is_usual(step, &answer) {
+    let (brief, changed) = machine.take(rt, *step);
+    if is_passed_over(step, brief, share.noting, changed) {
         return Ok(());
     }
+    let answer = machine.in_full(step, brief);
     keep(alloc, machine, thread, at, answer, found)
 }
 
 // Keeps the answer to the step at this position, with the thread's locks if it is a race, unless the step found no room.
-#[inline]
+#[inline(never)]
 fn keep(
     alloc: Global,
     machine: &Machine<'_>,
@@ -226,27 +226,6 @@ fn keep(
     let held = locks_at_race(alloc, machine, thread, &answer)?;
     found.push_back(Unusual { at, answer, held })?;
     Ok(())
-}
-
-// The answer to a step, and whether the step is noted: with `noting` an access is noted if it may have changed its word's state.
-#[inline(always)]
-fn answer_one<R: Wait>(
-    rt: &R,
-    machine: &mut Machine<'_>,
-    step: &Step,
-    noting: bool,
-) -> (Result<Reply, Refusal>, bool)
-    ensures table_full { IsErrOf result.0 Refusal.TableFull → IsTrue (asks_by (holding machine.old step.now.thread) (states machine.old) step.now.thread step.now.event) }
-    ensures answered { IsFalse (found_no_room result.0) → result.0 ≡ answered (holding machine.old step.now.thread) (states machine.old) step.now }
-    ensures holdings { IsFalse (found_no_room result.0) → (t : ℕ) → holding machine.new t ≡ after_step (holding machine.old t) t step.now }
-    ensures states { IsFalse (found_no_room result.0) → (w : ℕ) → states machine.new w ≡ state_after (holding machine.old step.now.thread) (states machine.old w) w step.now }
-    ensures same { IsTrue noting → IsTrue (is_access step.now.event) → result.1 ≡ false → (w : ℕ) → states machine.new w ≡ states machine.old w }
-{
-    if noting && is_access(step) {
-        machine.step_noting(rt, *step)
-    } else {
-        (machine.step(rt, *step), false)
-    }
 }
 
 // The locks that the thread holds, if the answer is a race.
@@ -276,15 +255,17 @@ pub fn usual_answer(step: &Step) -> Result<Reply, Refusal>
     })
 }
 
-// Whether it is the usual answer to the step.
+// Whether a step that is answered so isn't kept: it has its usual answer, and with `noting` it is no access that may have changed its word's state.
 #[inline]
-fn is_usual(step: &Step, answer: &Result<Reply, Refusal>) -> bool
-    ensures { IsTrue result → answer.now ≡ usual step.now.event }
+fn is_passed_over(step: &Step, answer: Result<Brief, Refusal>, noting: bool, changed: bool) -> bool
+    ensures usual { IsTrue result → (states : ℕ → WordStates) → in_full states step.now.event answer ≡ usual step.now.event }
+    ensures room { IsTrue result → IsFalse (found_no_room answer) }
+    ensures noted { IsTrue result → IsTrue noting → IsTrue (is_access step.now.event) → changed ≡ false }
 {
     if is_access(step) {
-        matches!(answer, Ok(Reply::Quiet))
+        !(noting && changed) && matches!(answer, Ok(Brief::Quiet))
     } else {
-        matches!(answer, Ok(Reply::Done))
+        matches!(answer, Ok(Brief::Done))
     }
 }
 

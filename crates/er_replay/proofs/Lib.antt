@@ -1,3 +1,4 @@
+pub mod BriefLemmas
 pub mod MachineLemmas
 pub mod RunsLemmas
 pub mod ThreadsLemmas

@@ -2,12 +2,18 @@
 use Rattle.std.specs.Prelude.{ℕ, Bool, true, false, List, Result, Ok, Err}
 use Rattle.er_event.specs.declared.refusals.Refusal.{Refusal}
 use Rattle.er_event.specs.declared.refusals.Refusal.TheVariants.{JournalFull, TableFull, OutOfMemory}
+use Rattle.er_event.specs.declared.steps.Event.{Event}
+use Rattle.er_event.specs.declared.steps.Event.TheVariants.{Show}
 use Rattle.er_event.specs.declared.steps.Reply.{Reply}
+use Rattle.er_event.specs.declared.steps.Reply.TheVariants.{Done, Quiet, Race, Ignored, State}
 use Rattle.er_event.specs.declared.steps.Step.{Step}
 use Rattle.er_event.specs.declared.steps.WordState.{WordState}
+use Rattle.er_event.specs.declared.steps.WordState.TheVariants.{Virgin}
 use Rattle.er_model.specs.Following.{StandsFor}
 use Rattle.er_model.specs.Holdings.{Holdings}
 use Rattle.er_held.specs.ThreadLocks.{holding_among}
+use Rattle.er_replay.specs.declared.machine.Brief.{Brief}
+use Rattle.er_replay.specs.declared.machine.Brief.TheVariants as brief
 use Rattle.er_shadow.specs.Shadows.{Shadows, states as states_among}
 
 -- the threads that took something, with their holdings, and the words
@@ -35,6 +41,20 @@ is_no_room OutOfMemory = true
 is_no_room _ = false
 
 -- the step found no room
-abbrev pub found_no_room : Result Reply Refusal → Bool
+abbrev pub found_no_room : {A : Type 0} → Result A Refusal → Bool
 found_no_room (Ok reply) = false
 found_no_room (Err why) = is_no_room why
+
+-- the state that a show asks for, where these are the words' states
+abbrev pub state_shown : (ℕ → WordState) → Event → WordState
+state_shown states (Show w) = states w
+state_shown states _ = Virgin
+
+-- the whole answer to an event that is answered so in brief, where these are the words' states
+abbrev pub in_full : (ℕ → WordState) → Event → Result Brief Refusal → Result Reply Refusal
+in_full states event (Ok brief.Done) = Ok Done
+in_full states event (Ok brief.Quiet) = Ok Quiet
+in_full states event (Ok brief.Race) = Ok Race
+in_full states event (Ok brief.Ignored) = Ok Ignored
+in_full states event (Ok brief.Shown) = Ok (State (state_shown states event))
+in_full states event (Err why) = Err why

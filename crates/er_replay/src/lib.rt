@@ -17,8 +17,9 @@
 //!
 //! [`Threads`] has the threads' holdings alone, for a machine of another analysis.
 //!
-//! [`Machine::step_noting`] takes a step as `step` does, and says also whether the step may have changed a word's state. If it says no, each
-//! word has the state that it had (`unchanged`, and `same` by the machine's own states).
+//! [`Machine::take`] takes a step as `step` does, but answers it by one byte, of which [`Machine::in_full`] makes the whole answer where one is wanted
+//! (`in_full`). It says also whether the step may have changed a word's state. If it says no, each word has the state that it had (`unchanged`, and
+//! `same` by the machine's own states).
 //!
 //! ```text
 //! let table = LocksetTable::new(alloc, 1_048_576)?;
@@ -28,7 +29,7 @@
 //! ```
 #![tactic(auto)]
 
-pub use machine::Machine;
+pub use machine::{Brief, Machine};
 pub use runs::{no_room, run};
 pub use threads::Threads;
 

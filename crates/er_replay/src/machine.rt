@@ -1,6 +1,8 @@
 //! The machine: every thread's holdings and every word's state.
-ghost use Rattle.std.specs.Prelude.{◌≡◌, ◌<◌, ◌++◌, ◌∷◌, [], ◌&&◌, ℕ, nat_lt, true, false, List, IsTrue, IsFalse, IsOk, IsErr, IfOk, IfErr, IsErrOf, MatchOption, OnOk, OnErr, Err, None, Some};
+ghost use Rattle.std.specs.Prelude.{◌≡◌, ◌⊎◌, ◌<◌, ◌++◌, ◌∷◌, [], ◌&&◌, ℕ, nat_lt, Bool, cond, true, false, List, IsTrue, IsFalse, IsOk, IsErr, IfOk, IfErr, IsErrOf, MatchOption, OnOk, OnErr, Ok, Err, None, Some};
+ghost use Rattle.er_event.specs.declared.steps.Event.{Event as Events};
 ghost use Rattle.er_event.specs.declared.steps.Step.{Step as Steps};
+ghost use Rattle.er_event.specs.declared.steps.WordState.{WordState as WordStates};
 ghost use Rattle.er_held.specs.ThreadLocks.{changes_holdings};
 ghost use Rattle.er_model.specs.Answers.{answer_next, state_end};
 ghost use Rattle.er_model.specs.Following.{answered, locks_for, marked, replied, state_after};
@@ -9,6 +11,7 @@ ghost use Rattle.er_model.specs.Table.{moved};
 ghost use Rattle.er_journal.specs.AnswerList.{is_state};
 ghost use Rattle.er_model.specs.Events.{is_show};
 ghost use Rattle.er_replay.specs.Wants.{is_access, asks_by, may_want, wants_memory};
+ghost use Rattle.er_shadow.specs.Replies.{reply_if};
 
 use crate::threads::Threads;
 use er_event::{Event, Kind, Lockset, Refusal, Reply, Step, ThreadId, Word, WordState};
@@ -19,6 +22,21 @@ use er_table::LocksetTable;
 use std::alloc::{AllocError, Global};
 use std::marker::Model;
 use std::sync::Wait;
+
+/// What an accepted step is answered, in one byte: a [`Reply`] has room for the state that a show finds.
+#[derive(Clone, Copy, Debug, PartialEq, Eq)]
+pub enum Brief {
+    /// A lock, reuse, ignore, level or order event took effect.
+    Done,
+    /// An access that reports nothing.
+    Quiet,
+    /// An access that reports a race.
+    Race,
+    /// An access inside an ignore bracket.
+    Ignored,
+    /// A show, which finds the state of its word.
+    Shown,
+}
 
 /// Each thread's holdings and each word's state.
 #[derive(Drop)]
@@ -36,7 +54,7 @@ impl<'t> Model for Machine<'t> {
 }
 
 impl<'t> Machine<'t> {
-    ghost use Rattle.er_replay.specs.Standing.{holding, states, Stands, found_no_room};
+    ghost use Rattle.er_replay.specs.Standing.{holding, states, state_shown, in_full, Stands, found_no_room};
 
     // How many steps are looked at together.
     const AHEAD: usize = 16;
@@ -63,8 +81,6 @@ impl<'t> Machine<'t> {
     }
 
     /// Takes one step and says what it is answered.
-    // Two loops take steps. A call at each step would add 3 % to a replay.
-    #[inline(always)]
     pub fn step<R: Wait>(&mut self, rt: &R, step: Step) -> Result<Reply, Refusal>
         ensures answer { (past : List Steps) → Stands self.old past → IsFalse (found_no_room result) → result ≡ answer_next past step }
         ensures goes_on { (past : List Steps) → Stands self.old past → IsFalse (found_no_room result) → Stands self.new (past ++ step ∷ []) }
@@ -88,14 +104,18 @@ impl<'t> Machine<'t> {
         ensures holdings { IsFalse (found_no_room result) → (t : ℕ) → holding self.new t ≡ after_step (holding self.old t) t step }
         ensures states { IsFalse (found_no_room result) → (w : ℕ) → states self.new w ≡ state_after (holding self.old step.thread) (states self.old w) w step }
     {
-        self.step_noting(rt, step).0
+        let taken = &step;
+        let (brief, _changed) = self.take(rt, *taken);
+        self.in_full(taken, brief)
     }
 
-    /// Takes one step as `step` does. Returns its answer, and whether the step may have changed a word's state: `true` at each reuse, and
-    /// at an access that changed what stands for its word, `false` at any other step.
+    /// Takes one step as `step` does, but answers it in brief, and a show always. [`in_full`](Machine::in_full) then gives the whole answer. Returns
+    /// also whether the step may have changed a word's state: `true` at each reuse, and at an access that changed what stands for its word, `false`
+    /// at any other step.
+    // Two loops take steps. A call at each step would add 3 % to a replay.
     #[inline(always)]
-    pub fn step_noting<R: Wait>(&mut self, rt: &R, step: Step) -> (Result<Reply, Refusal>, bool)
-        ensures answer { (past : List Steps) → Stands self.old past → IsFalse (found_no_room result.0) → result.0 ≡ answer_next past step }
+    pub fn take<R: Wait>(&mut self, rt: &R, step: Step) -> (Result<Brief, Refusal>, bool)
+        ensures answer { (past : List Steps) → Stands self.old past → IsFalse (found_no_room result.0) → in_full (states self.new) step.event result.0 ≡ answer_next past step }
         ensures goes_on { (past : List Steps) → Stands self.old past → IsFalse (found_no_room result.0) → Stands self.new (past ++ step ∷ []) }
         ensures unchanged { (past : List Steps) → Stands self.old past → IsFalse (found_no_room result.0) → result.1 ≡ false → (w : ℕ) → state_end (past ++ step ∷ []) w ≡ state_end past w }
 
@@ -109,16 +129,32 @@ impl<'t> Machine<'t> {
         ensures ignored { 0 < (holding self.old step.thread).depth → IsTrue (is_access step.event) → IsOk result.0 }
 
         // A show alone is answered with a state, and changes nothing.
-        ensures shows { IsTrue (is_state result.0) → IsTrue (is_show step.event) }
+        ensures shows { result.0 ≡ Ok Brief.Shown → IsTrue (is_show step.event) }
         ensures still { IsTrue (is_show step.event) → (past : List Steps) → Stands self.old past → Stands self.new past }
 
         // The same by the machine's own holdings and states, for one that stands for no list because it has passed steps.
-        ensures answered { IsFalse (found_no_room result.0) → result.0 ≡ answered (holding self.old step.thread) (states self.old) step }
+        ensures answered { IsFalse (found_no_room result.0) → in_full (states self.new) step.event result.0 ≡ answered (holding self.old step.thread) (states self.old) step }
         ensures holdings { IsFalse (found_no_room result.0) → (t : ℕ) → holding self.new t ≡ after_step (holding self.old t) t step }
         ensures states { IsFalse (found_no_room result.0) → (w : ℕ) → states self.new w ≡ state_after (holding self.old step.thread) (states self.old w) w step }
         ensures same { result.1 ≡ false → (w : ℕ) → states self.new w ≡ states self.old w }
     {
-        self.follow_noting(rt, step)
+        self.follow(rt, step)
+    }
+
+    /// The whole answer to the step that was taken last, if this is its answer in brief. Only a show takes memory: where there is none, the answer
+    /// says so.
+    #[inline(never)]
+    pub fn in_full(&self, step: &Step, brief: Result<Brief, Refusal>) -> Result<Reply, Refusal>
+        ensures { (result ≡ in_full (states self.now) step.now.event brief) ⊎ ((brief ≡ Ok Brief.Shown) × (result ≡ Err Refusal.OutOfMemory)) }
+    {
+        match brief {
+            Ok(Brief::Done) => Ok(Reply::Done),
+            Ok(Brief::Quiet) => Ok(Reply::Quiet),
+            Ok(Brief::Race) => Ok(Reply::Race),
+            Ok(Brief::Ignored) => Ok(Reply::Ignored),
+            Ok(Brief::Shown) => self.shown(step.event),
+            Err(why) => Err(why),
+        }
     }
 
     /// Takes what a step makes of its thread's holdings, and leaves every word as it is: for a step whose word another machine keeps. A
@@ -146,8 +182,8 @@ impl<'t> Machine<'t> {
 
     // What a step does, by the machine's own holdings and states. Split for the prover.
     #[inline(always)]
-    fn follow_noting<R: Wait>(&mut self, rt: &R, step: Step) -> (Result<Reply, Refusal>, bool)
-        ensures answer { IsFalse (found_no_room result.0) → result.0 ≡ answered (holding self.old step.thread) (states self.old) step }
+    fn follow<R: Wait>(&mut self, rt: &R, step: Step) -> (Result<Brief, Refusal>, bool)
+        ensures answer { IsFalse (found_no_room result.0) → in_full (states self.new) step.event result.0 ≡ answered (holding self.old step.thread) (states self.old) step }
         ensures holdings { IsFalse (found_no_room result.0) → (t : ℕ) → holding self.new t ≡ after_step (holding self.old t) t step }
         ensures states { IsFalse (found_no_room result.0) → (w : ℕ) → states self.new w ≡ state_after (holding self.old step.thread) (states self.old w) w step }
         ensures same { result.1 ≡ false → (w : ℕ) → states self.new w ≡ states self.old w }
@@ -159,26 +195,36 @@ impl<'t> Machine<'t> {
         let Step { thread, event } = step;
         match event {
             Event::Access(kind, word, _) => match self.access_noting(rt, thread, kind, word) {
-                Ok((reply, changed)) => (Ok(reply), changed),
+                Ok((brief, changed)) => (Ok(brief), changed),
                 Err(why) => (Err(why), false),
             },
             Event::Reuse(range) => {
                 self.words.reset(range);
-                (Ok(Reply::Done), true)
+                (Ok(Brief::Done), true)
             }
-            Event::Show(word) => match self.words.state_of(word) {
-                Ok(state) => (Ok(Reply::State(state)), false),
-                Err(_) => (Err(Refusal::OutOfMemory), false),
-            },
-            Event::Sync(_) => (Ok(Reply::Done), false),
+            Event::Show(_) => (Ok(Brief::Shown), false),
+            Event::Sync(_) => (Ok(Brief::Done), false),
             Event::Acquire(..)
             | Event::Release(..)
             | Event::IgnoreOn
             | Event::IgnoreOff
             | Event::Level(_) => match self.threads.change(thread, event) {
-                Ok(()) => (Ok(Reply::Done), false),
+                Ok(()) => (Ok(Brief::Done), false),
                 Err(why) => (Err(why), false),
             },
+        }
+    }
+
+    // The state that a show asks for.
+    fn shown(&self, event: Event) -> Result<Reply, Refusal>
+        ensures { (result ≡ Ok (Reply.State (state_shown (states self.now) event))) ⊎ (result ≡ Err Refusal.OutOfMemory) }
+    {
+        let Event::Show(word) = event else {
+            return Ok(Reply::State(WordState::Virgin));
+        };
+        match self.words.state_of(word) {
+            Ok(state) => Ok(Reply::State(state)),
+            Err(_) => Err(Refusal::OutOfMemory),
         }
     }
 
@@ -190,8 +236,8 @@ impl<'t> Machine<'t> {
         thread: ThreadId,
         kind: Kind,
         word: Word,
-    ) -> Result<(Reply, bool), Refusal>
-        ensures reply { IfOk result (λ answer. answer.0 ≡ replied (holding self.old thread) (states self.old) thread (Event.Access kind word 0)) }
+    ) -> Result<(Brief, bool), Refusal>
+        ensures reply { IfOk result (λ answer. (now : ℕ → WordStates) (event : Events) → in_full now event (Ok answer.0) ≡ Ok (replied (holding self.old thread) (states self.old) thread (Event.Access kind word 0))) }
         ensures ok { OnOk result ((w : ℕ) → states self.new w ≡ moved (states self.old w) w (marked (holding self.old thread) thread (Event.Access kind word 0))) }
         ensures same { IfOk result (λ answer. answer.1 ≡ false → (w : ℕ) → states self.new w ≡ states self.old w) }
         ensures err { OnErr result ((w : ℕ) → states self.new w ≡ states self.old w) }
@@ -199,13 +245,14 @@ impl<'t> Machine<'t> {
         ensures room { IfErr result (λ why. IsTrue (may_want (holding self.old thread) (states self.old) thread (Event.Access kind word 0) why)) }
     {
         let Some(locks) = cover(self.threads.get(thread), kind) else {
-            return Ok((Reply::Ignored, false));
+            return Ok((Brief::Ignored, false));
         };
         // Without this a full table would refuse an access of a word that has no candidates left. No clause sees that, but tests/probe/steps.txt.
         if self.words.is_settled(thread, word, kind, locks) {
-            return Ok((Reply::Quiet, false));
+            return Ok((Brief::Quiet, false));
         }
-        Ok(self.words.access_noting(rt, thread, word, kind, locks)?)
+        let (reply, changed) = self.words.access_noting(rt, thread, word, kind, locks)?;
+        Ok((of_access(&reply), changed))
     }
 
     /// Each few steps reads the states of the words that the next few access, so that they come from memory side by side. `at` is the
@@ -219,6 +266,8 @@ impl<'t> Machine<'t> {
         }
     }
 
+    // It is called, so that a step that isn't the first of its few costs one comparison.
+    #[inline(never)]
     fn read_ahead(&mut self, steps: &[Step], at: usize)
         ensures { self.new ≡ self.old }
     {
@@ -251,6 +300,17 @@ impl<'t> Machine<'t> {
         ensures { (past : List Steps) → Stands self.now past → IfOk result (λ state. state ≡ state_end past word) }
     {
         self.words.state_of(word)
+    }
+}
+
+// The reply to a counted access, in brief.
+#[inline(always)]
+fn of_access(reply: &Reply) -> Brief
+    ensures { (reported : Bool) → reply.now ≡ reply_if reported → result ≡ cond reported Brief.Race Brief.Quiet }
+{
+    match reply {
+        Reply::Race => Brief::Race,
+        _ => Brief::Quiet,
     }
 }
 
