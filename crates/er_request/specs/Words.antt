@@ -79,12 +79,12 @@ pub record IsUsual (replay : Replaying) : Type 0 where
   pub progress : replay.progress ≡ false
   pub workers : replay.workers ≡ 1
 
--- it is such a replay, and hints are not asked for
-abbrev pub asks_usual : Request → Type 0
-asks_usual (Replay replay) = IsUsual replay × (replay.hints ≡ false)
-asks_usual (Explain explain) = ⊥
-asks_usual (Print trace) = ⊥
-asks_usual (Demo demo) = ⊥
+-- it is such a replay, with hints or without them
+abbrev pub asks_usual : Bool → Request → Type 0
+asks_usual hints (Replay replay) = IsUsual replay × (replay.hints ≡ hints)
+asks_usual hints (Explain explain) = ⊥
+asks_usual hints (Print trace) = ⊥
+asks_usual hints (Demo demo) = ⊥
 
 -- the text that the standard input means is to be written
 abbrev pub asks_print : Request → Type 0

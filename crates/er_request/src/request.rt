@@ -43,7 +43,7 @@ pub struct Replay<'a> {
     pub until_fault: bool,
     /// Whether standard error shows how far the replay has come.
     pub progress: bool,
-    /// Whether what helps people follows the line of a fault, as on a terminal.
+    /// Whether what helps people follows the line of a fault: if a word asks for it, or the errors are a terminal.
     pub hints: bool,
     /// In how many shards the words are, from 1 to 64.
     pub shards: u32,

@@ -1,6 +1,8 @@
 -- What was delivered is what was asked for.
-use Rattle.std.proofs.Common.{◌≡◌, ◌-◌, ◌∙◌, ℕ, Bool, true, false, cond, is_some, List, [], length, Option, Some, None, IsSome, IfOk, IfErr, Result, Ok, Err, refl, sym, subst}
+use Rattle.std.proofs.Common.{◌≡◌, ◌≢◌, ◌≤◌, ◌-◌, ◌∙◌, ℕ, Bool, true, false, cond, is_some, List, [], length, Option, Some, None, IsSome, IfOk, IfErr, Result, Ok, Err, refl, sym, subst, arith}
 use Rattle.std.specs.Io.KnownBytes.{Appends, Keeps}
+use Rattle.er_batch.specs.declared.verdict.Verdict.{Verdict}
+use Rattle.er_batch.specs.declared.verdict.Verdict.TheVariants.{Clean, Races, Stopped}
 use Rattle.er_exit.specs.declared.faults.Fault.{Fault}
 use Rattle.er_exit.specs.declared.faults.Fault.TheVariants as fault
 use Rattle.er_forms.specs.Forms.{IsForm}
@@ -25,10 +27,10 @@ use Rattle.er_lines.specs.declared.faults.ReadFault.TheVariants as reading
 use Rattle.er_trace.specs.Names.{NameTable}
 use Rattle.er_triage.specs.First.{KeepFirst}
 use Rattle.er_triage.specs.Known.{lines_of}
-use Rattle.er_triage.specs.Notes.{notes_text}
+use Rattle.er_triage.specs.Notes.{AreNotes, notes_text}
 use Rattle.eraser.specs.Faults.{replay_fault}
 use Rattle.eraser.specs.Inner.Writes.{WritesSome}
-use Rattle.eraser.specs.Replays.{AreShown, EndsAs, FailsAs, FailsBy, FailsFor, IsOutput, MayHavePlaces, races_in, unordered_of, verdict_status}
+use Rattle.eraser.specs.Replays.{AreShown, EndsAs, FailsAs, FailsBy, FailsFor, IsEndOf, IsOutput, MayHavePlaces, races_in, unordered_of, verdict_status}
 use Rattle.eraser.specs.declared.replaying.Ended.{Ended}
 
 -- what is known of reports of a text, and of those of them that are left
@@ -118,10 +120,22 @@ uncounted true o none = refl
 uncounted false None none = refl
 uncounted false (Some report) none = cc
 
-pub counts-none : (has_order : Bool) (found : Reports) (ending : Ending) (count : ℕ) (result : Result Ended Fault) → is_some found.unordered ≡ false → count ≡ unordered_of has_order found
-    → IfOk result (λ ended. (ended.ending ≡ ending) × (ended.unordered ≡ count)) → IfOk result (λ ended. ended.unordered ≡ 0)
-counts-none has_order found ending count (Err why) none counted same = tt
-counts-none has_order found ending count (Ok ended) none counted (same, same_count) = same_count ∙ counted ∙ uncounted has_order found.unordered none
+statuses : (verdict : Verdict) → (verdict_status verdict ≤ 4) × (verdict_status verdict ≢ 2)
+statuses Clean = (omega arith, λ is. omega (arith, is))
+statuses Races = (omega arith, λ is. omega (arith, is))
+statuses Stopped = (omega arith, λ is. omega (arith, is))
+
+-- and so ends each replay, whatever its text is
+pub ends-so : (replay : Replay) (found left : Reports) (ending : Ending) (has_order : Bool) (notes : List ℕ) (count : ℕ) (result : Result Ended Fault) → IfOk result (λ ended. ended.status ≡ verdict_status (is_verdict_of left))
+    → IfOk result (λ ended. ended.notes.items ≡ notes) → IfOk result (λ ended. (ended.ending ≡ ending) × (ended.unordered ≡ count)) → AreNotes notes
+    → (replay.unused_rules ≡ false → replay.max_races ≡ None → notes ≡ []) → is_some found.unordered ≡ asks_order replay.analysis → count ≡ unordered_of has_order found → IfOk result (IsEndOf replay)
+ends-so replay found left ending has_order notes count (Err why) status same_notes same are silent order counted = tt
+ends-so replay found left ending has_order notes count (Ok ended) status same_notes (same, same_count) are silent order counted = record {
+  status = subst (λ (n : ℕ). (n ≤ 4) × (n ≢ 2)) (sym status) (statuses (is_verdict_of left));
+  notes = subst AreNotes (sym same_notes) are;
+  silent = λ unused most. same_notes ∙ silent unused most;
+  locks = λ none. same_count ∙ counted ∙ uncounted has_order found.unordered (order ∙ none);
+}
 
 -- neither has failed if only the file of rules is missing
 pub unfailed-behind : (P : Type 0) (read write : Bool) (result : Result Ended Fault) → (read ≡ false) × (write ≡ false) → IfErr result (λ why. (why ≡ fault.WriteRules) × P) → FailsBy read write result

@@ -28,7 +28,7 @@ use Rattle.er_trace.specs.Names.{NameTable}
 use Rattle.er_trace.specs.Trace.{Recording}
 use Rattle.er_triage.specs.First.{KeepFirst}
 use Rattle.eraser.specs.Faults.{replay_fault}
-use Rattle.eraser.specs.Replays.{EndsAs, EndsUsually, FailsAs, FailsFor, IsFoundFault, IsOutput, IsUsualFault, LeavesUsually, ReplaysTo, unordered_of}
+use Rattle.eraser.specs.Replays.{EndsAs, EndsUsually, FailsAs, FailsFor, IsEndOf, IsFoundFault, IsOutput, IsUsualFault, LeavesUsually, ReplaysTo, unordered_of}
 use Rattle.eraser.specs.declared.replaying.Ended.{Ended}
 use Rattle.eraser.specs.declared.until.Cut.{Cut}
 
@@ -188,16 +188,16 @@ for-text (Some text) f is = f text is
 pub usually : {F : Type 0} (remaining : F → Option (List ℕ)) (replay : Replay) (told old new : Option (List ℕ)) (read written : Bool) (rules : List Target) (result : Result Ended Cut) → IsUsual replay → rules ≡ []
     → IfOk result (λ ended. IfSome told (λ text. EndsAs remaining replay text rules old new ended))
     → IfErr result (λ cut. IfSome told (λ text. FailsAs remaining replay text rules old new cut.fault))
-    → IfOk result (λ ended. ended.notes.items ≡ []) → IfErr result (λ cut. (cut.notes.items ≡ []) × (cut.damage ≡ None))
+    → IfOk result (IsEndOf replay) → IfErr result (λ cut. (cut.notes.items ≡ []) × (cut.damage ≡ None))
     → IfOk result (λ ended. (read ≡ false) × (written ≡ false)) → IfErr result (λ cut. FailsFor read written cut.fault)
     → IfSome told (λ text. EndsUsually text read written old new result)
-usually remaining replay None old new read written rules result usual none ends fails quiet whole unfailed failed = tt
-usually remaining replay (Some text) old new read written rules (Ok ended) usual none ends fails quiet whole unfailed failed =
+usually remaining replay None old new read written rules result usual none ends fails end whole unfailed failed = tt
+usually remaining replay (Some text) old new read written rules (Ok ended) usual none ends fails end whole unfailed failed =
     all (usual-ends remaining replay text old new ended usual (subst (λ (r : List Target). EndsAs remaining replay text r old new ended) none ends))
   where
     all : ReplaysTo text old new ended.status × (IsEndingOf text ended.ending × (ended.unordered ≡ 0)) → EndsUsually text read written old new (Ok ended)
-    all (replays, (ending, count)) = (unfailed, (replays, (ending, (count, quiet))))
-usually remaining replay (Some text) old new read written rules (Err cut) usual none ends fails quiet whole unfailed failed =
+    all (replays, (ending, count)) = (unfailed, (replays, (ending, (count, end.silent usual.unused_rules usual.max_races))))
+usually remaining replay (Some text) old new read written rules (Err cut) usual none ends fails end whole unfailed failed =
     all (usual-fails remaining replay text old new cut.fault usual (subst (λ (r : List Target). FailsAs remaining replay text r old new cut.fault) none fails))
   where
     all : IsUsualFault text cut.fault × LeavesUsually text old new cut.fault → EndsUsually text read written old new (Err cut)

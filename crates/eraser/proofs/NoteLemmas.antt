@@ -47,13 +47,8 @@ widen : (a b : Bool) → (a ≡ true → b ≡ true) → (asked : List ℕ) (old
 widen true b more asked old new failed adds = subst (λ hints. AddsNotes hints asked old new failed) (sym (more refl)) adds
 widen false b more asked old new failed adds = widened b asked old new failed adds
 
-pub more-notes : (a b c : Bool) → (a ≡ true → b ≡ true) → (old new : Option (List ℕ)) (failed : Bool) → GetsNotes (a || c) old new failed → GetsNotes (b || c) old new failed
-more-notes a b c more old new failed (asked, are, adds) = (asked, are, widen (a || c) (b || c) (or_more a b c more) asked old new failed adds)
-  where
-    or_more : (a b c : Bool) → (a ≡ true → b ≡ true) → (a || c) ≡ true → (b || c) ≡ true
-    or_more true b c more some = rw (more refl) refl
-    or_more false true c more some = refl
-    or_more false false c more some = some
+pub more-notes : (a b : Bool) → (a ≡ true → b ≡ true) → (old new : Option (List ℕ)) (failed : Bool) → GetsNotes a old new failed → GetsNotes b old new failed
+more-notes a b more old new failed (asked, are, adds) = (asked, are, widen a b more asked old new failed adds)
 
 -- what no word asks for is not asked for
 pub not-asked : (asked named : Bool) → (asked ≡ true → named ≡ true) → named ≡ false → asked ≡ false

@@ -1,5 +1,5 @@
 -- What a replay leaves, and its exit status.
-use Rattle.std.specs.Prelude.{◌≡◌, ◌⊎◌, ◌&&◌, ℕ, Bool, true, false, not, cond, List, [], length, ◌-◌, take, codes, Option, Some, None, IsSome, is_some, IfSome, IsFalse, Result, Ok, Err}
+use Rattle.std.specs.Prelude.{◌≡◌, ◌≢◌, ◌≤◌, ◌⊎◌, ◌&&◌, ℕ, Bool, true, false, not, cond, List, [], length, ◌-◌, take, codes, Option, Some, None, IsSome, is_some, IfSome, IsFalse, Result, Ok, Err}
 use Rattle.std.specs.Io.KnownBytes.{Appends, Keeps}
 use Rattle.std.specs.Str.{bytes_eq}
 use Rattle.er_batch.specs.declared.options.Options.{Options}
@@ -34,7 +34,7 @@ use Rattle.er_text.specs.declared.endings.Ending.{Ending}
 use Rattle.er_trace.specs.Names.{NameTable}
 use Rattle.er_triage.specs.First.{KeepFirst}
 use Rattle.er_triage.specs.Known.{lines_of}
-use Rattle.er_triage.specs.Notes.{notes_text}
+use Rattle.er_triage.specs.Notes.{AreNotes, notes_text}
 use Rattle.eraser.specs.Faults.{replay_fault}
 use Rattle.eraser.specs.Notes.{AddsNotesOn}
 use Rattle.eraser.specs.declared.replaying.Ended.{Ended}
@@ -109,6 +109,14 @@ pub record EndsAs {F : Type 0} (remaining : F → Option (List ℕ)) (replay : R
   pub ending : IsEndingOf text ended.ending
   pub order : (has_order : Bool) × (IsOrderOfText replay.analysis text replay.byte_limit has_order × (ended.unordered ≡ unordered_of has_order output.found))
   pub notes : ended.notes.items ≡ notes_text replay.unused_rules output.found rules (length (lines_of output.found) - length (lines_of output.left))
+
+-- how each replay ends that has no fault, whatever its text is: its notes are those of some reports, and there are none if none were asked for; by locks
+-- alone nothing is counted as unordered
+pub record IsEndOf (replay : Replay) (ended : Ended) : Type 0 where
+  pub status : (ended.status ≤ 4) × (ended.status ≢ 2)
+  pub notes : AreNotes ended.notes.items
+  pub silent : replay.unused_rules ≡ false → replay.max_races ≡ None → ended.notes.items ≡ []
+  pub locks : asks_order replay.analysis ≡ false → ended.unordered ≡ 0
 
 -- the fault of a replay, before a byte is written
 pub record IsFoundFault (replay : Replay) (text : List ℕ) (why : Fault) : Type 0 where

@@ -1,5 +1,5 @@
 //! One command line, run over a reader and its writers.
-ghost use Rattle.std.specs.Prelude.{◌≡◌, ◌≢◌, ◌≤◌, ◌||◌, ℕ, Bool, List, Option, [], false, true, None, codes, IfOk, IfErr, IfSome};
+ghost use Rattle.std.specs.Prelude.{◌≡◌, ◌≤◌, ◌^◌, ◌||◌, ℕ, Bool, List, Option, [], false, true, codes, IfOk, IfErr, IfSome, IsOk};
 ghost use Rattle.std.specs.Io.KnownBytes.{Keeps};
 ghost use Rattle.er_binary.specs.Decoded.{IsFresh, source_of};
 ghost use Rattle.er_binary.specs.Meaning.{meant};
@@ -8,35 +8,36 @@ ghost use Rattle.er_exit.specs.Lines.{fault_line};
 ghost use Rattle.er_exit.specs.Statuses.{fault_status};
 ghost use Rattle.er_exit.specs.Writes.{GetsLine, LeavesOutput};
 ghost use Rattle.er_request.specs.Words.{IsUsual, names_hints, names_progress, names_until_fault, prints_input, replays_input};
-ghost use Rattle.er_report.specs.Reports.{asks_order};
+ghost use Rattle.er_rules.specs.Rules.{targets_of};
 ghost use Rattle.er_text.specs.Ending.{IsEndingOf};
 ghost use Rattle.er_triage.specs.Notes.{AreNotes};
 ghost use Rattle.eraser.specs.Notes.{AddsNotesOn, GetsNotes, GetsTextNotes};
 ghost use Rattle.eraser.specs.Printing.{PrintsTo};
-ghost use Rattle.eraser.specs.Replays.{AreOptionsOf, ComesTo, EndsAs, EndsUsually, FailsAs};
+ghost use Rattle.eraser.specs.Replays.{AreOptionsOf, ComesTo, EndsAs, EndsUsually, FailsAs, IsEndOf};
 
-use crate::advice::trace_path;
 use crate::meter::Meter;
-use crate::notes::notes_of;
-use crate::replaying::{Ended, Job};
-use crate::rules::rules_of;
-use crate::stories::explain_step;
-use crate::traces::{print_trace, text_size};
-use crate::until::{Cut, cut_by, replay_trace, report_cut};
+use crate::replaying::{Ended, Job, notes_of};
+use crate::traces::{explain_step, print_trace, text_size};
+use crate::until::{Cut, cut_by, replay_trace, report_cut, trace_path};
 use clap::error::ErrorKind;
 use er_binary::Decoded;
 use er_device::Device;
 use er_exit::{Fault, put, report_fault, run_demo};
 use er_load::Workload;
 use er_request::{Replay, Request, read_request};
+use er_rules::{Suppressions, read_suppressions};
 use er_run::Options;
 use er_trace::NameKeys;
+use er_triage::append_rules;
 use std::alloc::Global;
+use std::fs::File;
 use std::io::{Read, Write};
 use std::random::RandomSource;
 use std::rt::{Clock, Files};
 use std::sync::Wait;
 use std::thread::Threads;
+
+type Rules = Result<Suppressions, Fault>;
 
 /// Runs one command line, whose first word is the program's name, and returns the exit status: 0 if no race was printed,
 /// 1 if some race was, 2 for wrong arguments or a text with a fault, 3 for want of room, 4 for a file that can't be
@@ -79,9 +80,8 @@ where
     // Unless a word asks how far a replay has come, nothing is written of it.
     ensures unwatched { names_progress words.now ≡ false → Keeps (P.contents (inner_of progress.old)) (P.contents (inner_of progress.new)) }
 {
-    match read_request(rt.alloc(), words) {
-        Ok(Request::Replay(replay)) => {
-            let asked = with_hints(replay, on_terminal);
+    match read_request(rt.alloc(), words, on_terminal) {
+        Ok(Request::Replay(asked)) => {
             let replayed = run_replay(rt, &asked, input, output, progress, on_terminal);
             let status = end_replay(rt, &asked, replayed, errors);
             drop(asked);
@@ -106,19 +106,6 @@ where
     }
 }
 
-// The replay, for people if it asked for that or the errors are a terminal.
-fn with_hints(mut replay: Replay<'_>, on_terminal: bool) -> Replay<'_>
-    ensures hints { result.hints ≡ (replay.entry.hints || on_terminal) }
-    ensures unused { result.unused_rules ≡ replay.entry.unused_rules }
-    ensures most { result.max_races ≡ replay.entry.max_races }
-    ensures until { result.until_fault ≡ replay.entry.until_fault }
-    ensures progress { result.progress ≡ replay.entry.progress }
-    ensures usual { IsUsual replay.entry → IsUsual result }
-{
-    replay.hints = replay.hints || on_terminal;
-    replay
-}
-
 // Runs a replay, and shows how far it has come if that is asked for. The suppressions are opened and read before the trace is opened.
 fn run_replay<R, I, O, P>(
     rt: &R,
@@ -135,13 +122,9 @@ where
     P: Write,
     requires input { has_failed input.old ≡ false }
     requires output { has_failed output.old ≡ false }
-    ensures status { IfOk result (λ ended. ended.status ≤ 4) }
-    ensures not_two { IfOk result (λ ended. ended.status ≢ 2) }
+    ensures end { IfOk result (IsEndOf replay.now) }
     ensures usual { IsUsual replay.now → IfSome (I.remaining (inner_of input.old)) (λ text. EndsUsually text (has_failed input.new) (has_failed output.new) (O.contents (inner_of output.old)) (O.contents (inner_of output.new)) result) }
-    ensures notes { IfOk result (λ ended. AreNotes ended.notes.items) }
-    ensures silent { replay.now.unused_rules ≡ false → replay.now.max_races ≡ None → IfOk result (λ ended. ended.notes.items ≡ []) }
     ensures text { replay.now.trace.now ≡ codes "-" → IfOk result (λ ended. IfSome (I.remaining (inner_of input.old)) (λ text. IsEndingOf text ended.ending)) }
-    ensures locks { asks_order replay.now.analysis ≡ false → IfOk result (λ ended. ended.unordered ≡ 0) }
     ensures ends { replay.now.trace.now ≡ codes "-" → replay.now.suppressions.items ≡ [] → IfOk result (λ ended. IfSome (I.remaining (inner_of input.old)) (λ text. EndsAs R.File.remaining replay.now text [] (O.contents (inner_of output.old)) (O.contents (inner_of output.new)) ended)) }
     ensures fails { replay.now.trace.now ≡ codes "-" → replay.now.suppressions.items ≡ [] → replay.now.until_fault ≡ false → IfErr result (λ cut. IfSome (I.remaining (inner_of input.old)) (λ text. FailsAs R.File.remaining replay.now text [] (O.contents (inner_of output.old)) (O.contents (inner_of output.new)) cut.fault)) }
     ensures nothing { replay.now.until_fault ≡ false → IfErr result (λ cut. LeavesOutput (O.contents (inner_of output.old)) (O.contents (inner_of output.new)) cut.fault) }
@@ -160,10 +143,42 @@ where
     if replay.progress {
         let size = trace_path(replay).and_then(|path| text_size(rt, path));
         let mut meter = Meter::new(rt, Some(progress), on_terminal, size);
-        return replay_trace(rt, job, input, output, &mut meter);
+        let shown = replay_trace(rt, job, input, output, &mut meter);
+        drop(suppressions);
+        return shown;
     }
     let mut meter: Meter<'_, R, P> = Meter::new(rt, None, false, None);
-    replay_trace(rt, job, input, output, &mut meter)
+    let replayed = replay_trace(rt, job, input, output, &mut meter);
+    drop(suppressions);
+    replayed
+}
+
+// The rules of these files, in their order, and from file to file.
+fn rules_of<R: Files + AllocGlobal>(rt: &R, paths: &[&str], byte_limit: u64) -> Rules
+    requires { byte_limit ≤ 2 ^ 62 }
+    ensures none { paths.now ≡ [] → IfOk result (λ rules. targets_of rules ≡ []) }
+    ensures some { paths.now ≡ [] → IsOk result }
+{
+    let Some((first, others)) = paths.split_first() else {
+        return Ok(Suppressions::new(rt.alloc()));
+    };
+    let number = (!others.is_empty()).then_some(1);
+    let mut rules = rules_at(rt, first, number, byte_limit)?;
+    for (place, path) in others.iter().enumerate() {
+        let found = rules_at(rt, path, Some(place as u64 + 2), byte_limit)?;
+        append_rules(&mut rules, &found)?;
+    }
+    Ok(rules)
+}
+
+// The rules of one file, which has this number if there are several.
+fn rules_at<R: Files + AllocGlobal>(rt: &R, path: &str, file: Option<u64>, byte_limit: u64) -> Rules
+    requires { byte_limit ≤ 2 ^ 62 }
+{
+    let opened = File::open(rt, path).map_err(|_| Fault::OpenSuppressions(file))?;
+    read_suppressions(rt.alloc(), &mut Device::new(opened), byte_limit).map_err(
+        |fault| Fault::of_suppressions(file, fault),
+    )
 }
 
 // Writes the notes of a replay, or its fault and what helps people.
@@ -173,12 +188,12 @@ fn end_replay<R: Files + AllocGlobal, E: Write>(
     replayed: Result<Ended, Cut>,
     errors: &mut Device<E>,
 ) -> u8
-    requires notes { IfOk replayed (λ ended. AreNotes ended.notes.items) }
-    ensures status { IfOk replayed (λ ended. ended.status ≤ 4) → result ≤ 4 }
+    requires end { IfOk replayed (IsEndOf replay.now) }
+    ensures status { result ≤ 4 }
     ensures usual { (text : List ℕ) (read written : Bool) (old new : Option (List ℕ)) → EndsUsually text read written old new replayed → ComesTo replay.now.hints text read written old new (E.contents (inner_of errors.old)) (E.contents (inner_of errors.new)) (has_failed errors.new) result }
     ensures quiet { result ≤ 1 → GetsNotes replay.now.hints (E.contents (inner_of errors.old)) (E.contents (inner_of errors.new)) (has_failed errors.new) }
     ensures silent { IfOk replayed (λ ended. ended.notes.items ≡ []) → result ≤ 1 → GetsTextNotes replay.now.hints (E.contents (inner_of errors.old)) (E.contents (inner_of errors.new)) (has_failed errors.new) }
-    ensures refused { (old new : Option (List ℕ)) → IfOk replayed (λ ended. ended.status ≢ 2) → IfErr replayed (λ cut. LeavesOutput old new cut.fault) → result ≡ 2 → Keeps old new }
+    ensures refused { (old new : Option (List ℕ)) → IfErr replayed (λ cut. LeavesOutput old new cut.fault) → result ≡ 2 → Keeps old new }
 {
     match replayed {
         Ok(ended) => note(rt.alloc(), ended, replay.hints, errors),

@@ -4,16 +4,10 @@
 //! standard output of this toolchain keeps no byte back, so a byte whose write failed is never sent again.
 #![tactic(auto)]
 
-mod advice;
 mod command;
-mod faults;
 mod meter;
-mod notes;
 mod places;
 mod replaying;
-mod rules;
-mod sources;
-mod stories;
 mod traces;
 mod until;
 

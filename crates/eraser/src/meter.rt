@@ -12,9 +12,6 @@ use std::time::{Duration, Instant};
 // How many milliseconds a line stays as it is.
 const PAUSE: u128 = 500;
 
-// Clears what stands on the line of a terminal.
-const CLEAR: &[u8] = b"\r\x1b[K";
-
 /// Shows how far a replay has come, about twice a second, on a writer or nowhere.
 #[derive(Drop)]
 pub(crate) struct Meter<'a, R, P> {
@@ -55,8 +52,11 @@ impl<'a, R: Clock + AllocGlobal, P: Write> Meter<'a, R, P> {
         }
     }
 
-    // How many milliseconds the replay has taken. None if the clock can't be read.
+    // How many milliseconds the replay has taken. None if nothing is shown, or the clock can't be read.
     fn millis(&self) -> Option<u128> {
+        if self.writer.is_none() {
+            return None;
+        }
         let taken: Duration = self.start?.elapsed(self.rt).ok()?;
         Some(taken.as_millis())
     }
@@ -105,9 +105,6 @@ impl<'a, R: Clock + AllocGlobal, P: Write> Meter<'a, R, P> {
 
 impl<'a, R: Clock + AllocGlobal, P: Write> Watch for Meter<'a, R, P> {
     fn come_to(&mut self, progress: Progress) {
-        if self.writer.is_none() {
-            return;
-        }
         self.unshown = Some(progress);
         if let Some(millis) = self.millis()
             && millis >= self.due
@@ -119,12 +116,9 @@ impl<'a, R: Clock + AllocGlobal, P: Write> Watch for Meter<'a, R, P> {
 
     /// Clears the line of a terminal. Elsewhere the last line says how far the replay came in the end. What follows is a replay of its own.
     fn end(&mut self) {
-        if self.writer.is_none() {
-            return;
-        }
         if self.on_one_line {
             if self.has_line {
-                self.write(CLEAR);
+                self.write(b"\r\x1b[K");
             }
         } else if let (Some(progress), Some(millis)) = (self.unshown, self.millis()) {
             self.show(progress, millis);

@@ -1,17 +1,29 @@
-//! A second look at a trace, for the places of the accesses that reasons name and what the trace says of the program.
-ghost use Rattle.std.specs.Prelude.{◌≡◌, false, true, IfSome};
+//! What a report shows from files: the places of the accesses that reasons name and what the trace says of the program, by a second look at the trace,
+//! and lines of source files.
+ghost use Rattle.std.specs.Prelude.{◌≡◌, [], false, true, None, IfErr, IfOk, IfSome};
 ghost use Rattle.er_binary.specs.Decoded.{IsFresh};
 ghost use Rattle.er_device.specs.Device.{has_failed, inner_of};
+ghost use Rattle.er_exit.specs.declared.faults.Fault.TheVariants.{Memory};
+ghost use Rattle.er_report.specs.Reports.{HaveNames};
 ghost use Rattle.eraser.specs.Replays.{AreOptionsOf, MayHavePlaces, shows_places};
 
 use crate::replaying::Job;
 use er_binary::Decoded;
 use er_device::Device;
-use er_exit::open_ordinary;
+use er_exit::{Fault, open_ordinary};
+use er_forms::{Excerpt, excerpt_around, place_of, sites_of};
 use er_places::{Noting, Places, facts_of_reports, places_of_reports};
 use er_report::{Form, Reports};
 use er_request::Replay;
+use er_trace::Names;
+use std::alloc::AllocError;
+use std::io::{ErrorKind, Read};
 use std::rt::Files;
+
+// How many bytes of a source file are read.
+const MOST_BYTES: u64 = 16_777_216;
+
+type Found<T> = Result<Option<T>, AllocError>;
 
 /// The places of the accesses that the reports' reasons name. None is known if they aren't shown, and if the trace can't be read again.
 pub(crate) fn places_of<R: Files + AllocGlobal>(rt: &R, job: Job<'_>, reports: &Reports) -> Places
@@ -29,6 +41,32 @@ pub(crate) fn places_of<R: Files + AllocGlobal>(rt: &R, job: Job<'_>, reports: &
     let mut again = again.into_inner();
     again.read_on();
     places.with_facts(again.into_facts())
+}
+
+/// The lines around the sites of the reports' races, of each file that is found below the folder. Without a folder there are none.
+pub(crate) fn excerpts_of<R: Files + AllocGlobal>(
+    rt: &R,
+    folder: Option<&str>,
+    reports: &Reports,
+    names: &Names,
+) -> Result<Vec<Excerpt>, Fault>
+    requires named { HaveNames names.now reports.now }
+    ensures none { folder.entry ≡ None → IfOk result (λ excerpts. excerpts.items ≡ []) }
+    ensures fault { IfErr result (λ fault. fault ≡ Memory) }
+{
+    let mut excerpts = Vec::new(rt.alloc());
+    let Some(folder) = folder else {
+        return Ok(excerpts);
+    };
+    let sites = sites_of(rt.alloc(), reports, names)?;
+    for site in &sites {
+        if let Some(excerpt) = excerpt_of(rt, folder, site)? {
+            let Ok(()) = excerpts.push(excerpt) else {
+                return Err(Fault::Memory);
+            };
+        }
+    }
+    Ok(excerpts)
 }
 
 // The trace once more, if its reports have reasons whose places are shown. What is no ordinary file can't be read twice. While it is read, what it
@@ -57,4 +95,30 @@ fn shows_places(replay: &Replay<'_>) -> bool
 {
     let tells_places = replay.form != Form::Text;
     replay.explain && tells_places && !replay.until_fault && replay.trace != "-"
+}
+
+// The lines around a site, if its file is found and has that line.
+fn excerpt_of<R: Files + AllocGlobal>(rt: &R, folder: &str, site: &str) -> Found<Excerpt> {
+    let Some((file, line)) = place_of(site) else {
+        return Ok(None);
+    };
+    let file = file.strip_prefix(folder).unwrap_or(file);
+    let path = format!(in rt.alloc(); "{folder}/{file}")?;
+    match text_at(rt, &path)? {
+        Some(text) => excerpt_around(rt.alloc(), site, line, &text),
+        None => Ok(None),
+    }
+}
+
+// The beginning of an ordinary file. None if it can't be opened or read.
+fn text_at<R: Files + AllocGlobal>(rt: &R, path: &str) -> Found<Vec<u8>> {
+    let Some(file) = open_ordinary(rt, path) else {
+        return Ok(None);
+    };
+    let mut text = Vec::new(rt.alloc());
+    match file.take(MOST_BYTES).read_to_end(&mut text) {
+        Ok(_) => Ok(Some(text)),
+        Err(why) if why.kind() == ErrorKind::OutOfMemory => Err(AllocError),
+        Err(_) => Ok(None),
+    }
 }

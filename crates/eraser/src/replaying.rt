@@ -1,32 +1,34 @@
 //! One replay: a trace in, its reports out as they are asked for.
-ghost use Rattle.std.specs.Prelude.{◌≡◌, ◌≢◌, ◌≤◌, ℕ, List, [], false, None, IsSome, is_some, IfOk, IfErr, IfSome};
+ghost use Rattle.std.specs.Prelude.{◌≡◌, ℕ, List, false, IsSome, is_some, IfOk, IfErr, IfSome, None};
 ghost use Rattle.er_device.specs.Device.{inner_of, has_failed};
 ghost use Rattle.er_batch.specs.declared.verdict.Verdict.TheVariants.{Stopped};
 ghost use Rattle.er_exit.specs.declared.faults.Fault.TheVariants.{WriteRules};
+ghost use Rattle.er_exit.specs.Notes.{HasAdded};
 ghost use Rattle.er_exit.specs.Writes.{LeavesOutput};
 ghost use Rattle.er_report.specs.Reports.{HaveNames, asks_locks, asks_order};
 ghost use Rattle.er_rules.specs.Rules.{targets_of};
 ghost use Rattle.er_run.specs.Reports.{AreReportsOfText, IsOrderOfText, is_verdict_of};
 ghost use Rattle.er_text.specs.Ending.{IsEndingOf};
-ghost use Rattle.er_triage.specs.Notes.{AreNotes};
+ghost use Rattle.eraser.specs.Faults.{replay_fault};
 ghost use Rattle.eraser.specs.Inner.Writes.{WritesSome};
-ghost use Rattle.eraser.specs.Replays.{AreOptionsOf, AreShown, EndsAs, FailsAs, FailsBy, unordered_of, verdict_status};
+ghost use Rattle.eraser.specs.Notes.{notes_on};
+ghost use Rattle.eraser.specs.Replays.{AreOptionsOf, AreShown, EndsAs, FailsAs, FailsBy, IsEndOf, unordered_of, verdict_status};
 
-use crate::faults::fault_of;
-use crate::places::places_of;
-use crate::rules::write_rules;
-use crate::sources::excerpts_of;
+use crate::places::{excerpts_of, places_of};
 use er_device::Device;
-use er_exit::Fault;
+use er_exit::{Fault, TextNotes, add_notes};
 use er_forms::render;
+use er_parallel::ReplayFault;
 use er_print::{WriteFault, write_text};
 use er_report::Reports;
 use er_request::Replay;
 use er_rules::Suppressions;
-use er_run::{Options, ReplayedTrace, Verdict, Watch, replay_reports, verdict_of};
+use er_run::{Options, ReplayedTrace, RunFault, Verdict, Watch, replay_reports, verdict_of};
 use er_text::Ending;
 use er_trace::Names;
 use er_triage::{Triaged, Wishes, triage};
+use std::alloc::Global;
+use std::fs::File;
 use std::io::{Read, Write};
 use std::rt::Files;
 use std::sync::Wait;
@@ -68,11 +70,8 @@ where
     V: Watch,
     requires source { has_failed source.old ≡ false }
     requires output { has_failed output.old ≡ false }
-    ensures status { IfOk result (λ ended. (ended.status ≤ 4) × (ended.status ≢ 2)) }
-    ensures notes { IfOk result (λ ended. AreNotes ended.notes.items) }
-    ensures silent { job.entry.replay.now.unused_rules ≡ false → job.entry.replay.now.max_races ≡ None → IfOk result (λ ended. ended.notes.items ≡ []) }
+    ensures end { IfOk result (IsEndOf job.entry.replay.now) }
     ensures text { IfOk result (λ ended. IfSome (D.remaining (inner_of source.old)) (λ text. IsEndingOf text ended.ending)) }
-    ensures locks { asks_order job.entry.replay.now.analysis ≡ false → IfOk result (λ ended. ended.unordered ≡ 0) }
     ensures ends { AreOptionsOf job.entry.replay.now job.entry.options.now → IfOk result (λ ended. IfSome (D.remaining (inner_of source.old)) (λ text. EndsAs R.File.remaining job.entry.replay.now text (targets_of job.entry.suppressions.now) (O.contents (inner_of output.old)) (O.contents (inner_of output.new)) ended)) }
     ensures fails { AreOptionsOf job.entry.replay.now job.entry.options.now → IfErr result (λ why. IfSome (D.remaining (inner_of source.old)) (λ text. FailsAs R.File.remaining job.entry.replay.now text (targets_of job.entry.suppressions.now) (O.contents (inner_of output.old)) (O.contents (inner_of output.new)) why)) }
     ensures nothing { IfErr result (LeavesOutput (O.contents (inner_of output.old)) (O.contents (inner_of output.new))) }
@@ -96,6 +95,50 @@ where
     }
 }
 
+/// The notes that were asked for, and those on the text, some of them for people alone. Without memory these are missing.
+pub(crate) fn notes_of(alloc: Global, ended: Ended, hints: bool) -> Vec<u8>
+    ensures { HasAdded ended.notes.items result.items (notes_on hints ended.ending ended.unordered) }
+{
+    let Ended {
+        status: _,
+        mut notes,
+        ending,
+        unordered,
+    } = ended;
+    add_notes(alloc, &mut notes, notes_on(hints, ending, unordered));
+    notes
+}
+
+// What is noted of a text that ends so, and in which nothing orders so many unordered accesses.
+fn notes_on(hints: bool, ending: Ending, unordered: u64) -> TextNotes
+    ensures { result ≡ notes_on hints ending unordered }
+{
+    let is_counted = ending.is_text_3 || hints;
+    TextNotes {
+        no_end: ending.is_open,
+        no_line_feed: ending.is_cut && hints,
+        unordered: if is_counted { unordered } else { 0 },
+    }
+}
+
+// What stands for a fault of a replay.
+fn fault_of(fault: RunFault) -> Fault
+    ensures { result ≡ replay_fault fault }
+{
+    match fault {
+        RunFault::Read(fault) => Fault::of_trace(fault),
+        RunFault::Write(WriteFault::Memory)
+        | RunFault::Replay(ReplayFault::Memory)
+        | RunFault::Memory => Fault::Memory,
+        RunFault::Write(WriteFault::Write) => Fault::Write,
+        RunFault::Replay(ReplayFault::TableFull) => Fault::TableFull,
+        RunFault::Replay(ReplayFault::WorkerNotStarted) => Fault::WorkerNotStarted,
+        RunFault::Replay(ReplayFault::WorkerLost) => Fault::WorkerLost,
+        RunFault::Beyond(limit) => Fault::Beyond(limit),
+        RunFault::Damaged(damage) => Fault::Damaged(damage),
+    }
+}
+
 // Writes the reports of a trace as they are asked for, and then the file of rules.
 fn deliver<R: Files + AllocGlobal, O: Write>(
     rt: &R,
@@ -110,11 +153,8 @@ fn deliver<R: Files + AllocGlobal, O: Write>(
     requires named { HaveNames names.now reports }
     requires locks { is_some reports.lockset ≡ asks_locks job.replay.now.analysis }
     requires order { is_some reports.unordered ≡ asks_order job.replay.now.analysis }
-    ensures status { IfOk result (λ ended. (ended.status ≤ 4) × (ended.status ≢ 2)) }
-    ensures notes { IfOk result (λ ended. AreNotes ended.notes.items) }
-    ensures silent { job.entry.replay.now.unused_rules ≡ false → job.entry.replay.now.max_races ≡ None → IfOk result (λ ended. ended.notes.items ≡ []) }
+    ensures end { IfOk result (IsEndOf job.entry.replay.now) }
     ensures text { IfOk result (λ ended. ended.ending ≡ ending) }
-    ensures locks { asks_order job.entry.replay.now.analysis ≡ false → IfOk result (λ ended. ended.unordered ≡ 0) }
     ensures ends { AreOptionsOf job.entry.replay.now job.entry.options.now → (text : List ℕ) → AreReportsOfText job.entry.replay.now.analysis text job.entry.replay.now.byte_limit (targets_of job.entry.suppressions.now) job.entry.replay.now.explain names.now reports
         → IsEndingOf text ending → IsOrderOfText job.entry.replay.now.analysis text job.entry.replay.now.byte_limit has_order → IfOk result (EndsAs R.File.remaining job.entry.replay.now text (targets_of job.entry.suppressions.now) (O.contents (inner_of output.old)) (O.contents (inner_of output.new))) }
     ensures fails { AreOptionsOf job.entry.replay.now job.entry.options.now → (text : List ℕ) → AreReportsOfText job.entry.replay.now.analysis text job.entry.replay.now.byte_limit (targets_of job.entry.suppressions.now) job.entry.replay.now.explain names.now reports
@@ -210,6 +250,19 @@ fn finish<R: Files>(
         ending,
         unordered,
     })
+}
+
+// Writes a file of rules, in the place of what it had.
+fn write_rules<R: Files>(rt: &R, path: &str, text: &[u8]) -> Result<(), Fault>
+    ensures { IfErr result (λ fault. fault ≡ WriteRules) }
+{
+    let Ok(file) = File::create(rt, path) else {
+        return Err(Fault::WriteRules);
+    };
+    match Device::new(file).write_all(text) {
+        Ok(()) => Ok(()),
+        Err(_) => Err(Fault::WriteRules),
+    }
 }
 
 // Which file gets the rules for the known races, and their text. None if the replay stopped.

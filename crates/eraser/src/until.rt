@@ -1,29 +1,26 @@
-//! A replay of a text up to its first faulty line.
+//! A replay of a text up to its first faulty line, and its fault with what helps people behind it.
 //!
 //! It has two passes. The first replays the text as ever. If it ends in a fault of the text, the lines before that one are read again by a
 //! reader that ends there, and are replayed as any other text.
-ghost use Rattle.std.specs.Prelude.{◌≡◌, ◌≢◌, ◌≤◌, [], false, None, codes, IfOk, IfErr, IfSome};
+ghost use Rattle.std.specs.Prelude.{◌≡◌, ◌≤◌, [], false, None, codes, IfOk, IfErr, IfSome};
 ghost use Rattle.er_device.specs.Device.{inner_of, has_failed};
 ghost use Rattle.er_exit.specs.Statuses.{fault_status};
 ghost use Rattle.er_exit.specs.Lines.{fault_line};
 ghost use Rattle.er_exit.specs.Writes.{GetsLine, LeavesOutput};
-ghost use Rattle.er_report.specs.Reports.{asks_order};
 ghost use Rattle.er_rules.specs.Rules.{targets_of};
 ghost use Rattle.er_text.specs.Ending.{IsEndingOf};
-ghost use Rattle.er_triage.specs.Notes.{AreNotes};
-ghost use Rattle.eraser.specs.Replays.{AreOptionsOf, EndsAs, FailsAs, FailsFor};
+ghost use Rattle.eraser.specs.Replays.{AreOptionsOf, EndsAs, FailsAs, FailsFor, IsEndOf};
 
-use crate::advice::report_replay_fault;
-use crate::notes::notes_of;
-use crate::replaying::{Ended, Job, replay_from};
+use crate::replaying::{Ended, Job, notes_of, replay_from};
 use crate::traces::open_trace;
 use er_damage::Damage;
 use er_device::{Device, Keeping, Prefix};
-use er_exit::{Fault, is_ordinary, put, report_fault};
+use er_exit::{Fault, Trouble, advise, is_ordinary, put, report_fault};
 use er_request::Replay;
 use er_run::Watch;
 use er_text::TextFault;
 use std::alloc::Global;
+use std::fs;
 use std::io::{Read, Write};
 use std::rt::Files;
 use std::sync::Wait;
@@ -81,6 +78,11 @@ pub(crate) fn cut_by(alloc: Global, fault: Fault) -> Cut
     }
 }
 
+/// The path of the trace, if it isn't the standard input.
+pub(crate) fn trace_path<'a>(replay: &Replay<'a>) -> Option<&'a str> {
+    (replay.trace != "-").then_some(replay.trace)
+}
+
 /// Replays the trace, up to its first faulty line if that is asked for.
 pub(crate) fn replay_trace<R, I, O, V>(
     rt: &R,
@@ -96,11 +98,8 @@ where
     V: Watch,
     requires input { has_failed input.old ≡ false }
     requires output { has_failed output.old ≡ false }
-    ensures status { IfOk result (λ ended. (ended.status ≤ 4) × (ended.status ≢ 2)) }
-    ensures notes { IfOk result (λ ended. AreNotes ended.notes.items) }
-    ensures silent { job.entry.replay.now.unused_rules ≡ false → job.entry.replay.now.max_races ≡ None → IfOk result (λ ended. ended.notes.items ≡ []) }
+    ensures end { IfOk result (IsEndOf job.entry.replay.now) }
     ensures text { job.entry.replay.now.trace.now ≡ codes "-" → IfOk result (λ ended. IfSome (I.remaining (inner_of input.old)) (λ text. IsEndingOf text ended.ending)) }
-    ensures locks { asks_order job.entry.replay.now.analysis ≡ false → IfOk result (λ ended. ended.unordered ≡ 0) }
     ensures ends { job.entry.replay.now.trace.now ≡ codes "-" → AreOptionsOf job.entry.replay.now job.entry.options.now → IfOk result (λ ended. IfSome (I.remaining (inner_of input.old)) (λ text. EndsAs R.File.remaining job.entry.replay.now text (targets_of job.entry.suppressions.now) (O.contents (inner_of output.old)) (O.contents (inner_of output.new)) ended)) }
     ensures fails { job.entry.replay.now.trace.now ≡ codes "-" → job.entry.replay.now.until_fault ≡ false → AreOptionsOf job.entry.replay.now job.entry.options.now → IfErr result (λ cut. IfSome (I.remaining (inner_of input.old)) (λ text. FailsAs R.File.remaining job.entry.replay.now text (targets_of job.entry.suppressions.now) (O.contents (inner_of output.old)) (O.contents (inner_of output.new)) cut.fault)) }
     ensures unfailed { job.entry.replay.now.trace.now ≡ codes "-" → job.entry.replay.now.until_fault ≡ false → IfOk result (λ ended. (has_failed input.new ≡ false) × (has_failed output.new ≡ false)) }
@@ -123,9 +122,13 @@ where
         Err(fault) => return Err(cut_by(rt.alloc(), fault)),
     };
     if replay.until_fault && !is_ordinary(rt, replay.trace) {
-        return replay_keeping(rt, job, &mut source, output, watcher);
+        let replayed = replay_keeping(rt, job, &mut source, output, watcher);
+        drop(source);
+        return replayed;
     }
-    match replay_from(rt, job, &mut source, output, watcher) {
+    let replayed = replay_from(rt, job, &mut source, output, watcher);
+    drop(source);
+    match replayed {
         Ok(ended) => Ok(ended),
         Err(fault) if replay.until_fault => {
             let again = Again::File(replay.trace);
@@ -146,11 +149,8 @@ fn replay_keeping<R: Files + AllocGlobal + Threads + Wait + Sync, D: Read, O: Wr
 ) -> Result<Ended, Cut>
     requires source { has_failed source.old ≡ false }
     requires output { has_failed output.old ≡ false }
-    ensures status { IfOk result (λ ended. (ended.status ≤ 4) × (ended.status ≢ 2)) }
-    ensures notes { IfOk result (λ ended. AreNotes ended.notes.items) }
-    ensures silent { job.entry.replay.now.unused_rules ≡ false → job.entry.replay.now.max_races ≡ None → IfOk result (λ ended. ended.notes.items ≡ []) }
+    ensures end { IfOk result (IsEndOf job.entry.replay.now) }
     ensures text { IfOk result (λ ended. IfSome (D.remaining (inner_of source.old)) (λ text. IsEndingOf text ended.ending)) }
-    ensures locks { asks_order job.entry.replay.now.analysis ≡ false → IfOk result (λ ended. ended.unordered ≡ 0) }
     ensures ends { AreOptionsOf job.entry.replay.now job.entry.options.now → IfOk result (λ ended. IfSome (D.remaining (inner_of source.old)) (λ text. EndsAs R.File.remaining job.entry.replay.now text (targets_of job.entry.suppressions.now) (O.contents (inner_of output.old)) (O.contents (inner_of output.new)) ended)) }
 {
     let mut keeping = Device::new(Keeping::new(rt.alloc(), source));
@@ -216,7 +216,9 @@ fn replay_lines<R: Files + AllocGlobal + Threads + Wait + Sync, O: Write, V: Wat
     match again {
         Again::File(path) => {
             let mut source = Device::new(Prefix::new(open_trace(rt, path)?, lines));
-            replay_from(rt, job, &mut source, output, watcher)
+            let replayed = replay_from(rt, job, &mut source, output, watcher);
+            drop(source);
+            replayed
         }
         Again::Kept(text) => {
             let mut source = Device::new(Prefix::new(text, lines));
@@ -255,5 +257,56 @@ fn cut_at(alloc: Global, hints: bool, first: TextFault, second: Result<Ended, Fa
         notes,
         damage,
         fault,
+    }
+}
+
+// Writes the line of a fault, and returns its status. What helps people follows if it is asked for, as far as it is known.
+fn report_replay_fault<R: Files + AllocGlobal, E: Write>(
+    rt: &R,
+    replay: &Replay<'_>,
+    fault: Fault,
+    errors: &mut Device<E>,
+) -> u8
+    ensures status { result ≡ fault_status fault }
+    ensures line { replay.now.hints ≡ false → GetsLine (E.contents (inner_of errors.old)) (E.contents (inner_of errors.new)) (fault_line fault) (has_failed errors.new) }
+{
+    let status = report_fault(rt.alloc(), fault, errors);
+    if replay.hints
+        && let Some(trouble) = trouble_of(rt, replay, fault)
+    {
+        advise(rt, trouble, replay.byte_limit, errors);
+    }
+    status
+}
+
+// What a fault has to do with a file whose path is known, if it has.
+fn trouble_of<'a, R: Files>(rt: &R, replay: &Replay<'a>, fault: Fault) -> Option<Trouble<'a>> {
+    let lost = match fault {
+        Fault::Text(fault) => return Some(Trouble::Trace(trace_path(replay), fault)),
+        Fault::Suppressions(file, fault) => {
+            return Some(Trouble::Rules(rules_path(replay, file), fault));
+        }
+        Fault::OpenTrace => replay.trace,
+        Fault::OpenSuppressions(file) => rules_path(replay, file)?,
+        Fault::ReadSuppressions(file) => rules_path(replay, Some(file))?,
+        Fault::Read => unread(rt, replay)?,
+        Fault::WriteRules => replay.write_rules?,
+        _ => return None,
+    };
+    Some(Trouble::Lost(lost))
+}
+
+// The path of a file of rules, by its number from 1, or of the only one.
+fn rules_path<'a>(replay: &Replay<'a>, file: Option<u64>) -> Option<&'a str> {
+    let number = file.unwrap_or(1);
+    let place = usize::try_from(number.checked_sub(1)?).ok()?;
+    replay.suppressions.get(place).copied()
+}
+
+// The path of what could not be read: of a folder in the place of the rules, or else of the trace.
+fn unread<'a, R: Files>(rt: &R, replay: &Replay<'a>) -> Option<&'a str> {
+    match rules_path(replay, None) {
+        Some(rules) if fs::metadata(rt, rules).is_ok_and(|found| found.is_dir()) => Some(rules),
+        _ => trace_path(replay),
     }
 }

@@ -1,12 +1,11 @@
 -- Each request leaves its own notes, a word asks for what a request does, and wrong arguments leave no note.
-use Rattle.std.proofs.Common.{◌≡◌, ◌||◌, ◌∙◌, ℕ, Bool, List, false, option_map, refl, subst}
+use Rattle.std.proofs.Common.{◌≡◌, ◌||◌, ℕ, Bool, List, false, option_map, subst}
 use Rattle.er_binary.specs.Decoded.{source_of, to_come}
 use Rattle.er_binary.specs.Meaning.{meant}
 use Rattle.er_device.specs.Device.{inner_of, has_failed}
 use Rattle.er_exit.specs.Lines.{fault_line}
 use Rattle.er_exit.specs.Writes.{GetsLine}
 use Rattle.er_request.specs.Words.{IsUsual, names_hints, names_until_fault}
-use Rattle.eraser.specs.Notes.{GetsNotes}
 use Rattle.eraser.specs.Printing.{PrintsTo}
 use Rattle.eraser.specs.Replays.{ComesTo}
 use Rattle.eraser.proofs.EndLemmas.{for-text}
@@ -17,29 +16,26 @@ use Rattle.eraser.proofs.command.command.Goals as goal
 
 pub returns-in-Ok-Replay-clause-usual : goal.returns-in-Ok-Replay-clause-usual
 returns-in-Ok-Replay-clause-usual g c input =
-    let asked : IsUsual c.in-Ok-Replay.replay × (c.in-Ok-Replay.replay.hints ≡ false) = (rw c.in-Ok-Replay.field-0-is at c.in-Ok-Replay.ensures.asks) input in
+    let asked : IsUsual c.in-Ok-Replay.asked × (c.in-Ok-Replay.asked.hints ≡ c.args.on_terminal) = (rw c.in-Ok-Replay.field-0-is at c.in-Ok-Replay.ensures.asks) input in
     let decoded = inner_of c.args.input.now in
     let known = g.I.Read.remaining (source_of decoded) in
     let P : Bool → List ℕ → Type 0 = λ people text. ComesTo people text (has_failed c.run_replay-replayed.new.input) (has_failed c.run_replay-replayed.new.output) (g.O.Write.contents (inner_of c.args.output.now)) (g.O.Write.contents (inner_of c.run_replay-replayed.new.output))
     (g.E.Write.contents (inner_of c.args.errors.now)) (g.E.Write.contents (inner_of c.end_replay-status.new.errors)) (has_failed c.end_replay-status.new.errors) c.end_replay-status.result in
     of-bytes known (to_come decoded) meant (P c.args.on_terminal) c.requires.fresh
-    (for-text (option_map (to_come decoded) known) (λ text ends. subst (λ people. P people text) (c.with_hints-asked.ensures.hints ∙ rw asked.1 refl) (c.end_replay-status.ensures.usual text _ _ _ _ ends))
-    (c.run_replay-replayed.ensures.usual (c.with_hints-asked.ensures.usual asked.0)))
+    (for-text (option_map (to_come decoded) known) (λ text ends. subst (λ people. P people text) asked.1 (c.end_replay-status.ensures.usual text _ _ _ _ ends))
+    (c.run_replay-replayed.ensures.usual asked.0))
 
 pub returns-in-Ok-Replay-clause-quiet : goal.returns-in-Ok-Replay-clause-quiet
 returns-in-Ok-Replay-clause-quiet g c le =
-    let old = g.E.Write.contents (inner_of c.args.errors.now) in
-    let new = g.E.Write.contents (inner_of c.end_replay-status.new.errors) in
-    let failed = has_failed c.end_replay-status.new.errors in
-    more-notes c.in-Ok-Replay.replay.hints (names_hints c.args.words.now) c.args.on_terminal (rw c.in-Ok-Replay.field-0-is at c.in-Ok-Replay.ensures.hints) old new failed
-    (subst (λ hints. GetsNotes hints old new failed) c.with_hints-asked.ensures.hints (c.end_replay-status.ensures.quiet le))
+    more-notes c.in-Ok-Replay.asked.hints (names_hints c.args.words.now || c.args.on_terminal) (rw c.in-Ok-Replay.field-0-is at c.in-Ok-Replay.ensures.hints)
+    (g.E.Write.contents (inner_of c.args.errors.now)) (g.E.Write.contents (inner_of c.end_replay-status.new.errors)) (has_failed c.end_replay-status.new.errors) (c.end_replay-status.ensures.quiet le)
 
 pub returns-in-Ok-Replay-clause-refused : goal.returns-in-Ok-Replay-clause-refused
 returns-in-Ok-Replay-clause-refused g c unnamed two =
-    let unasked : c.in-Ok-Replay.replay.until_fault ≡ false =
-    not-asked c.in-Ok-Replay.replay.until_fault (names_until_fault c.args.words.now) (rw c.in-Ok-Replay.field-0-is at c.in-Ok-Replay.ensures.until_fault) unnamed in
+    let unasked : c.in-Ok-Replay.asked.until_fault ≡ false =
+    not-asked c.in-Ok-Replay.asked.until_fault (names_until_fault c.args.words.now) (rw c.in-Ok-Replay.field-0-is at c.in-Ok-Replay.ensures.until_fault) unnamed in
     c.end_replay-status.ensures.refused (g.O.Write.contents (inner_of c.args.output.now)) (g.O.Write.contents (inner_of c.run_replay-replayed.new.output))
-    c.run_replay-replayed.ensures.not_two (c.run_replay-replayed.ensures.nothing (c.with_hints-asked.ensures.until ∙ unasked)) two
+    (c.run_replay-replayed.ensures.nothing unasked) two
 
 pub returns-in-Ok-Explain-clause-quiet : goal.returns-in-Ok-Explain-clause-quiet
 returns-in-Ok-Explain-clause-quiet g c le =

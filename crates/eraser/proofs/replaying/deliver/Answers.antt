@@ -1,8 +1,8 @@
 -- What was delivered is the output that is asked for.
-use Rattle.std.proofs.Common.{◌∙◌, false}
+use Rattle.std.proofs.Common.{false}
 use Rattle.er_device.specs.Device.{has_failed, inner_of}
 use Rattle.er_rules.specs.Rules.{targets_of}
-use Rattle.eraser.proofs.DeliverLemmas.{counts-none, ends, unfailed-behind}
+use Rattle.eraser.proofs.DeliverLemmas.{ends, ends-so, unfailed-behind}
 use Rattle.eraser.proofs.replaying.deliver.Goals as goal
 
 pub returns-in-Ok-write_reports-clause-ends : goal.returns-in-Ok-write_reports-clause-ends
@@ -13,9 +13,10 @@ returns-in-Ok-write_reports-clause-ends g c by text reports is order =
     (c.in-Ok-write_reports.ensures.shown by) c.in-Ok.ensures.says c.unordered_of-unordered.ensures
     c.finish.ensures.status c.finish.ensures.notes c.finish.ensures.text is order
 
-pub returns-in-Ok-write_reports-clause-locks : goal.returns-in-Ok-write_reports-clause-locks
-returns-in-Ok-write_reports-clause-locks g c locks =
-    counts-none c.args.has_order c.args.reports c.args.ending c.unordered_of-unordered.result c.finish.result (c.requires.order ∙ locks) c.unordered_of-unordered.ensures c.finish.ensures.text
+pub returns-in-Ok-write_reports-clause-end : goal.returns-in-Ok-write_reports-clause-end
+returns-in-Ok-write_reports-clause-end g c =
+    ends-so c.args.job.replay.now c.args.reports c.in-Ok.triaged.reports c.args.ending c.args.has_order c.in-Ok.triaged.notes.items c.unordered_of-unordered.result c.finish.result
+    c.finish.ensures.status c.finish.ensures.notes c.finish.ensures.text c.in-Ok.ensures.notes c.in-Ok.ensures.quiet c.requires.order c.unordered_of-unordered.ensures
 
 pub returns-in-Ok-write_reports-clause-failed : goal.returns-in-Ok-write_reports-clause-failed
 returns-in-Ok-write_reports-clause-failed g c = unfailed-behind _ false (has_failed c.write_reports.new.output) c.finish.result c.in-Ok-write_reports.ensures.failed c.finish.ensures.fault
