@@ -1,7 +1,8 @@
 //! Races by the site of their access: the text for people.
 //!
 //! Begin with [`sites_text`]. It makes a table of the sites with races, the site with most words first, and for each site one race
-//! with its reasons in sentences. Behind a reason stands where its access was, and which locks it held, if the places given know it. If there are
+//! with its reasons in sentences. Behind a reason stands where its access was, and which locks it held, if the places given know it. What else they
+//! know is named too: the variable or the block of memory, the functions, and behind all races where their threads were started. If there are
 //! reports of both analyses, the sites of the unordered accesses come first, and then the other sites of the lockset rule's races.
 //!
 //! What it promises: the bytes are those of such tables, as `AreSitesOf` says. In the table of a report each of its races counts at its own site and
