@@ -159,9 +159,9 @@ def crowd(folder, findings, compiler, level):
     findings.check(f"the calls of {program.name}", len(found) == 4 and all(stacks == wanted for stacks in found.values()), f"{[len(stacks) for stacks in found.values()]}")
     # The report shows the calls of the race, and of the first thread's first access.
     shown = command([TOP / "eraser", "replay", "--by-site", recording.paths[0]]).stdout
-    output, _, _ = site_tests.expected(trace.text(), None, True, trace.calls)
+    output, _, _ = site_tests.expected(trace.text(), None, True, trace)
     root = next(number for number, mark in marks.items() if mark == "root")
-    is_told = len(re.findall(rf"^    called at \S*crowd\.c:{root}$", shown, re.M)) > 1
+    is_told = len(re.findall(rf"^    called at \S*crowd\.c:{root} in work$", shown, re.M)) > 1
     findings.check(f"the calls in the report of {program.name}", is_told and shown == output.decode(), f"{shown}, {output}"[:2000])
 
 
