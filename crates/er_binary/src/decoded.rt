@@ -6,7 +6,7 @@ ghost use Rattle.std.specs.Io.KnownBytes.{Keeps, ReadConsumes};
 use crate::decoder::{Decoder, copy_front, fill};
 use crate::names::Names;
 use crate::state::State;
-use std::alloc::{AllocError, Global};
+use std::alloc::Global;
 use std::io;
 use std::io::Read;
 
@@ -14,8 +14,8 @@ const MAGIC: [u8; 8] = *b"\xe5eraser\x04";
 
 /// Who hears the records of a binary trace.
 pub trait Listener {
-    /// Hears the bytes of a record, the text that it adds, and what is known behind it. After an error it may have missed the record.
-    fn hear(&mut self, bytes: &[u8], text: &[u8], state: &State) -> Result<(), AllocError>;
+    /// Hears the bytes of a record, the text that it adds, and what is known behind it.
+    fn hear(&mut self, bytes: &[u8], text: &[u8], state: &State);
 }
 
 // Who hears nothing.
@@ -23,9 +23,7 @@ pub trait Listener {
 struct Deaf;
 
 impl Listener for Deaf {
-    fn hear(&mut self, _bytes: &[u8], _text: &[u8], _state: &State) -> Result<(), AllocError> {
-        Ok(())
-    }
+    fn hear(&mut self, _bytes: &[u8], _text: &[u8], _state: &State) {}
 }
 
 /// What a trace was found to be.

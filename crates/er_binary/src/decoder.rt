@@ -198,9 +198,8 @@ impl Decoder {
                 self.next += len;
                 self.spot = self.spot.past(len as u64);
                 let (bytes, _) = rest.split_at(len);
-                listener
-                    .hear(bytes, &self.text, &self.state)
-                    .map_err(io::Error::from)
+                listener.hear(bytes, &self.text, &self.state);
+                Ok(())
             }
             Ok(None) => self.stop(b"damaged", self.spot.at),
             Err(refused) => {

@@ -24,6 +24,17 @@ pub record FactTable : Type 0 where
 abbrev pub table_of : Facts → FactTable
 table_of f = record { ways = f.ways.entries; blocks = f.blocks.entries; variables = f.variables.entries; threads = f.threads.entries; functions = f.functions.entries; places = f.places }
 
+-- the names of places alone are known
+abbrev pub known_places : List (List ℕ) → FactTable
+known_places names = record { ways = []; blocks = []; variables = []; threads = []; functions = []; places = names }
+
+-- the lines and the words of which something is asked
+abbrev pub lines_asked : Facts → List ℕ
+lines_asked f = vec_items f.wanted
+
+abbrev pub words_asked : Facts → List ℕ
+words_asked f = vec_items f.words
+
 -- the word is not before that of the first byte, and not behind that of the last one
 abbrev pub has_word : Extent → ℕ → Bool
 has_word e word = nat_le (e.address / 4) word && nat_le word ((e.address + e.size - 1) / 4)

@@ -14,7 +14,7 @@ pub use Rattle.er_places.specs.Places.{way_of}
 use Rattle.er_places.specs.declared.places.Place.{Place}
 
 -- the name of the function that the call of a number is in, and no bytes if it isn't known
-abbrev pub call_function : PlaceTable → ℕ → List ℕ
+unfoldable pub call_function : PlaceTable → ℕ → List ℕ
 call_function table call = function_in table.facts call
 
 -- and of the one that the first of these places is in
@@ -23,7 +23,7 @@ function_at table [] = []
 function_at table (own ∷ calls) = call_function table own
 
 -- and of the one that a place is in
-abbrev pub function_of : PlaceTable → Option Place → List ℕ
+unfoldable pub function_of : PlaceTable → Option Place → List ℕ
 function_of table place = function_at table (way_of table place)
 
 -- what is kept for a word, if it has the word
@@ -32,7 +32,7 @@ variable_if word None = None
 variable_if word (Some variable) = cond (has_word variable.extent word) (Some variable) None
 
 -- the variable that has a word
-abbrev pub variable_of : PlaceTable → ℕ → Option Variable
+unfoldable pub variable_of : PlaceTable → ℕ → Option Variable
 variable_of table word = variable_if word (lookup (is_at (nat_cmp word)) table.facts.variables)
 
 -- what is kept for a line, if it has the word
@@ -41,9 +41,9 @@ block_if word None = None
 block_if word (Some block) = cond (has_word block.extent word) (Some block) None
 
 -- the block that the access on a line touched in a word
-abbrev pub block_of : PlaceTable → ℕ → ℕ → Option Block
+unfoldable pub block_of : PlaceTable → ℕ → ℕ → Option Block
 block_of table line word = block_if word (lookup (is_at (nat_cmp line)) table.facts.blocks)
 
 -- how the thread of a name began
-abbrev pub start_of : PlaceTable → List ℕ → Option Start
+unfoldable pub start_of : PlaceTable → List ℕ → Option Start
 start_of table thread = lookup (is_at (λ key. slice_cmp nat_cmp thread (vec_items key))) table.facts.threads

@@ -1,5 +1,5 @@
 //! What a binary trace says of the program beside its events, as far as that is asked.
-ghost use Rattle.std.specs.Prelude.{◌≡◌, ◌≤◌, ◌<◌, ◌^◌, ◌+◌, ◌*◌, ◌-◌, ◌/◌, None, IfSome, OnOk, vec_len};
+ghost use Rattle.std.specs.Prelude.{◌≡◌, ◌⊎◌, ◌≤◌, ◌<◌, ◌^◌, ◌+◌, ◌*◌, ◌-◌, ◌/◌, [], None, IfSome, OnOk, vec_len};
 ghost use Rattle.er_binary.specs.Nodes.{way_to};
 
 use crate::wanted::Put;
@@ -82,6 +82,8 @@ pub struct Start {
 #[derive(Drop)]
 pub struct Facts {
     alloc: Global,
+    // Whether memory was refused. Then what was noted may lack something, and isn't told.
+    failed: bool,
     // The wanted lines and words, rising. Of the lines `met` are among the first `lines` of the text.
     wanted: Vec<u64>,
     words: Vec<u64>,
@@ -106,15 +108,17 @@ pub struct Facts {
 
 impl Facts {
     ghost use Rattle.er_places.specs.Inner.Noting.{next_made};
-    ghost use Rattle.er_places.specs.Facts.{table_of, way_on};
+    ghost use Rattle.er_places.specs.Facts.{known_places, table_of, way_on};
 
     /// What a trace says of the events on these lines, and of these words, is asked. Both rise.
     pub(crate) fn asked(alloc: Global, lines: Vec<u64>, words: Vec<u64>) -> Facts
         ensures wanted { result.wanted ≡ lines }
         ensures words { result.words ≡ words }
+        ensures nothing { table_of result ≡ known_places [] }
     {
         Facts {
             alloc,
+            failed: false,
             wanted: lines,
             words,
             met: 0,
@@ -169,6 +173,20 @@ impl Facts {
             self.blocks.insert(line, *block)?;
         }
         Ok(())
+    }
+
+    // Notes what a record says. After an error it may be missed.
+    fn note_record(&mut self, bytes: &[u8], text: &[u8], state: &State) -> Put {
+        if self.met < self.wanted.len() {
+            let word = state.last_word().wrapping_sub(self.lines.wrapping_add(1));
+            let feeds = text.iter().filter(|byte| **byte == b'\n');
+            self.lines = self.lines.saturating_add(feeds.count() as u64);
+            self.meet_lines(word, state)?;
+        }
+        match bytes.first() {
+            Some(tag) if *tag >= 128 => self.note_other(bytes, state),
+            _ => Ok(()),
+        }
     }
 
     // A fact that doesn't have its form, or that names what isn't there yet, says nothing.
@@ -267,16 +285,9 @@ impl Facts {
 }
 
 impl Listener for Facts {
-    fn hear(&mut self, bytes: &[u8], text: &[u8], state: &State) -> Put {
-        if self.met < self.wanted.len() {
-            let word = state.last_word().wrapping_sub(self.lines.wrapping_add(1));
-            let feeds = text.iter().filter(|byte| **byte == b'\n');
-            self.lines = self.lines.saturating_add(feeds.count() as u64);
-            self.meet_lines(word, state)?;
-        }
-        match bytes.first() {
-            Some(tag) if *tag >= 128 => self.note_other(bytes, state),
-            _ => Ok(()),
+    fn hear(&mut self, bytes: &[u8], text: &[u8], state: &State) {
+        if !self.failed {
+            self.failed = self.note_record(bytes, text, state).is_err();
         }
     }
 }
@@ -290,12 +301,17 @@ pub struct Noting<R> {
 
 impl<R: Drop> Noting<R> {
     ghost use Rattle.er_binary.specs.Decoded.{places_of};
+    ghost use Rattle.er_places.specs.Facts.{known_places, table_of};
 
-    /// What was noted, as far as the trace was read.
+    /// What was noted, as far as the trace was read, or the names of the places alone if memory was refused meanwhile.
     pub fn into_facts(self) -> Facts
-        ensures { result ≡ record self.facts { places = places_of self.decoded } }
+        ensures { (table_of result ≡ record (table_of self.facts) { places = places_of self.decoded }) ⊎ (table_of result ≡ known_places (places_of self.decoded)) }
     {
         let Noting { decoded, mut facts } = self;
+        if facts.failed {
+            let alloc = facts.alloc;
+            facts = Facts::asked(alloc, Vec::new(alloc), Vec::new(alloc));
+        }
         facts.places = decoded.into_places();
         facts
     }

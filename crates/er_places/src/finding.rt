@@ -1,6 +1,7 @@
 //! A second look at a trace text, batch by batch.
 ghost use Rattle.std.specs.Prelude.{IsSorted, ◌≡◌, ◌<◌, ◌≤◌, ◌+◌, ◌^◌, ◌++◌, ◌||◌, ℕ, List, Option, All, false, true, length, IfSome, IfOk, IfErr, OnOk};
 ghost use Rattle.std.specs.Ordering.{nat_cmp};
+ghost use Rattle.er_places.specs.Facts.{lines_asked, words_asked};
 ghost use Rattle.er_device.specs.Device.{inner_of, has_failed, taken_of};
 ghost use Rattle.er_places.specs.Inner.Following.{HasCome, HasEnded, are_asked, is_wanted};
 ghost use Rattle.er_places.specs.Places.{ArePlaces, IsFaultOf};
@@ -94,9 +95,9 @@ pub fn facts_of_reports(
     keys: NameKeys,
     reports: &Reports,
 ) -> Result<Facts, AllocError>
-    ensures asked { IfOk result (λ facts. (line : ℕ) → is_wanted facts.wanted.items line ≡ are_asked reports.now line) }
-    ensures rising { IfOk result (λ facts. IsSorted nat_cmp facts.wanted.items) }
-    ensures words { IfOk result (λ facts. IsSorted nat_cmp facts.words.items) }
+    ensures asked { IfOk result (λ facts. (line : ℕ) → is_wanted (lines_asked facts) line ≡ are_asked reports.now line) }
+    ensures rising { IfOk result (λ facts. IsSorted nat_cmp (lines_asked facts)) }
+    ensures words { IfOk result (λ facts. IsSorted nat_cmp (words_asked facts)) }
 {
     Wanted::of_reports(alloc, keys, reports)?.to_facts(alloc)
 }

@@ -98,6 +98,7 @@ impl Places {
     }
 
     /// The name of the function that a place is in, and no bytes if it isn't known.
+    #[tactic(auto, unfolding(crate::specs::Names::function_of))]
     pub fn function_of(&self, place: Option<&Place>) -> &[u8]
         ensures { result.now ≡ function_of self.now (option_copied place.entry) }
     {
@@ -128,6 +129,7 @@ impl Places {
     }
 
     /// The name of the function that the call of a number is in, and no bytes if it isn't known.
+    #[tactic(auto, unfolding(crate::specs::Names::call_function))]
     pub fn call_function(&self, call: u32) -> &[u8]
         ensures { result.now ≡ call_function self.now call }
     {
@@ -138,6 +140,7 @@ impl Places {
     }
 
     /// The variable that has a word, if that is known.
+    #[tactic(auto, unfolding(crate::specs::Names::variable_of))]
     pub fn variable_of(&self, word: Word) -> Option<&Variable>
         ensures value { option_copied result ≡ variable_of self.now word }
         ensures has { IfSome (option_copied result) (λ variable. has_word variable.extent word ≡ true) }
@@ -149,6 +152,7 @@ impl Places {
     }
 
     /// The block of memory that the access on a line touched in a word, if that is known.
+    #[tactic(auto, unfolding(crate::specs::Names::block_of))]
     pub fn block_of(&self, line: u64, word: Word) -> Option<&Block>
         ensures value { option_copied result ≡ block_of self.now line word }
         ensures has { IfSome (option_copied result) (λ block. has_word block.extent word ≡ true) }
@@ -160,6 +164,7 @@ impl Places {
     }
 
     /// How the thread of a name began, if that is known.
+    #[tactic(auto, unfolding(crate::specs::Names::start_of))]
     pub fn start_of(&self, thread: &[u8]) -> Option<&Start>
         ensures { option_copied result ≡ start_of self.now thread.now }
     {

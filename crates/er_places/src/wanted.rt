@@ -2,6 +2,7 @@
 ghost use Rattle.std.specs.Prelude.{IsSorted, ◌≡◌, ℕ, ◌||◌, false, true, is_some, IfOk, OnOk};
 ghost use Rattle.std.specs.List.{list_all};
 ghost use Rattle.std.specs.Ordering.{nat_cmp};
+ghost use Rattle.er_places.specs.Facts.{lines_asked, words_asked};
 ghost use Rattle.er_event.specs.declared.steps.Kind.{Kind as Kinds};
 ghost use Rattle.er_places.specs.Inner.Sites.{has_site, site_key};
 ghost use Rattle.er_places.specs.Places.{place_in};
@@ -53,9 +54,9 @@ impl Wanted {
 
     /// What is asked of these lines and words.
     pub(crate) fn to_facts(&self, alloc: Global) -> Result<Facts, AllocError>
-        ensures lines { IfOk result (λ facts. (line : ℕ) → is_wanted facts.wanted.items line ≡ is_wanted self.now line) }
-        ensures rising { IfOk result (λ facts. IsSorted nat_cmp facts.wanted.items) }
-        ensures words { IfOk result (λ facts. IsSorted nat_cmp facts.words.items) }
+        ensures lines { IfOk result (λ facts. (line : ℕ) → is_wanted (lines_asked facts) line ≡ is_wanted self.now line) }
+        ensures rising { IfOk result (λ facts. IsSorted nat_cmp (lines_asked facts)) }
+        ensures words { IfOk result (λ facts. IsSorted nat_cmp (words_asked facts)) }
     {
         let lines = to_rising(alloc, &self.lines)?;
         let words = to_rising(alloc, &self.words)?;
