@@ -298,7 +298,10 @@ class Trace:
         return None
 
     def block_of(self, line, word):
-        """The block that the access on a line touched in a word: what the last reuse before it gave that has a byte of the word, or None."""
+        """The block that the access on a line touched in a word: what the last reuse before it gave that has a byte of the word, or None. In a trace
+        without calls memory that was taken has no reuse, so no block is known."""
+        if not any(node.caller for node in self.nodes[1:]):
+            return None
         for block in reversed(self.reused):
             if block.line < line and block.address < word + 4 and word < block.address + block.size:
                 return Memory(b"", max(word - block.address, 0), block.size, block.place)

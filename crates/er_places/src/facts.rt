@@ -1,5 +1,5 @@
 //! What a binary trace says of the program beside its events, as far as that is asked.
-ghost use Rattle.std.specs.Prelude.{◌≡◌, ◌⊎◌, ◌≤◌, ◌<◌, ◌^◌, ◌+◌, ◌*◌, ◌-◌, ◌/◌, [], None, IfSome, OnOk, vec_len};
+ghost use Rattle.std.specs.Prelude.{◌≡◌, ◌≤◌, ◌<◌, ◌^◌, ◌+◌, ◌*◌, ◌-◌, ◌/◌, ℕ, [], None, IfSome, OnOk, false, nat_eq, vec_len};
 ghost use Rattle.er_binary.specs.Nodes.{way_to};
 
 use crate::wanted::Put;
@@ -84,6 +84,8 @@ pub struct Facts {
     alloc: Global,
     // Whether memory was refused. Then what was noted may lack something, and isn't told.
     failed: bool,
+    // Whether a node has a caller. If none has, memory that was taken may have no reuse, and what is known of blocks isn't told.
+    has_calls: bool,
     // The wanted lines and words, rising. Of the lines `met` are among the first `lines` of the text.
     wanted: Vec<u64>,
     words: Vec<u64>,
@@ -114,11 +116,14 @@ impl Facts {
     pub(crate) fn asked(alloc: Global, lines: Vec<u64>, words: Vec<u64>) -> Facts
         ensures wanted { result.wanted ≡ lines }
         ensures words { result.words ≡ words }
+        ensures met { result.met ≡ 0 }
+        ensures lines { result.lines ≡ 1 }
         ensures nothing { table_of result ≡ known_places [] }
     {
         Facts {
             alloc,
             failed: false,
+            has_calls: false,
             wanted: lines,
             words,
             met: 0,
@@ -162,6 +167,7 @@ impl Facts {
     fn note(&mut self, line: u64, word: u64, state: &State) -> Put
         requires made { line ≤ self.old.lines }
         ensures way { OnOk result (way_on (table_of self.new) line ≡ way_to state.now.nodes state.now.node) }
+        ensures others { (l : ℕ) → nat_eq line l ≡ false → way_on (table_of self.new) l ≡ way_on (table_of self.old) l }
         ensures wanted { self.new.wanted ≡ self.old.wanted }
         ensures met { self.new.met ≡ self.old.met }
         ensures lines { self.new.lines ≡ self.old.lines }
@@ -198,6 +204,10 @@ impl Facts {
         // The tag is 4 times 32 and the kind, and which operand it has.
         match (bytes[0] / 4, head.says) {
             (48, Record::Other(_, size)) => self.add_block(state, size, body),
+            (56, Record::Other(_, caller)) => {
+                self.has_calls = self.has_calls || caller != 0;
+                Ok(())
+            }
             (58, _) => self.add_variable(body),
             (59, _) => self.add_function(state, body),
             (60, _) => self.add_thread(state, body),
@@ -301,16 +311,19 @@ pub struct Noting<R> {
 
 impl<R: Drop> Noting<R> {
     ghost use Rattle.er_binary.specs.Decoded.{places_of};
-    ghost use Rattle.er_places.specs.Facts.{known_places, table_of};
+    ghost use Rattle.er_places.specs.Facts.{table_of, told};
 
-    /// What was noted, as far as the trace was read, or the names of the places alone if memory was refused meanwhile.
+    /// What is told of what was noted, as far as the trace was read: the names of the places alone if memory was refused meanwhile, and no block if
+    /// the trace has no calls.
     pub fn into_facts(self) -> Facts
-        ensures { (table_of result ≡ record (table_of self.facts) { places = places_of self.decoded }) ⊎ (table_of result ≡ known_places (places_of self.decoded)) }
+        ensures { table_of result ≡ told self.facts (places_of self.decoded) }
     {
         let Noting { decoded, mut facts } = self;
+        let alloc = facts.alloc;
         if facts.failed {
-            let alloc = facts.alloc;
             facts = Facts::asked(alloc, Vec::new(alloc), Vec::new(alloc));
+        } else if !facts.has_calls {
+            facts.blocks = BTreeMap::new(alloc);
         }
         facts.places = decoded.into_places();
         facts
