@@ -298,9 +298,9 @@ class Trace:
         return None
 
     def block_of(self, line, word):
-        """The block that the access on a line touched in a word: what the last reuse before it gave that has a byte of the word, or None. In a trace
-        without calls memory that was taken has no reuse, so no block is known."""
-        if not any(node.caller for node in self.nodes[1:]):
+        """The block that the access on a line touched in a word: what the last reuse before it gave that has a byte of the word, or None. If no function
+        is named, memory that was taken may have no reuse, so no block is known."""
+        if not self.functions:
             return None
         for block in reversed(self.reused):
             if block.line < line and block.address < word + 4 and word < block.address + block.size:

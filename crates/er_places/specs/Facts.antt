@@ -1,5 +1,5 @@
 -- What is noted of a binary trace beside its text.
-use Rattle.std.specs.Prelude.{ℕ, cond, ◌+◌, ◌-◌, ◌/◌, ◌&&◌, nat_le, Bool, List, [], option_map, vec_items, unwrap_or}
+use Rattle.std.specs.Prelude.{ℕ, cond, length, nat_eq, ◌+◌, ◌-◌, ◌/◌, ◌&&◌, nat_le, Bool, List, [], option_map, vec_items, unwrap_or}
 use Rattle.std.specs.Global.{Vec}
 use Rattle.std.specs.BTreeMap.{is_at}
 use Rattle.std.specs.Map.{lookup}
@@ -28,10 +28,10 @@ table_of f = record { ways = f.ways.entries; blocks = f.blocks.entries; variable
 abbrev pub known_places : List (List ℕ) → FactTable
 known_places names = record { ways = []; blocks = []; variables = []; threads = []; functions = []; places = names }
 
--- what is told of what was noted: nothing if memory was refused, and no block if no node has a caller
+-- what is told of what was noted: nothing if memory was refused, and no block if no function is named
 abbrev pub told : Facts → List (List ℕ) → FactTable
 told f names =
-    cond f.failed (known_places names) (record (table_of f) { blocks = cond f.has_calls f.blocks.entries []; places = names })
+    cond f.failed (known_places names) (record (table_of f) { blocks = cond (nat_eq (length f.functions.entries) 0) [] f.blocks.entries; places = names })
 
 -- the lines and the words of which something is asked
 abbrev pub lines_asked : Facts → List ℕ

@@ -84,8 +84,6 @@ pub struct Facts {
     alloc: Global,
     // Whether memory was refused. Then what was noted may lack something, and isn't told.
     failed: bool,
-    // Whether a node has a caller. If none has, memory that was taken may have no reuse, and what is known of blocks isn't told.
-    has_calls: bool,
     // The wanted lines and words, rising. Of the lines `met` are among the first `lines` of the text.
     wanted: Vec<u64>,
     words: Vec<u64>,
@@ -123,7 +121,6 @@ impl Facts {
         Facts {
             alloc,
             failed: false,
-            has_calls: false,
             wanted: lines,
             words,
             met: 0,
@@ -204,10 +201,6 @@ impl Facts {
         // The tag is 4 times 32 and the kind, and which operand it has.
         match (bytes[0] / 4, head.says) {
             (48, Record::Other(_, size)) => self.add_block(state, size, body),
-            (56, Record::Other(_, caller)) => {
-                self.has_calls = self.has_calls || caller != 0;
-                Ok(())
-            }
             (58, _) => self.add_variable(body),
             (59, _) => self.add_function(state, body),
             (60, _) => self.add_thread(state, body),
@@ -314,7 +307,7 @@ impl<R: Drop> Noting<R> {
     ghost use Rattle.er_places.specs.Facts.{table_of, told};
 
     /// What is told of what was noted, as far as the trace was read: the names of the places alone if memory was refused meanwhile, and no block if
-    /// the trace has no calls.
+    /// the trace names no function. Then memory that was taken may have no reuse.
     pub fn into_facts(self) -> Facts
         ensures { table_of result ≡ told self.facts (places_of self.decoded) }
     {
@@ -322,7 +315,7 @@ impl<R: Drop> Noting<R> {
         let alloc = facts.alloc;
         if facts.failed {
             facts = Facts::asked(alloc, Vec::new(alloc), Vec::new(alloc));
-        } else if !facts.has_calls {
+        } else if facts.functions.is_empty() {
             facts.blocks = BTreeMap::new(alloc);
         }
         facts.places = decoded.into_places();

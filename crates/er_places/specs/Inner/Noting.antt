@@ -1,5 +1,5 @@
 -- The wanted lines that were made.
-use Rattle.std.specs.Prelude.{ℕ, List, Option, None, Some, nat_le, slice_get, vec_items, if◌then◌else◌}
+use Rattle.std.specs.Prelude.{ℕ, Option, None, Some, nat_le, slice_get, vec_items, if◌then◌else◌}
 use Rattle.er_places.specs.declared.facts.Facts.{Facts}
 
 -- a line, if it is among the first so many
