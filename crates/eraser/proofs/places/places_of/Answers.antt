@@ -15,8 +15,8 @@ with-facts : (wants : ℕ → Bool) (told : Option (List ℕ)) (limit : ℕ) (ta
 with-facts wants None limit table facts are = tt
 with-facts wants (Some text) limit table facts are = λ r trace. let found = are r trace in record { places = found.places; names = found.names }
 
-pub returns-in-Ok : goal.returns-in-Ok
-returns-in-Ok g c by =
+pub returns : goal.returns
+returns g c by =
     let again = (inner_of c.in-Some.again).decoded in
     let known = g.R.File.Read.remaining (source_of again) in
     let told = option_map (to_come again) known in
