@@ -196,7 +196,8 @@ fn put_from(out: &mut Vec<u8>, style: Style, places: &Places, place: Option<u32>
     ensures { OnOk result (out.new.items ≡ out.old.items ++ from_text style places.now place) }
 {
     match place {
-        Some(place) => put!(out, style, places.names(); Name(b" reused at ", places.call_name(place))),
+        Some(place) =>
+            put!(out, style, places.names(); Name(b" reused at ", places.call_name(place))),
         None => Ok(()),
     }
 }
