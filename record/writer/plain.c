@@ -1,4 +1,3 @@
-#define _GNU_SOURCE
 #include "plain.h"
 
 #include <ctype.h>
@@ -155,16 +154,16 @@ static void put_demangled(char name[PLAIN_BYTES], const char *text)
     }
 }
 
-/* What C++'s library makes of a symbol, or NULL if it isn't there or the symbol is none of C++. It is loaded when it is needed first, and finds most names
- * that it asks for in itself. */
+/* What C++'s library makes of a symbol, or NULL if it isn't there or the symbol is none of C++. It is loaded when it is needed first, and takes memory of
+ * the allocator that this program has, so that `free` gives it back: an allocator may have been preloaded. */
 static char *demangle(const char *symbol)
 {
     static char *(*found)(const char *, char *, size_t *, int *);
     static bool was_loaded;
     int status;
     if (!was_loaded) {
-        void *library = dlopen("libstdc++.so.6", RTLD_LAZY | RTLD_DEEPBIND);
-        library = library ? library : dlopen("libc++abi.so.1", RTLD_LAZY | RTLD_DEEPBIND);
+        void *library = dlopen("libstdc++.so.6", RTLD_LAZY);
+        library = library ? library : dlopen("libc++abi.so.1", RTLD_LAZY);
         if (library)
             *(void **)&found = dlsym(library, "__cxa_demangle");
         was_loaded = true;
