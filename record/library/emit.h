@@ -39,6 +39,7 @@ extern struct attachment *attached;
 struct self {
     uint32_t number;  /* 0 before its first event */
     uint32_t reads_ignored, writes_ignored;
+    bool is_beginning; /* what the C library gets memory for is the thread itself */
     bool notes_stores; /* stores that don't release are recorded: it has released by a fence, or the ring asks for flow */
     uint64_t head_seen;
     uint64_t pending; /* the ticket that this thread has drawn and not yet published, stored as its complement */

@@ -64,6 +64,11 @@ bool is_free_seen(void)
     return its->is_first && its->size_of;
 }
 
+/* ---- This library's own memory ---- */
+
+void *take_own(size_t size) { return get_allocator()->malloc(size); }
+void give_own(void *block) { get_allocator()->free(block); }
+
 /* ---- Memory that is given out ---- */
 
 static __attribute__((noinline)) void *note_foreign(void *block)
@@ -76,7 +81,7 @@ static __attribute__((noinline)) void *note_foreign(void *block)
 /* A block of which no free is seen may be used as another one before. */
 static inline void emit_taken(const void *block, size_t size, uint64_t place)
 {
-    if (block && is_recording() && is_memory(block, size))
+    if (block && is_recording() && !self.is_beginning && is_memory(block, size))
         emit(EVENT_TAKEN, (uint32_t)size, packed(block, size), place);
 }
 
@@ -137,8 +142,9 @@ void give_back(void *block, uint64_t site)
     free(block);
 }
 
-/* A block that shrinks stays where it is, as a rule, and gives back its end. If it moves, others may have its old place before that is known. So
- * the place of that event is drawn first. */
+/* A block that shrinks, or grows into what its allocator gave it beyond its size, stays where it is, as a rule, and gives back its end. If it moves,
+ * others may have its old place before that is known. So the place of that event is drawn first. Nobody knows what its size was, so one that stays is
+ * given out anew. */
 static void *shrink(void *block, size_t had, size_t size, uint64_t place)
 {
     void *(*real)(void *, size_t) = REAL(realloc);
@@ -150,7 +156,7 @@ static void *shrink(void *block, size_t had, size_t size, uint64_t place)
     void *now = real(block, size);
     if (is_drawn)
         emit_publish(&draft, now && now != block ? EVENT_REUSE : EVENT_VOID, (uint32_t)moves, packed(block, moves), place);
-    return now != block ? note_taken(now, size, place) : now;
+    return note_taken(now, size, place);
 }
 
 /* The real function would give the old block back before this library could say so. So a block that grows is moved here. */

@@ -23,6 +23,9 @@ struct allocator {
 /* All zero until it is known. */
 extern struct allocator allocator;
 
+/* A block for this library itself, of which no event is recorded. */
+void *take_own(size_t size);
+void give_own(void *block);
 /* Gives a block back, if it is one, and records before that a call at this place does so. */
 void give_back(void *block, uint64_t site);
 /* Records that a call at this place has got a block, if it has and calls are recorded or the allocator isn't the C library's, and returns it. */

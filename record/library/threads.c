@@ -1,5 +1,5 @@
 /* Threads: their names and stacks, and who starts and joins them. */
-#include "emit.h"
+#include "memory.h"
 
 #include <errno.h>
 #include <limits.h>
@@ -55,6 +55,14 @@ static void make_ends(void)
         ends = (pthread_key_t)-1;
 }
 
+static int find_stack(pthread_attr_t *found)
+{
+    self.is_beginning = true;
+    int result = pthread_getattr_np(pthread_self(), found);
+    self.is_beginning = false;
+    return result;
+}
+
 /* A new thread may have the stack of an old one. `place` is that of the call that created it, in these calls. */
 static void begin_thread(uint32_t calls, uint64_t place)
 {
@@ -62,7 +70,7 @@ static void begin_thread(uint32_t calls, uint64_t place)
     if (!is_recording())
         return;
     emit(EVENT_THREAD, calls, (uint64_t)pthread_self(), place);
-    if (pthread_getattr_np(pthread_self(), &found) != 0)
+    if (find_stack(&found) != 0)
         return;
     if (pthread_attr_getstack(&found, &stack.begin, &stack.size) == 0) {
         if (KEEPS_STACKS)
@@ -96,7 +104,7 @@ struct start {
 
 static struct start *make_start(struct task task, uint32_t calls, uint64_t place)
 {
-    struct start *start = malloc(sizeof *start);
+    struct start *start = take_own(sizeof *start);
     REAL(pthread_once)(&made_ends, make_ends);
     if (start)
         *start = (struct start){task, is_ordering(), 0, 2, 0, calls, place};
@@ -106,7 +114,7 @@ static struct start *make_start(struct task task, uint32_t calls, uint64_t place
 static void leave_start(struct start *start)
 {
     if (atomic_fetch_sub(&start->users, 1) == 1)
-        free(start);
+        give_own(start);
 }
 
 /* The calls in which a thread is created. */
@@ -133,7 +141,7 @@ static void name_thread(struct start *start, uint64_t thread, uint64_t site)
 static void end_start(struct start *start, bool is_started, const pthread_t *thread, uint64_t site)
 {
     if (!is_started) {
-        free(start);
+        give_own(start);
         return;
     }
     if (start->is_ordered)

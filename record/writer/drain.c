@@ -10,13 +10,12 @@
 #include "locks.h"
 #include "nodes.h"
 #include "objects.h"
+#include "options.h"
 #include "pages.h"
 #include "sites.h"
 #include "stacks.h"
 #include "trace.h"
 
-/* A replay takes each page of a block by itself: of longer ones nothing is written. */
-#define MOST_TAKEN (UINT64_C(1) << 28)
 /* The producers see the head once in this number of events. */
 #define HEAD_STEP 512
 /* The most events that are kept back from a reader that waits for them. */
@@ -332,10 +331,17 @@ static void reuse(const struct slot *slot)
     pages_reuse(&reuse, slot->first & REUSE_MASK, reuse_size(slot));
 }
 
+/* A replay takes each page of a block by itself, also those that are never accessed: of longer blocks than one reuse has nothing is written. In a bracket,
+ * because happens-before would report that memory which was given back is still in use as a fault of the call that gets it. */
 static void take_memory(const struct slot *slot)
 {
-    if (reuse_size(slot) <= MOST_TAKEN)
-        trace_reuse(trace_thread(slot->thread), slot->first & REUSE_MASK, reuse_size(slot), slot->second);
+    if (reuse_size(slot) > REUSE_BYTES)
+        return;
+    if (options.orders)
+        change_ignoring(slot->thread, true);
+    trace_reuse(trace_thread(slot->thread), slot->first & REUSE_MASK, reuse_size(slot), slot->second);
+    if (options.orders)
+        change_ignoring(slot->thread, false);
 }
 
 static void take(const struct slot *slot)

@@ -240,7 +240,7 @@ static void put_name(char *name, Dwarf_Die die, unsigned depth)
     const char *part = dwarf_diename(&declared);
     if (scope)
         put_name(name, scope->die, depth + 1);
-    if (scope && part && is_class(dwarf_tag(&scope->die)) && !dwarf_diename(&scope->die) && strcmp(part, "operator()") == 0)
+    if (scope && part && is_class(dwarf_tag(&scope->die)) && !dwarf_diename(&scope->die) && strncmp(part, "operator()", strlen("operator()")) == 0)
         part = "{lambda}";
     if (part && !(scope && is_region(part)))
         plain_add(name, part, strlen(part));

@@ -41,14 +41,21 @@ static void forget_sources(void);
 
 #define DEBUG_FOLDER "/usr/lib/debug"
 
-/* Whether there is a file by which `link` names the debug information of another one, in one of the usual places. */
+/* Whether there is a file that has the debug information of another one, in one of the usual places. `link` is how that one calls it: if it doesn't, its
+ * own name serves, with `.debug` behind it beside the file, and with it or without it in folders for such files. */
 static bool has_link(const char *file, const char *link)
 {
-    static const char *const forms[] = {"%.*s/%s", "%.*s/.debug/%s", DEBUG_FOLDER "%.*s/%s"};
+    static const char *const linked[] = {"%.*s/%s", "%.*s/.debug/%s", DEBUG_FOLDER "%.*s/%s"};
+    static const char *const unlinked[] = {"%.*s/%s.debug", "%.*s/.debug/%s.debug", "%.*s/.debug/%s", DEBUG_FOLDER "%.*s/%s.debug", DEBUG_FOLDER "%.*s/%s"};
+    const char *const *forms = link ? linked : unlinked;
+    unsigned count = link ? sizeof linked / sizeof *linked : sizeof unlinked / sizeof *unlinked;
     char real[PATH_BYTES], path[2 * PATH_BYTES];
     bool is_there = false;
-    for (unsigned i = 0; realpath(file, real) && i < sizeof forms / sizeof *forms && !is_there; i++) {
-        snprintf(path, sizeof path, forms[i], (int)(strrchr(real, '/') - real), real, link);
+    if (!realpath(file, real))
+        return false;
+    const char *end = strrchr(real, '/');
+    for (unsigned i = 0; i < count && !is_there; i++) {
+        snprintf(path, sizeof path, forms[i], (int)(end - real), real, link ? link : end + 1);
         is_there = access(path, R_OK) == 0;
     }
     return is_there;
@@ -74,7 +81,7 @@ static bool has_build(Dwfl_Module *file)
 static int find_debug(Dwfl_Module *file, void **place, const char *name, Dwarf_Addr begin, const char *path, const char *link, GElf_Word sum, char **found)
 {
     const char *servers = getenv("DEBUGINFOD_URLS");
-    bool may_be = (servers && *servers) || has_build(file) || (path && link && has_link(path, link));
+    bool may_be = (servers && *servers) || has_build(file) || (path && has_link(path, link));
     return may_be ? dwfl_standard_find_debuginfo(file, place, name, begin, path, link, sum, found) : -1;
 }
 
@@ -315,11 +322,20 @@ struct ranges {
     struct range *all;
 };
 
+/* A function as the symbols have it. */
+struct named {
+    Dwarf_Addr begin, end;
+    const char *name;
+    int rank; /* of several at one place the last one counts: libdw's choice */
+};
+
 /* What was found out about a file. */
 struct facts {
-    bool has_ranges;
+    bool has_ranges, has_named;
     char is_instrumented; /* 'y', 'n', or 0: not known */
     struct ranges ranges;
+    size_t named_count;
+    struct named *named; /* by rising begin */
 };
 
 static struct facts *get_facts(Dwfl_Module *file)
@@ -374,8 +390,10 @@ static int free_facts(Dwfl_Module *file, void **place, const char *name, Dwarf_A
 {
     (void)file, (void)name, (void)begin, (void)nothing;
     struct facts *facts = *place;
-    if (facts)
+    if (facts) {
         free(facts->ranges.all);
+        free(facts->named);
+    }
     free(facts);
     return DWARF_CB_OK;
 }
@@ -559,15 +577,48 @@ static const struct site *callers_of(struct function *inlined, Dwarf_Die *unit)
     return keep(&site, sizeof site);
 }
 
+/* Of several names of one place a global one counts most, then a weak one. */
+static int rank_of(const GElf_Sym *symbol)
+{
+    int binding = GELF_ST_BIND(symbol->st_info);
+    return binding == STB_GLOBAL ? 2 : binding == STB_WEAK;
+}
+
+static int compare_named(const void *one, const void *other)
+{
+    const struct named *first = one, *second = other;
+    if (first->begin != second->begin)
+        return first->begin < second->begin ? -1 : 1;
+    return first->rank != second->rank ? first->rank - second->rank : strcmp(second->name, first->name);
+}
+
+/* Read once: libdw would look through all symbols of the file for each place. */
+static void read_named(Dwfl_Module *file, struct facts *facts)
+{
+    int count = dwfl_module_getsymtab(file);
+    facts->named = count > 0 ? get_memory(NULL, (size_t)count * sizeof *facts->named) : NULL;
+    for (int i = 1; i < count; i++) {
+        GElf_Sym symbol;
+        GElf_Addr begin;
+        const char *found = dwfl_module_getsym_info(file, i, &symbol, &begin, NULL, NULL, NULL);
+        if (found && *found && GELF_ST_TYPE(symbol.st_info) == STT_FUNC && symbol.st_size && symbol.st_shndx != SHN_UNDEF)
+            facts->named[facts->named_count++] = (struct named){begin, begin + symbol.st_size, found, rank_of(&symbol)};
+    }
+    if (facts->named_count)
+        qsort(facts->named, facts->named_count, sizeof *facts->named, compare_named);
+    facts->has_named = true;
+}
+
 /* Of code without debug information the symbols say it. */
 static const char *name_by_symbol(Dwfl_Module *file, uint64_t place)
 {
-    GElf_Off offset;
-    GElf_Sym symbol;
     char name[PLAIN_BYTES] = "";
-    const char *found = dwfl_module_addrinfo(file, place, &offset, &symbol, NULL, NULL, NULL);
-    if (found && GELF_ST_TYPE(symbol.st_info) == STT_FUNC && offset < symbol.st_size)
-        plain_symbol(found, name);
+    struct facts *facts = get_facts(file);
+    if (!facts->has_named)
+        read_named(file, facts);
+    size_t begun = count_begun(facts->named, facts->named_count, sizeof *facts->named, place);
+    if (begun && place < facts->named[begun - 1].end)
+        plain_symbol(facts->named[begun - 1].name, name);
     return keep_name(name);
 }
 

@@ -8,9 +8,6 @@
 #include "output.h"
 #include "sites.h"
 
-/* The most bytes of a reuse. */
-#define REUSE_BYTES (UINT64_C(1) << 22)
-
 const struct form *trace_form = &text_form;
 uint64_t trace_events, trace_lost;
 

@@ -10,6 +10,8 @@
 
 /* The most bytes of a legal name. */
 #define NAME_BYTES 128
+/* The most bytes of a reuse. */
+#define REUSE_BYTES (UINT64_C(1) << 22)
 
 extern const struct form *trace_form;
 extern uint64_t trace_events; /* events written */
