@@ -9,6 +9,7 @@ tests/trace4.py reads the traces.
 """
 
 import concurrent.futures
+import os
 import pathlib
 import re
 import sys
@@ -19,7 +20,7 @@ sys.dont_write_bytecode = True
 import trace4
 from alone import run_alone
 from record_stacks_tests import build, expected, lines_of, name_of, outside, refused
-from record_tests import LEVELS, RUN, SOURCES, TOP, WORKERS, Findings, command, same_text
+from record_tests import LEVELS, RUN, SOURCES, TOP, WARNINGS, WORKERS, Findings, command, same_text
 
 PROGRAMS = SOURCES / "told"
 # What no text shows, or shows as something else.
@@ -79,12 +80,27 @@ def names(folder, findings, compiler, level):
     findings.check(f"the threads of {program.name}", threads == expected(source, "THREAD") and len(trace.thread_facts) == 5, f"{trace.thread_facts} {threads}")
 
 
+def preloaded(folder, findings):
+    """The writer has the program's preloaded allocator too, and is left with no block of another one."""
+    source, allocator = PROGRAMS / "names.cpp", folder / "preloaded.so"
+    built = command(["gcc", "-O1", *WARNINGS, "-fno-builtin", "-shared", "-fPIC", PROGRAMS / "preloaded.c", "-o", allocator])
+    library = build(folder, findings, source, "gcc", "-O1", "-shared", "-fPIC", "-DLIBRARY", name="libpreloaded")
+    program = build(folder, findings, source, "gcc", "-O1", library, name="preloaded")
+    path = folder / "preloaded.trace"
+    done = command([RUN, "-o", path, "--stacks", program], env={**os.environ, "LD_PRELOAD": str(allocator)})
+    trace = trace4.Trace(path.read_bytes())
+    names = {variable.name for variable in trace.variables}
+    is_right = (built.stderr, done.returncode, trace.damage, trace.lost) == ("", 0, None, 0) and trace.has_ended
+    findings.check("a preloaded allocator", is_right and {b"Box::made", b"Box::put::puts"} <= names, f"{built} {done} {trace.damage} {names}")
+
+
 def tests(record):
     findings = Findings(record)
     command([TOP / "record/build"])
     with tempfile.TemporaryDirectory() as name, concurrent.futures.ThreadPoolExecutor(WORKERS) as pool:
         folder = pathlib.Path(name)
         done = [pool.submit(test, folder, findings, compiler, level) for test in (tries, names) for compiler in ("gcc", "clang") for level in LEVELS]
+        done.append(pool.submit(preloaded, folder, findings))
         done.append(pool.submit(refused, folder, findings, "--flow", "a text has no data flow"))
         for one in done:
             one.result()

@@ -80,12 +80,12 @@ class Recording:
         return None
 
     def stacks(self, source, of_events=False):
-        """The stacks of the accesses of a source, or of its other events, by its marks."""
+        """The stacks of the accesses of a source, or of its other events, by its marks. A bracket has none."""
         marks = lines_of(source)
         for trace in self.traces:
             for event in trace.events:
                 places = [place.decode() for place, _ in trace.stack(event.node)]
-                if places and places[0].startswith(f"{source.name}:") and (event.kind != "access") == of_events:
+                if places and places[0].startswith(f"{source.name}:") and (event.kind != "access") == of_events and event.kind not in trace4.ALONE:
                     kind = [KINDS.get(event.kind, str(event.kind))] if of_events else []
                     yield (*kind, *(name_of(place, source, marks) for place in places))
 
@@ -115,6 +115,15 @@ def says_what_it_does(folder, findings, source, compiler, level):
     wrong = set(recording.stacks(source, of_events)) ^ expected(source, "EVENT" if of_events else "STACK")
     fault = recording.fault() or (wrong and f"only in one: {sorted(map(' < '.join, wrong))}")
     findings.check(f"the calls of {program.name}", not fault, fault)
+    if of_events:
+        own_memory(findings, recording.traces[0], source, program)
+
+
+def own_memory(findings, trace, source, program):
+    """Of the blocks that are got for a thread the C library's own are told, where the program created it, and none that the recorder asked for."""
+    marks, first = lines_of(source), trace.events[0].thread
+    got = [(event.thread == first, outside(trace, event.node, source, marks)[:1]) for event in in_brackets(trace)]
+    findings.check(f"the blocks of {program.name}", got == [(True, ["begins"]), (True, ["main-frees"])], f"{got}")
 
 
 def recorded(folder, findings, name, compiler, level):
@@ -165,6 +174,13 @@ def crowd(folder, findings, compiler, level):
     findings.check(f"the calls in the report of {program.name}", is_told and shown == output.decode(), f"{shown}, {output}"[:2000])
 
 
+def in_brackets(trace):
+    """The reuses that stand alone in a bracket of their thread."""
+    for before, event, behind in zip(trace.events, trace.events[1:], trace.events[2:]):
+        if (before.kind, event.kind, behind.kind) == (trace4.IGNORE_ON, trace4.REUSE, trace4.IGNORE_OFF) and before.thread == event.thread == behind.thread:
+            yield event
+
+
 def named(folder, findings, compiler, level):
     """Functions have the names that a person gives them, and blocks of memory are those that the program got."""
     source = PROGRAMS / "named.cpp"
@@ -175,6 +191,23 @@ def named(folder, findings, compiler, level):
     findings.check(f"the functions of {program.name}", not wrong, f"{wrong} {trace.damage}")
     blocks = {(str(event.size), *calls) for event in trace.events if event.kind == trace4.REUSE and (calls := outside(trace, event.node, source, marks)) and calls[0] in marks.values()}
     findings.check(f"the blocks of {program.name}", blocks == expected(source, "BLOCK"), f"{sorted(blocks ^ expected(source, 'BLOCK'))}")
+    # With --order a block that is got is in a bracket, and one that is given back is not. Without it there are no brackets.
+    ordered = Recording(folder, program, "--order").traces[0]
+    got = {(str(event.size), *calls) for event in in_brackets(ordered) if (calls := outside(ordered, event.node, source, marks)) and calls[0] in marks.values()}
+    findings.check(f"the brackets of {program.name}", not list(in_brackets(trace)) and blocks - got == {("24", "moved", "main")} and got < blocks, f"{blocks ^ got}")
+    without_debug(folder, findings, program, {pair for pair in functions if pair[0] in marks.values()})
+
+
+def without_debug(folder, findings, program, functions):
+    """Without debug information the symbols have the same names, but for functions that were inlined. Debug information is found in a file beside the
+    program's, though the program has no link to it."""
+    bare, away = folder / f"{program.name}-bare", folder / f"{program.name}-away"
+    made = [command(["objcopy", *words]).stderr for words in (["--strip-debug", program, bare], ["--strip-debug", program, away], ["--only-keep-debug", program, f"{away}.debug"])]
+    names = {name.decode() for name in Recording(folder, bare).traces[0].functions.values()}
+    missing = {name for _, name in functions if name != "deep"} - names
+    findings.check(f"the functions of {bare.name}", len(functions) > 20 and not missing, f"{made} {missing} {names}")
+    places = Recording(folder, away).traces[0].places
+    findings.check(f"the places of {away.name}", any(place.startswith(b"named.cpp:") for place in places), f"{made} {places}")
 
 
 def regions(folder, findings, level):

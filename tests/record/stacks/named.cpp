@@ -1,5 +1,5 @@
 /* Names of functions, and blocks of memory. FUNCTION names the function of a line with a mark, with its scopes. BLOCK says how many bytes a block has, and
- * the marks of the call that got it and of the calls around that. (The 24 bytes are what `realloc` gives back.)
+ * the marks of the call that got it and of the calls around that. (The 24 bytes of `moved` are what `realloc` gives back.)
  *
  * FUNCTION hidden hidden
  * FUNCTION take pool::Pool::take
@@ -12,6 +12,11 @@
  * FUNCTION run main::Worker::run
  * FUNCTION later main::{lambda}
  * FUNCTION inner main::{lambda}::{lambda}
+ * FUNCTION generic main::{lambda}
+ * FUNCTION shift pool::operator<<
+ * FUNCTION less pool::operator<
+ * FUNCTION call pool::Pool::operator()
+ * FUNCTION arrow pool::Pool::operator->
  * FUNCTION main main
  *
  * FUNCTION plain get_blocks
@@ -23,6 +28,16 @@
  * FUNCTION moved get_blocks
  * BLOCK 4000 moved main
  * BLOCK 24 moved main
+ * FUNCTION small get_blocks
+ * BLOCK 20 small main
+ * FUNCTION grown get_blocks
+ * BLOCK 24 grown main
+ * FUNCTION listed get_blocks
+ * BLOCK 30 listed main
+ * FUNCTION paged get_blocks
+ * BLOCK 60 paged main
+ * FUNCTION placed get_blocks
+ * BLOCK 72 placed main
  * FUNCTION aligned get_blocks
  * BLOCK 128 aligned main
  * FUNCTION posix get_blocks
@@ -31,6 +46,11 @@
  * BLOCK 12288 pages main
  * FUNCTION new get_blocks
  * BLOCK 20 new main
+ * FUNCTION nothrow get_blocks
+ * BLOCK 20 nothrow main
+ * FUNCTION longest get_blocks
+ * BLOCK 4194304 longest main
+ * FUNCTION longer get_blocks
  * FUNCTION array get_blocks
  * BLOCK 28 array main
  * FUNCTION wide get_blocks
@@ -42,7 +62,9 @@
  * FUNCTION string get_blocks
  * BLOCK 71 string main
  */
+#include <malloc.h>
 #include <memory>
+#include <new>
 #include <string>
 #include <sys/mman.h>
 #include <vector>
@@ -77,6 +99,15 @@ struct Pool {
     {
         return taken; /* @ask */
     }
+    APART Pool *operator->()
+    {
+        taken++; /* @arrow */
+        return this;
+    }
+    APART void operator()(int count)
+    {
+        taken += count; /* @call */
+    }
 };
 
 Pool::~Pool()
@@ -93,6 +124,19 @@ template <class T> APART T twice(T value)
 {
     shared++; /* @twice */
     return value + value;
+}
+} // namespace pool
+
+namespace pool {
+APART Pool &operator<<(Pool &pool, int count)
+{
+    pool.taken += count; /* @shift */
+    return pool;
+}
+
+APART bool operator<(const Pool &pool, int count)
+{
+    return pool.taken < count; /* @less */
 }
 } // namespace pool
 
@@ -120,11 +164,19 @@ APART static void get_blocks()
     use(calloc(6, 8)); /* @zeroed */
     use(block = realloc(nullptr, 16)); /* @first */
     use(realloc(block, 4000)); /* @moved */
+    use(block = malloc(20)); /* @small */
+    use(realloc(block, 24)); /* @grown */
+    use(reallocarray(nullptr, 10, 3)); /* @listed */
+    use(pvalloc(60)); /* @paged */
+    use(memalign(16, 72)); /* @placed */
     use(aligned_alloc(64, 128)); /* @aligned */
     if (posix_memalign(&block, 64, 192) == 0) /* @posix */
         use(block);
     use(mmap(nullptr, 12000, PROT_READ | PROT_WRITE, MAP_PRIVATE | MAP_ANONYMOUS, -1, 0)); /* @pages */
     use(new Five()); /* @new */
+    use(new (std::nothrow) Five()); /* @nothrow */
+    use(malloc(4194304)); /* @longest */
+    use(malloc(4194305)); /* @longer */
     use(new int[7]()); /* @array */
     use(new Wide()); /* @wide */
     auto unique = std::make_unique<Five>(); /* @unique */
@@ -150,12 +202,19 @@ int main()
         };
         inner();
     };
+    auto generic = [](auto count) APART {
+        shared += count; /* @generic */
+    };
     pool::Pool pool;
     pool::Pool::Box<double> box;
     hidden();
     deep();
     worker.run();
     later(2);
+    generic(2);
+    pool << 2;
+    pool(2);
+    pool->taken += pool < 2;
     pool.take(3);
     pool += 1;
     box.put(pool ? 1.5 : 2.5);
