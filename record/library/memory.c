@@ -78,19 +78,24 @@ static __attribute__((noinline)) void *note_foreign(void *block)
     return block;
 }
 
-/* A block of which no free is seen may be used as another one before. */
 static inline void emit_taken(const void *block, size_t size, uint64_t place)
 {
     if (block && is_recording() && !self.is_beginning && is_memory(block, size))
         emit(EVENT_TAKEN, (uint32_t)size, packed(block, size), place);
 }
 
+/* A block of which no free is seen may be used as another one before. */
+static inline void note_block(const void *block, size_t size, uint64_t place)
+{
+    if (KEEPS_STACKS && is_free_seen())
+        emit_taken(block, size, place);
+}
+
 inline void *note_taken(void *block, size_t size, uint64_t place)
 {
     if (UNLIKELY(allocator.is_foreign))
         note_foreign(block);
-    if (KEEPS_STACKS && is_free_seen())
-        emit_taken(block, size, place);
+    note_block(block, size, place);
     return block;
 }
 
@@ -156,7 +161,10 @@ static void *shrink(void *block, size_t had, size_t size, uint64_t place)
     void *now = real(block, size);
     if (is_drawn)
         emit_publish(&draft, now && now != block ? EVENT_REUSE : EVENT_VOID, (uint32_t)moves, packed(block, moves), place);
-    return note_taken(now, size, place);
+    if (now != block)
+        return note_taken(now, size, place);
+    note_block(now, size, place);
+    return now;
 }
 
 /* The real function would give the old block back before this library could say so. So a block that grows is moved here. */
