@@ -61,6 +61,12 @@ def tries(folder, findings, compiler, level):
     trace, _, fault = record_it(folder, program, "--order", "--trace", "4")
     found, wanted = sorted(told(trace, source)), [event for event in wanted if event[0] in ("try", "try-read")]
     findings.check(f"what {program.name} tells without --flow", not fault and found == wanted, f"{fault} {found}, {wanted}")
+    # Without --stacks there are no calls, but who created each thread.
+    marks = lines_of(source)
+    created = [outside(trace, fact.created_at, source, marks) for fact in trace.thread_facts.values() if fact.created_at]
+    findings.check(f"the threads of {program.name}", created == [["create"]] * 2, f"{trace.thread_facts} {created}")
+    runs = {variable.name for variable in trace.variables if b"runs" in variable.name}
+    findings.check(f"a static variable of {program.name}", runs == {b"runs" if compiler == "gcc" else b"run::runs"}, f"{runs}")
 
 
 def names(folder, findings, compiler, level):

@@ -18,6 +18,8 @@
  * EVENT stores half half
  * EVENT loads half half
  * EVENT stores again released
+ *
+ * Two threads are created on the line @create. The static variable of `run` is runs by gcc, and run::runs by clang.
  */
 #include <stdio.h>
 #include <threads.h>
@@ -53,8 +55,10 @@ static void *acquires(void *nothing)
 
 static void run(void *(*body)(void *))
 {
+    static int runs;
     pthread_t thread;
-    pthread_create(&thread, NULL, body, NULL);
+    runs++;
+    pthread_create(&thread, NULL, body, NULL); /* @create */
     pthread_join(thread, NULL);
 }
 
