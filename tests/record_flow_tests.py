@@ -9,7 +9,6 @@ tests/trace4.py reads the traces.
 """
 
 import concurrent.futures
-import os
 import pathlib
 import re
 import sys
@@ -19,8 +18,8 @@ sys.path.insert(0, str(pathlib.Path(__file__).parent))
 sys.dont_write_bytecode = True
 import trace4
 from alone import run_alone
-from record_stacks_tests import build, expected, lines_of, name_of, outside, refused
-from record_tests import LEVELS, RUN, SOURCES, TOP, WARNINGS, WORKERS, Findings, command, same_text
+from record_stacks_tests import build, expected, lines_of, name_of, outside, preload, refused
+from record_tests import LEVELS, RUN, SOURCES, TOP, WORKERS, Findings, command, same_text
 
 PROGRAMS = SOURCES / "told"
 # What no text shows, or shows as something else.
@@ -88,16 +87,15 @@ def names(folder, findings, compiler, level):
 
 def preloaded(folder, findings):
     """The writer has the program's preloaded allocator too, and is left with no block of another one."""
-    source, allocator = PROGRAMS / "names.cpp", folder / "preloaded.so"
-    built = command(["gcc", "-O1", *WARNINGS, "-fno-builtin", "-shared", "-fPIC", PROGRAMS / "preloaded.c", "-o", allocator])
+    source = PROGRAMS / "names.cpp"
     library = build(folder, findings, source, "gcc", "-O1", "-shared", "-fPIC", "-DLIBRARY", name="libpreloaded")
     program = build(folder, findings, source, "gcc", "-O1", library, name="preloaded")
     path = folder / "preloaded.trace"
-    done = command([RUN, "-o", path, "--stacks", program], env={**os.environ, "LD_PRELOAD": str(allocator)})
+    done = command([RUN, "-o", path, "--stacks", program], env=preload(folder, findings))
     trace = trace4.Trace(path.read_bytes())
     names = {variable.name for variable in trace.variables}
-    is_right = (built.stderr, done.returncode, trace.damage, trace.lost) == ("", 0, None, 0) and trace.has_ended
-    findings.check("a preloaded allocator", is_right and {b"Box::made", b"Box::put::puts"} <= names, f"{built} {done} {trace.damage} {names}")
+    is_right = (done.returncode, trace.damage, trace.lost) == (0, None, 0) and trace.has_ended
+    findings.check("a preloaded allocator", is_right and {b"Box::made", b"Box::put::puts"} <= names, f"{done} {trace.damage} {names}")
 
 
 def tests(record):

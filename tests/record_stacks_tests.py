@@ -68,9 +68,9 @@ KINDS = {trace4.LOCK: "lock", trace4.UNLOCK: "unlock", trace4.READ_LOCK: "rlock"
 class Recording:
     """One run of a program with --stacks, and of what it started."""
 
-    def __init__(self, folder, program, *words):
+    def __init__(self, folder, program, *words, **more):
         traces = folder / f"{program.name}.traces"
-        self.done = command([RUN, *words, "-o", f"{traces}/", "--limit", "0", "--stacks", program])
+        self.done = command([RUN, *words, "-o", f"{traces}/", "--limit", "0", "--stacks", program], **more)
         self.paths = sorted(traces.glob("*.trace"))
         self.traces = [trace4.Trace(path.read_bytes()) for path in self.paths]
 
@@ -198,6 +198,25 @@ def named(folder, findings, compiler, level):
     without_debug(folder, findings, program, {pair for pair in functions if pair[0] in marks.values()})
 
 
+def preload(folder, findings):
+    """The environment with an allocator in C."""
+    made = folder / "preloaded.so"
+    done = command(["gcc", "-O1", *record_tests.WARNINGS, "-fno-builtin", "-shared", "-fPIC", SOURCES / "told/preloaded.c", "-o", made])
+    findings.check("an allocator in C is built", done.returncode == 0 and done.stderr == "", done.stderr)
+    return {**os.environ, "LD_PRELOAD": str(made)}
+
+
+def blocks_of_allocator(folder, findings):
+    """The blocks of a preloaded allocator, but for the one that the C library gives, since the allocator has no such function."""
+    source = PROGRAMS / "named.cpp"
+    program = build(folder, findings, source, "gcc", "-O1")
+    recording, marks = Recording(folder, program, "--order", env=preload(folder, findings)), lines_of(source)
+    trace = recording.traces[0]
+    got = {(str(event.size), *calls) for event in in_brackets(trace) if (calls := outside(trace, event.node, source, marks)) and calls[0] in marks.values()}
+    wanted = {block for block in expected(source, "BLOCK") if block[:2] not in (("60", "paged"), ("24", "moved"))}
+    findings.check("the blocks of a preloaded allocator", not recording.fault() and got == wanted, f"{recording.fault()} {got ^ wanted}")
+
+
 def without_debug(folder, findings, program, functions):
     """Without debug information the symbols have the same names, but for functions that were inlined. Debug information is found in a file beside the
     program's, though the program has no link to it."""
@@ -248,7 +267,7 @@ def tests(record):
         done = [pool.submit(says_what_it_does, folder, findings, source, *way) for source in sources for way in ways]
         done += [pool.submit(test, folder, findings, *way) for test in (crowd, deep, interrupted, named) for way in ways]
         done += [pool.submit(regions, folder, findings, level) for level in LEVELS]
-        done += [pool.submit(many, folder, findings), pool.submit(refused, folder, findings, "--stacks", "a text has no stacks")]
+        done += [pool.submit(blocks_of_allocator, folder, findings), pool.submit(many, folder, findings), pool.submit(refused, folder, findings, "--stacks", "a text has no stacks")]
         for one in done:
             one.result()
 

@@ -104,7 +104,13 @@ HOOK void *malloc(size_t size) { return LIKELY(NOTES_NONE) ? allocator.malloc(si
 HOOK void *aligned_alloc(size_t alignment, size_t size) { return note_taken(REAL(aligned_alloc)(alignment, size), size, CALLER); }
 HOOK void *memalign(size_t alignment, size_t size) { return note_taken(REAL(memalign)(alignment, size), size, CALLER); }
 HOOK void *valloc(size_t size) { return note_taken(REAL(valloc)(size), size, CALLER); }
-HOOK void *pvalloc(size_t size) { return note_taken(REAL(pvalloc)(size), size, CALLER); }
+
+/* An allocator may have no such function. Then this is the C library's, and the allocator doesn't know the block. */
+HOOK void *pvalloc(size_t size)
+{
+    void *block = REAL(pvalloc)(size);
+    return is_of_allocator(REAL(pvalloc)) ? note_taken(block, size, CALLER) : block;
+}
 
 HOOK void *calloc(size_t count, size_t size)
 {

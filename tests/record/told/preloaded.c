@@ -1,5 +1,5 @@
-/* An allocator in C, for LD_PRELOAD. It takes each block from one array and uses none again. A block of another allocator that is given back to it ends the
- * program. */
+/* An allocator in C, for LD_PRELOAD. It takes each block from one array and uses none again, and has no pvalloc. To ask it about a block of another
+ * allocator, or to give it one back, ends the program. */
 #define _GNU_SOURCE
 #include <errno.h>
 #include <malloc.h>
@@ -33,7 +33,12 @@ void *malloc(size_t size) { return get(16, size); }
 void *calloc(size_t count, size_t size) { return get(16, count * size); }
 void *aligned_alloc(size_t alignment, size_t size) { return get(alignment < 16 ? 16 : alignment, size); }
 void *memalign(size_t alignment, size_t size) { return aligned_alloc(alignment, size); }
-size_t malloc_usable_size(void *block) { return block ? *size_of(block) : 0; }
+size_t malloc_usable_size(void *block)
+{
+    if (block && ((char *)block < memory || (char *)block >= memory + sizeof memory))
+        abort();
+    return block ? *size_of(block) : 0;
+}
 
 int posix_memalign(void **block, size_t alignment, size_t size)
 {
@@ -41,11 +46,7 @@ int posix_memalign(void **block, size_t alignment, size_t size)
     return *block ? 0 : ENOMEM;
 }
 
-void free(void *block)
-{
-    if (block && ((char *)block < memory || (char *)block >= memory + sizeof memory))
-        abort();
-}
+void free(void *block) { malloc_usable_size(block); }
 
 void *realloc(void *block, size_t size)
 {
