@@ -27,9 +27,9 @@ static void work(int number)
             sched_yield();
         }
         __atomic_store_n(&is_over, 1, __ATOMIC_SEQ_CST);
-    } else
-        for (; !__atomic_load_n(&is_over, __ATOMIC_SEQ_CST); sched_yield())
-            for (int i = 0; i < 20; i++)
+    } else /* On a busy machine the signals take long, and a trace has a limit. */
+        for (int turn = 0; !__atomic_load_n(&is_over, __ATOMIC_SEQ_CST); turn++, sched_yield())
+            for (int i = 0; i < 20 && turn < 20000; i++)
                 worked++;
     meet();
 }
