@@ -202,6 +202,19 @@ def random_traces(record):
 # ---- By sites ----
 
 
+def expected_by_site(text, rules=None, trace=None):
+    """What a replay by site writes to both streams, and its status: by each analysis, and of standard input or of a file, which may be this trace 4."""
+    output, errors, status = reference.replay(text, rules or b"", explain=True)
+    if status == 2:
+        return dict.fromkeys(((analysis, is_file) for analysis in ("happens-before", "both") for is_file in (False, True)), (output.encode(), errors.encode(), status))
+    ordered, ordered_status = unordered_report(text, reference.rules_of(rules or b""), explain=True)
+    errors, wanted = (errors + order_note(text, ordered)).encode(), {}
+    for is_file, said, places in ((False, None, {}), (True, trace, places_in(text, trace))):
+        wanted["happens-before", is_file] = by_site_of_order(ordered, text, places, said).encode(), errors, ordered_status
+        wanted["both", is_file] = by_site_of_both(output, ordered, text, places, said).encode(), errors, max(status, ordered_status)
+    return wanted
+
+
 def by_sites(record):
     """`--by-site` beside a second reading of docs/FORMATS.md, made from what the other readings say of the text."""
     texts = [(f"random trace {seed}", reference.random_trace(seed), rules) for seed in range(SITE_TRACES) for rules in (None, reference.random_rules(seed))]
@@ -210,16 +223,9 @@ def by_sites(record):
     kinds = set()
     for name, text, rules in texts:
         title = f"{name}{'' if rules is None else ' with suppressions'}"
-        output, errors, status = reference.replay(text, rules or b"", explain=True)
-        errors = errors.encode()
-        wanted = {(analysis, False): (output.encode(), errors, status) for analysis in ("happens-before", "both")}
+        wanted = expected_by_site(text, rules)
+        both, _, status = wanted["both", False]
         if status != 2:
-            ordered, ordered_status = unordered_report(text, reference.rules_of(rules or b""), explain=True)
-            errors += order_note(text, ordered).encode()
-            for is_file, places in ((False, {}), (True, places_in(text))):
-                wanted["happens-before", is_file] = by_site_of_order(ordered, text, places).encode(), errors, ordered_status
-                wanted["both", is_file] = by_site_of_both(output, ordered, text, places).encode(), errors, max(status, ordered_status)
-            both = wanted["both", False][0]
             kinds.add((b"races in this run: none" in both, b"no common lock: no further site" in both))
         for (analysis, is_file), want in wanted.items():
             found = (run_file if is_file else run_with)(rules, text, "--analysis", analysis, "--by-site")

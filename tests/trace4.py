@@ -33,6 +33,8 @@ FAILED = (FAILED_TRY, FAILED_READ_TRY)
 OF_THREADS = {START: b"start", JOIN: b"join"}
 ALONE = {IGNORE_ON: b"ignore-on", IGNORE_OFF: b"ignore-off"}
 IN_HEADER, INLINED = 1, 2
+# So many blocks of memory are known to a report at a time.
+MOST_BLOCKS = 256
 
 
 def checksum(number, count, records):
@@ -59,6 +61,11 @@ Block = collections.namedtuple("Block", "line address size place")
 Memory = collections.namedtuple("Memory", "name offset size place")
 
 
+def touches(memory, word):
+    """Whether a variable or a block has a byte of the word at an address."""
+    return memory.address < word + 4 and word < memory.address + memory.size
+
+
 class Damage(Exception):
     """A record or a block that no trace has, at this byte, or a file that ends there."""
 
@@ -79,6 +86,8 @@ class Trace:
         self.calls = {}
         # By the numbers of lines, the number of the place of their event, and those of the calls.
         self.ways, self.functions, self.reused, self.words = {}, {}, [], {}
+        # The words of the races that a report shows in full, if they are known: no other words' blocks are kept for it.
+        self.in_full = None
         try:
             self.read_blocks()
         except Damage as damage:
@@ -293,7 +302,7 @@ class Trace:
     def variable_of(self, word):
         """The first variable that has a byte of the word at an address, or None. Its offset is that of the first such byte."""
         for variable in self.variables:
-            if variable.address < word + 4 and word < variable.address + variable.size:
+            if touches(variable, word):
                 return Memory(variable.name, max(word - variable.address, 0), variable.size, None)
         return None
 
@@ -302,10 +311,19 @@ class Trace:
         is named, memory that was taken may have no reuse, so no block is known."""
         if not self.functions:
             return None
-        for block in reversed(self.reused):
-            if block.line < line and block.address < word + 4 and word < block.address + block.size:
+        for block in reversed(self.kept(line)):
+            if touches(block, word):
                 return Memory(b"", max(word - block.address, 0), block.size, block.place)
         return None
+
+    def kept(self, line):
+        """The last blocks before a line, without those that lie in a later one."""
+        kept = []
+        for block in self.reused:
+            if block.line < line and (self.in_full is None or any(touches(block, word) for word in self.in_full)):
+                apart = [old for old in kept if old.address < block.address or old.address + old.size > block.address + block.size]
+                kept = [*apart, block][-MOST_BLOCKS:]
+        return kept
 
     def start_of(self, thread):
         """The place of the call that started a thread, or None, and what the program calls it. None if neither is known."""

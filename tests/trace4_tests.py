@@ -5,12 +5,14 @@
 
 - random traces of texts 1 to 3, examples and worked traces, as trace 4 with random lengths, blocks and records that say nothing: `eraser print` gives
   the text, and replays give the same report, by path and by standard input, with each option of a report and several workers
-- random trees of calls: the report by site, the JSON and the SARIF of a file show the calls that led to accesses, as their second readings say
+- random trees of calls and facts: the reports by site by each analysis, the JSON and the SARIF of a file show the calls that led to accesses, and what
+  raced, as their second readings say; from standard input, from a FIFO and with --until-fault they show neither
+- the last 256 blocks of memory are known to a report, and no block before them
 - three small traces cut off at each byte, and with a random bit of each byte flipped: the fault of the damage, or the same report
 - records that no trace has, in blocks whose checksum is right: the damage is at their byte, and with --until-fault what stands before it is reported
 - one name or place more than a trace may have; records and blocks of the greatest length, and of one byte more; long traces of several blocks
 - each allocation refused in turn, also where a file is read again for its places and calls; reads of a few bytes at a time, and each read failed in turn
-- the example of docs/FORMATS.md has the text that stands beside it
+- the example of docs/FORMATS.md has the text that stands beside it, and so has the example of a report with facts
 """
 
 import collections
@@ -31,12 +33,14 @@ import sarif_tests
 import site_tests
 import trace4
 from alone import OUTCOMES, each_failed, each_refused, outcome_of, run_alone
-from site_tests import TOP, preloaded, run, run_file
+from analysis_tests import expected_by_site
+from site_tests import TOP, preloaded, run, run_fifo, run_file
 
 RANDOM_TRACES = 200
-# What reports have of calls and facts.
-SHOWN = (b"called at", b" more\n", b"    in Pool::take\n", b" in stats\n", b" stats+", b" of a block of ", b" was started at ", b' "stats" was', b'"calls":', b'"functions":[', b'"functions":[null', b'"variable":', b'"block":',
-    b'"site":null}', b'"threads":', b'"name":null', b'"stacks":', b'"kind":"function"')
+# What reports have of calls, of which many have some, and of facts.
+CALLS = (b"called at", b" more\n", b'"calls":', b'"stacks":')
+FACTS = (b"    in Pool::take\n", b" in stats\n", b" stats+", b" of a block of ", b" reused at ", b"\nthreads:\n", b" was started at ", b' "stats" was', b'"functions":[',
+    b'"functions":[null', b'"variable":', b'"block":', b'"site":null}', b'"threads":', b'"name":null', b'"kind":"function"')
 SCHEMA = json.loads(json_tests.SCHEMA.read_text())
 # Options of a replay. Each trace is replayed with some of them.
 FORMS = ([], ["--explain"], ["--by-site"], ["--format", "json"], ["--format", "sarif"], ["--format", "html"], ["--workers", "3"], ["--strict"],
@@ -124,35 +128,55 @@ def long_traces(record):
             record(f"trace 4: a long trace, {name} {options}", found == wanted and wanted[2] == 1, f"{found[1:]}, {wanted[1:]}")
 
 
-def check_calls(record, name, text, data):
-    """The forms of a report that tell places show the calls that led there, as the second readings say. Returns which of them do."""
-    trace = trace4.Trace(data)
-    wanted = {
-        "by site": site_tests.expected(text, None, True, trace),
-        "json": json_tests.expected(text, None, True, "lockset", True, trace),
-        "json of both": json_tests.expected(text, None, True, "both", True, trace),
-        "sarif": sarif_tests.expected(text, None, True, "lockset", trace),
-        "sarif of both": sarif_tests.expected(text, None, True, "both", trace),
-    }
-    for form, want in wanted.items():
-        options = ["--by-site"] if form == "by site" else ["--explain", "--format", form.split()[0]]
-        found = run_file(None, data, *options, *(["--analysis", "both"] if "both" in form else []))
+def expected_forms(text, trace):
+    """The forms of a report that tell places, with their options: what is written of a file, which is this trace 4, and what of a stream."""
+    places = expected_by_site(text, None, trace)
+    yield "by site", ["--by-site"], site_tests.expected(text, None, True, trace), site_tests.expected(text, None)
+    for analysis in ("happens-before", "both"):
+        yield f"by site of {analysis}", ["--by-site", "--analysis", analysis], places[analysis, True], places[analysis, False]
+    for analysis in ("lockset", "both"):
+        options = ["--explain", "--analysis", analysis, "--format"]
+        yield f"json of {analysis}", [*options, "json"], *(json_tests.expected(text, None, True, analysis, *more) for more in ((True, trace), ()))
+        yield f"sarif of {analysis}", [*options, "sarif"], *(sarif_tests.expected(text, None, is_file, analysis, said) for is_file, said in ((True, trace), (False, None)))
+
+
+# How a trace is replayed that isn't read again.
+READ_ONCE = {
+    "from standard input": lambda data, options: run(["replay", *options, "-"], data),
+    "from a FIFO": lambda data, options: run_fifo(data, *options),
+    "with --until-fault": lambda data, options: run_file(None, data, "--until-fault", *options),
+}
+
+
+def check_calls(record, name, text, data, way):
+    """The forms of a report that tell places show the calls that led there and the facts, as the second readings say, and a trace that is read once has
+    neither. Yields what they show of these, once for each form."""
+    for form, options, want, bare in expected_forms(text, trace4.Trace(data)):
+        found = run_file(None, data, *options)
         record(f"trace 4: the calls of {name}, {form}", found == want, f"{found}, {want}"[:3000])
+        once = READ_ONCE[way](data, options)
+        record(f"trace 4: no calls of {name}, {form}, {way}", once == bare, f"{once}, {bare}"[:3000])
         if "json" in form and want[2] < 2:
             wrong = list(json_tests.faults(json.loads(found[0] or b"null"), SCHEMA, SCHEMA))
             record(f"trace 4: the calls of {name}, {form} by the schema", not wrong, f"{wrong}")
         if "sarif" in form and want[2] < 2:
             wrong = list(sarif_tests.faults(json.loads(found[0] or b"{}")))
             record(f"trace 4: the calls of {name}, {form} by what SARIF requires", not wrong, f"{wrong}")
-        yield from (word for word in SHOWN if word in found[0])
+        yield from ((word, form) for word in CALLS + FACTS if word in found[0])
 
 
 def shown_calls(record):
     met = collections.Counter()
     for at, (name, text) in enumerate(random_texts()):
         data = trace4.encode(text, random.Random(at), most_bytes=random.Random(at).choice([100, 65536]), most_calls=at % 14, facts=at % 4 > 0)
-        met.update(check_calls(record, name, trace4.text_of(data), data))
-    record("trace 4: reports show what a trace says", all(met[word] > 5 for word in SHOWN), f"{met}")
+        met.update(check_calls(record, name, trace4.text_of(data), data, list(READ_ONCE)[at % 3]))
+    shown = collections.Counter()
+    for (word, _), times in met.items():
+        shown[word] += times
+    record("trace 4: reports show what a trace says", all(shown[word] > 20 for word in CALLS) and all(shown[word] > 5 for word in FACTS), f"{shown}")
+    for analysis in ("happens-before", "both"):
+        rare = [word for word in (b"called at", b"    in Pool::take\n", b" stats+", b" of a block of ", b"\nthreads:\n") if met[word, f"by site of {analysis}"] < 3]
+        record(f"trace 4: reports by site of {analysis} show what a trace says", not rare, f"{rare} {met}")
     # The calls of the race, of the write that it is unordered with, and none where a place has no caller.
     data = of_blocks([*BEGIN, named(T.PLACE, b"main.c:3"), record_of(T.NEW_NODE, 0, bytes([2, 0, 0, 0, 0])), record_of(T.NEW_NODE, 4, bytes([0, 0, 0, 0, 0])), record_of(T.NEW_NODE, 5, bytes([1, 0, 0, 0, 1])),
         bytes([64 | 16 | 1, 16, 6]), record_of(T.THREAD, 1), bytes([64 | 16 | 1, 16, 2]), record_of(T.END, 2)])
@@ -167,6 +191,55 @@ x.c:1:
 """
     record("trace 4: calls behind a header of the system", wanted in found[0] and found[1:] == (b"", 1), f"{found}")
     record("trace 4: no calls from standard input", b"called at" not in run(["replay", "--by-site", "-"], data)[0])
+
+
+def fact(writer, kind, *content):
+    """A fact of numbers, each with how many bytes it has, and a name."""
+    whole = b"".join(part if isinstance(part, bytes) else part[0].to_bytes(part[1], "little") for part in content)
+    writer.record(kind, len(whole), whole)
+
+
+def pool(most_bytes=trace4.USUAL_BYTES):
+    """A trace by hand that says all that a report can name: two threads meet in a block of memory, and in a variable."""
+    writer = trace4.Writer(most_bytes=most_bytes)
+    taken, started = writer.node_of(b"pool.cpp:22"), writer.node_of(b"pool.cpp:24")
+    called = writer.node_of(b"pool.cpp:17")
+    first, second, third = (writer.node_of(place, called) for place in (b"pool.cpp:12", b"pool.cpp:13", b"pool.cpp:14"))
+    for place, function in ((b"pool.cpp:22", b"main"), (b"pool.cpp:24", b"main"), (b"pool.cpp:17", b"work"), *((b"pool.cpp:%d" % line, b"note") for line in (12, 13, 14))):
+        fact(writer, T.FUNCTION, (writer.places[place], 4), function)
+    writer.reuse(b"main", 0x555e36321eb0, 32, taken)
+    for thread in (b"t2", b"t3"):
+        writer.of_thread(b"main", T.START, thread, started)
+    writer.access(b"t2", True, 0x555e36321ebc, 4, first)
+    writer.access(b"t3", True, 0x555e36321ebc, 4, second)
+    for thread in (b"t2", b"t3"):
+        writer.access(thread, True, 0x555e34d04058, 4, third)
+    for thread, name in ((b"t2", b""), (b"t3", b"worker")):
+        fact(writer, T.THREAD_FACTS, (writer.threads[thread], 4), (started, 4), name)
+    fact(writer, T.VARIABLE, (0x555e34d04040, 6), (40, 6), b"stats")
+    return writer.finish()
+
+
+def blocks_by_hand(record):
+    """A report knows the last 256 blocks that have a word of its races, without those that lie in later ones."""
+    for count in (255, 256):
+        writer = trace4.Writer()
+        node = writer.node_of(b"a.c:2", writer.node_of(b"a.c:1"))
+        writer.reuse(b"t1", 0x1000, 64, node)
+        for address, sizes in ((0x3000, [64] * 300), (0x2000, [2000] * 300), (0x2000, range(4 * count, 0, -4))):
+            for size in sizes:
+                writer.reuse(b"t1", address, size, node)
+        for word in (0x1004, 0x2000):
+            for thread in (b"t1", b"t2"):
+                writer.access(thread, True, word, 4, writer.node_of(b"%s.c:%x" % (thread, word)))
+        data = writer.finish()
+        trace = trace4.Trace(data)
+        trace.in_full = {0x1004, 0x2000}
+        found, wanted = run_file(None, data, "--by-site"), site_tests.expected(trace.text(), None, True, trace)
+        record(f"trace 4: a block, and {count} behind it", found == wanted and wanted[2] == 1, f"{found}, {wanted}")
+        told = re.findall(rb"wrote(.*?) the word at", found[0])
+        oldest = b" byte 4 of a block of 64 bytes reused at a.c:2," if count == 255 else b""
+        record(f"trace 4: which blocks are told of {count + 1}", told == [oldest, b" byte 0 of a block of 4 bytes reused at a.c:2,"], f"{told}")
 
 
 # ---- Damaged traces
@@ -337,7 +410,7 @@ def refusals(record, preloaded, folder):
 def refusals_again(record, preloaded, folder):
     """Memory that is refused to a report by site of a file, which is read again: its calls are left out, or its places and calls, and nothing else is."""
     library, path, met = preloaded(folder, "refuse"), pathlib.Path(folder) / "calls.trace", set()
-    path.write_bytes(trace4.encode(b"eraser trace 3\nt1 lock m\nt1 write 0x1000 a.c:1\nt2 write 0x1000 b.c:2\n", random.Random(4), most_bytes=40, most_calls=3, facts=True))
+    path.write_bytes(pool(most_bytes=40))
     trace = trace4.Trace(path.read_bytes())
     reports = {
         site_tests.expected(trace.text(), None, True, trace): "whole",
@@ -345,7 +418,9 @@ def refusals_again(record, preloaded, folder):
         site_tests.expected(trace.text(), None): "without places",
         (b"", b"read fault\n", 4): "read fault",
     }
-    record("trace 4: what a report by site of a file may have", len(reports) == 4, f"{reports}")
+    whole = next(iter(reports))[0]
+    named = all(word in whole for word in (b" byte 12 of a block of 32 bytes reused at pool.cpp:22,", b" stats+24,", b"    in note\n", b"    called at pool.cpp:17 in work\n", b'  t3 "worker" was started at pool.cpp:24\n'))
+    record("trace 4: what a report by site of a file may have", len(reports) == 4 and named, f"{reports}")
     for nth, found, was_refused in each_refused(library, folder, lambda env: run(["replay", "--by-site", str(path)], env=env)):
         outcome = reports.get(found) or outcome_of(found, None, lambda text: b": stopped: out of memory\n" in text)
         record(f"trace 4: allocation {nth} of a report by site {'refused' if was_refused else 'made'}", outcome is not None if was_refused else outcome == "whole", f"{found}")
@@ -380,11 +455,24 @@ def example(record):
     record("trace 4: the example of the formats, printed", found == (text.encode(), b"", 0), f"{found}")
 
 
+def example_of_facts(record):
+    """The example of a report with facts is the first one of the trace by hand, and its threads."""
+    formats, analysis = (TOP / "docs/FORMATS.md").read_text().encode(), ["--analysis", "happens-before"]
+    data = pool()
+    found, wanted = run_file(None, data, "--by-site", *analysis), expected_by_site(trace4.text_of(data), None, trace4.Trace(data))["happens-before", True]
+    record("trace 4: a report with all facts", found == wanted, f"{found}, {wanted}")
+    story = re.search(rb"\n(pool\.cpp:13 and .*?\n\n)(?s:.*)\n(threads:\n.*?\n)\nsteps", found[0], re.S)
+    shown = b"```text\n" + story[1] + story[2] + b"```\n" if story else None
+    record("trace 4: the example with facts of the formats", shown and shown in formats, f"{shown} {found}")
+
+
 def tests(record, preloaded):
     with tempfile.TemporaryDirectory() as folder:
         example(record)
+        example_of_facts(record)
         same_reports(record)
         shown_calls(record)
+        blocks_by_hand(record)
         long_traces(record)
         cut_and_flipped(record)
         built(record)
