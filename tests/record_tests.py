@@ -32,8 +32,8 @@ RUN = TOP / "record/run"
 # Each built program is run so often, and so many at a time.
 RUNS = int(os.environ.get("RECORD_RUNS", 20))
 WORKERS = 4
-# Seconds after which a run counts as hung. A busy machine takes a few.
-PATIENCE = 120
+# Seconds after which a run or a build counts as hung. On a very busy machine a build takes minutes.
+PATIENCE = 600
 LEVELS = ("-O0", "-O2")
 WARNINGS = ["-Wall", "-Wextra"]
 # What a program prints, and its exit status if it is not 0.
@@ -741,6 +741,10 @@ def terminal(folder, findings, counter, right, busy):
     status, output, text = on_terminal([RUN, counter], env=settings)
     is_whole = re.match(rf"races in this run\nwords .*\n1 .* {site}\n\n{site}:\n(?s:.*)\n    at {site}", text) and re.search(r"\nsteps .*\nrecord: \d+ events recorded, 0 lost\n\Z", text)
     findings.check("on a terminal", (status, output) == (3, "30\n") and is_whole, f"{status} {output} {text}")
+    led = r"    in work\n    called at meet\.h:\d+ in run_start\n"
+    named = (rf"\n  t\d (?:read|wrote) bare, the word at 0x[0-9a-f]{{12}} \(line \d+\)\n{led}  t\d held no lock\n", rf"\n    at {site}, holding no lock\n{led}",
+        r"\n\nthreads:\n(?:  t\d was started at meet\.h:\d+\n){2}\nsteps ")
+    findings.check("on a terminal, the names of what raced", all(re.search(names, text) for names in named), text)
     status, output, text = on_terminal([RUN, "-o", trace, "--replay", counter], env=settings)
     replayed = command([TOP / "eraser", "replay", "--analysis", "both", "--by-site", "--explain", trace])
     is_whole = text.startswith(replayed.stdout) and len(replayed.stdout) > 100 and trace.read_text().endswith("none lost\nend\n")
