@@ -33,7 +33,7 @@ FAILED = (FAILED_TRY, FAILED_READ_TRY)
 OF_THREADS = {START: b"start", JOIN: b"join"}
 ALONE = {IGNORE_ON: b"ignore-on", IGNORE_OFF: b"ignore-off"}
 IN_HEADER, INLINED = 1, 2
-# So many blocks of memory are known to a report at a time.
+# How many blocks of memory are known to a report at a time.
 MOST_BLOCKS = 256
 
 
@@ -127,7 +127,7 @@ class Trace:
         return end
 
     def take(self, count):
-        """So many bytes of the record."""
+        """The next bytes of the record, as many as `count` says."""
         if self.at + count > self.end:
             raise Damage(self.record)
         self.at += count
@@ -357,7 +357,7 @@ def text_of(data):
 
 class Writer:
     """Makes a trace 4. Without dice each number is as short as it may be, and no record is there that says nothing. With `most_calls` each event is reached
-    by so many calls at most, which are random. With `facts` and dice there are facts that say something, and others that nearly do."""
+    by at most that many calls, which are random. With `facts` and dice there are facts that say something, and others that nearly do."""
 
     def __init__(self, dice=None, most_bytes=USUAL_BYTES, most_calls=0, facts=False):
         self.dice, self.most_bytes, self.most_calls, self.facts, self.touched = dice, most_bytes, most_calls, facts, set()
@@ -451,7 +451,7 @@ class Writer:
             self.record(kind, len(content), content)
 
     def fact(self, kind, *numbers):
-        """A fact with these numbers, of so many bytes each, and a name, nothing or what is no name."""
+        """A fact with these numbers, each with how many bytes it has, and a name, nothing or what is no name."""
         if len(self.records) >= self.most_bytes:
             thread = self.thread
             self.end_block()
@@ -560,7 +560,7 @@ def site_in(words):
 
 
 def plain(text, events=0, lost=0):
-    """The text 3 that means what a text means, as a trace 4 of so many events can say it: without blank lines, and with every word as in the formats."""
+    """The text 3 that means what a text means, as a trace 4 of `events` events can say it: without blank lines, and with every word as in the formats."""
     lines = [b"eraser trace 3"]
     for part in parts_of(text):
         if isinstance(part, bytes):
