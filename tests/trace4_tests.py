@@ -221,10 +221,12 @@ def pool(most_bytes=trace4.USUAL_BYTES):
 
 
 def blocks_by_hand(record):
-    """A report knows the last 256 blocks that have a word of its races, without those that lie in later ones."""
-    for count in (255, 256):
+    """A report knows the last 256 blocks that have a word of its races, without those that lie in later ones, and none if no function is named."""
+    for count, is_named in ((255, True), (256, True), (255, False)):
         writer = trace4.Writer()
         node = writer.node_of(b"a.c:2", writer.node_of(b"a.c:1"))
+        if is_named:
+            fact(writer, T.FUNCTION, (writer.places[b"a.c:1"], 4), b"main")
         writer.reuse(b"t1", 0x1000, 64, node)
         for address, sizes in ((0x3000, [64] * 300), (0x2000, [2000] * 300), (0x2000, range(4 * count, 0, -4))):
             for size in sizes:
@@ -236,10 +238,11 @@ def blocks_by_hand(record):
         trace = trace4.Trace(data)
         trace.in_full = {0x1004, 0x2000}
         found, wanted = run_file(None, data, "--by-site"), site_tests.expected(trace.text(), None, True, trace)
-        record(f"trace 4: a block, and {count} behind it", found == wanted and wanted[2] == 1, f"{found}, {wanted}")
+        record(f"trace 4: a block, and {count} behind it{'' if is_named else ', without a function'}", found == wanted and wanted[2] == 1, f"{found}, {wanted}")
         told = re.findall(rb"wrote(.*?) the word at", found[0])
-        oldest = b" byte 4 of a block of 64 bytes reused at a.c:2," if count == 255 else b""
-        record(f"trace 4: which blocks are told of {count + 1}", told == [oldest, b" byte 0 of a block of 4 bytes reused at a.c:2,"], f"{told}")
+        oldest, latest = b" byte 4 of a block of 64 bytes reused at a.c:2,", b" byte 0 of a block of 4 bytes reused at a.c:2,"
+        named = [oldest if count == 255 else b"", latest] if is_named else [b"", b""]
+        record(f"trace 4: which of {count + 1} blocks are reported{'' if is_named else ', without a function'}", told == named, f"{told}")
 
 
 # ---- Damaged traces
