@@ -37,10 +37,9 @@ from analysis_tests import expected_by_site
 from site_tests import TOP, preloaded, run, run_fifo, run_file
 
 RANDOM_TRACES = 200
-# What reports have of calls, of which many have some, and of facts.
-CALLS = (b"called at", b" more\n", b'"calls":', b'"stacks":')
-FACTS = (b"    in Pool::take\n", b" in stats\n", b" stats+", b" of a block of ", b" reused at ", b"\nthreads:\n", b" was started at ", b' "stats" was', b'"functions":[',
-    b'"functions":[null', b'"variable":', b'"block":', b'"site":null}', b'"threads":', b'"name":null', b'"kind":"function"')
+# What reports have of calls and facts.
+SHOWN = (b"called at", b" more\n", b"    in Pool::take\n", b" in stats\n", b" stats+", b" of a block of ", b" reused at ", b"\nthreads:\n", b" was started at ", b' "stats" was',
+    b'"calls":', b'"functions":[', b'"functions":[null', b'"variable":', b'"block":', b'"site":null}', b'"threads":', b'"name":null', b'"stacks":', b'"kind":"function"')
 SCHEMA = json.loads(json_tests.SCHEMA.read_text())
 # Options of a replay. Each trace is replayed with some of them.
 FORMS = ([], ["--explain"], ["--by-site"], ["--format", "json"], ["--format", "sarif"], ["--format", "html"], ["--workers", "3"], ["--strict"],
@@ -72,6 +71,13 @@ def is_sound(text):
 
 def random_texts():
     return [(f"random trace {seed}", reference.random_trace(seed)) for seed in range(RANDOM_TRACES) if is_sound(reference.random_trace(seed))]
+
+
+def with_blocks(text, dice):
+    """The text with blocks of memory that a thread of their own gets before all others do something. Some have a place, and some lie in others."""
+    header = b"eraser trace 3\n"
+    reuses = [b"maker reuse %#x %d%s\n" % (dice.choice((0xff0, 0x1000, 0x1002, 0x1ff8, 0x2000)), dice.randrange(1, 40), dice.choice((b"", b" new.c:5"))) for _ in range(dice.randrange(5))]
+    return header + b"".join(reuses) + text[len(header):] if text.startswith(header) else text
 
 
 def loss_of(dice):
@@ -162,20 +168,21 @@ def check_calls(record, name, text, data, way):
         if "sarif" in form and want[2] < 2:
             wrong = list(sarif_tests.faults(json.loads(found[0] or b"{}")))
             record(f"trace 4: the calls of {name}, {form} by what SARIF requires", not wrong, f"{wrong}")
-        yield from ((word, form) for word in CALLS + FACTS if word in found[0])
+        yield from ((word, form) for word in SHOWN if word in found[0])
 
 
 def shown_calls(record):
     met = collections.Counter()
     for at, (name, text) in enumerate(random_texts()):
+        text = with_blocks(text, random.Random(at))
         data = trace4.encode(text, random.Random(at), most_bytes=random.Random(at).choice([100, 65536]), most_calls=at % 14, facts=at % 4 > 0)
         met.update(check_calls(record, name, trace4.text_of(data), data, list(READ_ONCE)[at % 3]))
     shown = collections.Counter()
     for (word, _), times in met.items():
         shown[word] += times
-    record("trace 4: reports show what a trace says", all(shown[word] > 20 for word in CALLS) and all(shown[word] > 5 for word in FACTS), f"{shown}")
+    record("trace 4: reports show what a trace says", all(shown[word] > 20 for word in SHOWN), f"{shown}")
     for analysis in ("happens-before", "both"):
-        rare = [word for word in (b"called at", b"    in Pool::take\n", b" stats+", b" of a block of ", b"\nthreads:\n") if met[word, f"by site of {analysis}"] < 3]
+        rare = [word for word in (b"called at", b"    in Pool::take\n", b" stats+", b" of a block of ", b"\nthreads:\n") if met[word, f"by site of {analysis}"] < 10]
         record(f"trace 4: reports by site of {analysis} show what a trace says", not rare, f"{rare} {met}")
     # The calls of the race, of the write that it is unordered with, and none where a place has no caller.
     data = of_blocks([*BEGIN, named(T.PLACE, b"main.c:3"), record_of(T.NEW_NODE, 0, bytes([2, 0, 0, 0, 0])), record_of(T.NEW_NODE, 4, bytes([0, 0, 0, 0, 0])), record_of(T.NEW_NODE, 5, bytes([1, 0, 0, 0, 1])),
