@@ -235,7 +235,7 @@ def blocks_by_hand(record):
         if is_named:
             fact(writer, T.FUNCTION, (writer.places[b"a.c:1"], 4), b"main")
         writer.reuse(b"t1", 0x1000, 64, node)
-        for address, sizes in ((0x3000, [64] * 300), (0x2000, [2000] * 300), (0x2000, range(4 * count, 0, -4))):
+        for address, sizes in ((0x3000, [64] * 300), (0x2000, [4] * 300), (0x2000, range(4 * count, 0, -4))):
             for size in sizes:
                 writer.reuse(b"t1", address, size, node)
         for word in (0x1004, 0x2000):
