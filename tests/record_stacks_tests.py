@@ -120,10 +120,11 @@ def says_what_it_does(folder, findings, source, compiler, level):
 
 
 def own_memory(findings, trace, source, program):
-    """Of the blocks that are got for a thread the C library's own are told, where the program created it, and none that the recorder asked for."""
+    """Of the blocks that are got for a thread the C library's own are told, where the program created it, and none that the recorder asked for. One
+    more is given back."""
     marks, first = lines_of(source), trace.events[0].thread
-    got = [(event.thread == first, outside(trace, event.node, source, marks)[:1]) for event in in_brackets(trace)]
-    findings.check(f"the blocks of {program.name}", got == [(True, ["begins"]), (True, ["main-frees"])], f"{got}")
+    got = [(event.thread == first, outside(trace, event.node, source, marks)[:1]) for event in trace.events if event.kind == trace4.REUSE]
+    findings.check(f"the blocks of {program.name}", got == [(True, ["begins"]), (True, ["main-frees"]), (True, ["frees"])], f"{got}")
 
 
 def recorded(folder, findings, name, compiler, level):
@@ -191,10 +192,10 @@ def named(folder, findings, compiler, level):
     findings.check(f"the functions of {program.name}", not wrong, f"{wrong} {trace.damage}")
     blocks = {(str(event.size), *calls) for event in trace.events if event.kind == trace4.REUSE and (calls := outside(trace, event.node, source, marks)) and calls[0] in marks.values()}
     findings.check(f"the blocks of {program.name}", blocks == expected(source, "BLOCK"), f"{sorted(blocks ^ expected(source, 'BLOCK'))}")
-    # With --order a block that is got is in a bracket, and one that is given back is not. Without it there are no brackets.
+    # So they are with --order, and none is in a bracket: happens-before may report it.
     ordered = Recording(folder, program, "--order").traces[0]
-    got = {(str(event.size), *calls) for event in in_brackets(ordered) if (calls := outside(ordered, event.node, source, marks)) and calls[0] in marks.values()}
-    findings.check(f"the brackets of {program.name}", not list(in_brackets(trace)) and blocks - got == {("24", "moved", "main")} and got < blocks, f"{blocks ^ got}")
+    got = {(str(event.size), *calls) for event in ordered.events if event.kind == trace4.REUSE and (calls := outside(ordered, event.node, source, marks)) and calls[0] in marks.values()}
+    findings.check(f"the blocks of {program.name} with --order", not list(in_brackets(ordered)) and got == blocks, f"{blocks ^ got}")
     without_debug(folder, findings, program, {pair for pair in functions if pair[0] in marks.values()})
 
 
@@ -212,9 +213,10 @@ def blocks_of_allocator(folder, findings):
     program = build(folder, findings, source, "gcc", "-O1")
     recording, marks = Recording(folder, program, "--order", env=preload(folder, findings)), lines_of(source)
     trace = recording.traces[0]
-    got = {(str(event.size), *calls) for event in in_brackets(trace) if (calls := outside(trace, event.node, source, marks)) and calls[0] in marks.values()}
+    got = {(str(event.size), *calls) for event in trace.events if event.kind == trace4.REUSE and (calls := outside(trace, event.node, source, marks)) and calls[0] in marks.values()}
     wanted = {block for block in expected(source, "BLOCK") if block[:2] not in (("60", "paged"), ("24", "moved"))}
-    findings.check("the blocks of a preloaded allocator", not recording.fault() and got == wanted, f"{recording.fault()} {got ^ wanted}")
+    given_back = {("20", "grown", "main"), ("16", "moved", "main")}
+    findings.check("the blocks of a preloaded allocator", not recording.fault() and got == wanted | given_back, f"{recording.fault()} {got ^ wanted}")
 
 
 def without_debug(folder, findings, program, functions):

@@ -331,17 +331,12 @@ static void reuse(const struct slot *slot)
     pages_reuse(&reuse, slot->first & REUSE_MASK, reuse_size(slot));
 }
 
-/* A replay takes each page of a block by itself, also those that are never accessed: of longer blocks than one reuse has nothing is written. In a bracket,
- * because happens-before would report that memory which was given back is still in use as a fault of the call that gets it. */
+/* A replay takes each page of a block by itself, also those that are never accessed: of longer blocks than one reuse has nothing is written. In no
+ * bracket: if memory is used after it was given back, happens-before reports this reuse, and nothing else may show that use. */
 static void take_memory(const struct slot *slot)
 {
-    if (reuse_size(slot) > REUSE_BYTES)
-        return;
-    if (options.orders)
-        change_ignoring(slot->thread, true);
-    trace_reuse(trace_thread(slot->thread), slot->first & REUSE_MASK, reuse_size(slot), slot->second);
-    if (options.orders)
-        change_ignoring(slot->thread, false);
+    if (reuse_size(slot) <= REUSE_BYTES)
+        trace_reuse(trace_thread(slot->thread), slot->first & REUSE_MASK, reuse_size(slot), slot->second);
 }
 
 static void take(const struct slot *slot)
