@@ -1,5 +1,5 @@
 -- What the words of a command line ask for.
-use Rattle.std.specs.Prelude.{ℕ, ◌≡◌, ◌&&◌, Bool, false, List, [], ◌∷◌, None, codes, String, string_bytes}
+use Rattle.std.specs.Prelude.{ℕ, ◌≡◌, ◌&&◌, Bool, false, true, List, [], ◌∷◌, None, codes, String, string_bytes}
 use Rattle.std.specs.List.{list_any}
 use Rattle.std.specs.Str.{bytes_eq}
 use Rattle.er_report.specs.declared.reports.Analysis.TheVariants.{Lockset}
@@ -44,6 +44,13 @@ asks_hints (Replay replay) = replay.hints
 asks_hints (Explain explain) = false
 asks_hints (Print trace) = false
 asks_hints (Demo demo) = false
+
+-- it is a replay with hints, or no replay
+abbrev pub gives_hints : Request → Bool
+gives_hints (Replay replay) = replay.hints
+gives_hints (Explain explain) = true
+gives_hints (Print trace) = true
+gives_hints (Demo demo) = true
 
 -- behind the program's name stand this command and `-` alone
 abbrev pub takes_input : {A : Type 0} → List ℕ → List (String A) → Bool

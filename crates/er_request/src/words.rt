@@ -1,6 +1,6 @@
 //! What the words of a command line ask for.
 ghost use Rattle.std.specs.Prelude.{◌≡◌, ◌||◌, false, true, IfOk, IsOk};
-ghost use Rattle.er_request.specs.Words.{IsUsual, asks_hints, asks_print, asks_progress, asks_until_fault, asks_usual, names, names_hints, names_progress, names_until_fault, prints_input, replays_input, takes_input, usual_limit};
+ghost use Rattle.er_request.specs.Words.{IsUsual, asks_hints, asks_print, asks_progress, asks_until_fault, asks_usual, gives_hints, names, names_hints, names_progress, names_until_fault, prints_input, replays_input, takes_input, usual_limit};
 
 use crate::reading::read_by_parser;
 use crate::request::{Replay, Request};
@@ -19,6 +19,7 @@ pub fn read_request<'a>(
     ensures until_fault { IfOk result (λ request. asks_until_fault request ≡ true → names_until_fault words.now ≡ true) }
     ensures progress { IfOk result (λ request. asks_progress request ≡ true → names_progress words.now ≡ true) }
     ensures hints { IfOk result (λ request. asks_hints request ≡ true → (names_hints words.now || on_terminal) ≡ true) }
+    ensures terminal { on_terminal ≡ true → IfOk result (λ request. gives_hints request ≡ true) }
     ensures usual { replays_input words.now ≡ true → IsOk result }
     ensures asks { replays_input words.now ≡ true → IfOk result (asks_usual on_terminal) }
     ensures prints { prints_input words.now ≡ true → IsOk result × IfOk result asks_print }
@@ -79,6 +80,7 @@ fn if_named<'a>(request: Request<'a>, words: &[String], on_terminal: bool) -> Re
     ensures until_fault { asks_until_fault result ≡ true → names_until_fault words.now ≡ true }
     ensures progress { asks_progress result ≡ true → names_progress words.now ≡ true }
     ensures hints { asks_hints result ≡ true → (names_hints words.now || on_terminal) ≡ true }
+    ensures terminal { on_terminal ≡ true → gives_hints result ≡ true }
 {
     match request {
         Request::Replay(mut replay) => {
