@@ -62,7 +62,7 @@ enum event_kind {
     EVENT_STORED,     /* first: atomic, stored by an operation that doesn't release, in a thread that has released by a fence, or if the ring asks for flow */
     EVENT_LET_GO,     /* first: object that a holder lets go, size: enum object_kind: it signals and awaits it, if anybody has signalled it before */
     EVENT_LOADED,     /* first: atomic, loaded by an operation that doesn't acquire, size: LOADS_FOR_FENCES, LOADS_FOR_FLOW or both */
-    EVENT_TAKEN,      /* as EVENT_REUSE, of memory that a call gives to the program. Only calls are recorded with these */
+    EVENT_TAKEN,      /* as EVENT_REUSE, of memory that a call gives to the program: a fact of the trace. Recorded only with --stacks */
     EVENT_THREAD_END, /* the thread runs no more of the program's code, and its pthread_t may become another's */
 };
 

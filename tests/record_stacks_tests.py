@@ -28,7 +28,7 @@ PROGRAMS = SOURCES / "stacks"
 # Of those that are linked together with another file, which.
 PARTS = {"thrown": "through.c"}
 # Programs that say more than which stacks there are.
-ALONE = ("crowd.c", "deep.c", "interrupted.c", "many.c", "named.cpp")
+ALONE = ("crowd.c", "deep.c", "freed.c", "interrupted.c", "many.c", "named.cpp")
 # Those that --order has more to say of.
 ORDERED = ("events", "once")
 LEFT_OUT = "calls-left-out"
@@ -65,6 +65,29 @@ KINDS = {trace4.LOCK: "lock", trace4.UNLOCK: "unlock", trace4.READ_LOCK: "rlock"
     trace4.SIGNAL: "signal", trace4.AWAIT: "await", trace4.REUSE: "reuse"}
 
 
+# A block of memory that the program got, and how many events come before.
+GotBlock = collections.namedtuple("GotBlock", "events address size node")
+
+
+class Trace(trace4.Trace):
+    """A trace, with the blocks that the program got."""
+
+    def __init__(self, data):
+        self.got_blocks = []
+        super().__init__(data)
+
+    def read_fact(self, kind, content):
+        if kind == trace4.LOCK_FACTS and len(content) == 16:
+            address, size, node = (int.from_bytes(part, "little") for part in (content[:6], content[6:12], content[12:]))
+            self.check(size and address + size <= trace4.ADDRESS_END and node < len(self.nodes))
+            self.got_blocks.append(GotBlock(len(self.events), address, size, node))
+        super().read_fact(kind, content)
+
+    def block_before(self, events, address):
+        """The last block that was got before an event and has an address."""
+        return next((block for block in reversed(self.got_blocks) if block.events <= events and block.address <= address < block.address + block.size), None)
+
+
 class Recording:
     """One run of a program with --stacks, and of what it started."""
 
@@ -72,7 +95,7 @@ class Recording:
         traces = folder / f"{program.name}.traces"
         self.done = command([RUN, *words, "-o", f"{traces}/", "--limit", "0", "--stacks", program], **more)
         self.paths = sorted(traces.glob("*.trace"))
-        self.traces = [trace4.Trace(path.read_bytes()) for path in self.paths]
+        self.traces = [Trace(path.read_bytes()) for path in self.paths]
 
     def fault(self):
         if self.done.returncode or not self.traces or any(trace.damage or trace.lost or not trace.has_ended for trace in self.traces):
@@ -101,6 +124,21 @@ def outside(trace, node, source, marks):
     return [name_of(place.decode(), source, marks) for place, _ in itertools.dropwhile(lambda part: part[1] & trace4.IN_HEADER, trace.stack(node))]
 
 
+def sizes_of(trace, memory, source):
+    """How many bytes of memory are got or given back at each line with a mark, and the calls around that."""
+    marks = lines_of(source)
+    told = [(str(one.size), *outside(trace, one.node, source, marks)) for one in memory]
+    return {one for one in told if one[1:2] and one[1] in marks.values()}
+
+
+def blocks_of(trace, source):
+    return sizes_of(trace, trace.got_blocks, source)
+
+
+def given_of(trace, source):
+    return sizes_of(trace, [event for event in trace.events if event.kind == trace4.REUSE], source)
+
+
 def functions_of(trace, source):
     """The places of a source, and the function of each, or `-`."""
     return {place.decode(): trace.functions.get(number, b"-").decode() for number, place in enumerate(trace.places) if place.startswith(source.name.encode() + b":")}
@@ -120,11 +158,13 @@ def says_what_it_does(folder, findings, source, compiler, level):
 
 
 def own_memory(findings, trace, source, program):
-    """Of the blocks that are got for a thread the C library's own are told, where the program created it, and none that the recorder asked for. One
-    more is given back."""
+    """Of the blocks that are got for a thread the C library's own are told, where the program created it, and none that the recorder asked for. The
+    other one is given back."""
     marks, first = lines_of(source), trace.events[0].thread
-    got = [(event.thread == first, outside(trace, event.node, source, marks)[:1]) for event in trace.events if event.kind == trace4.REUSE]
-    findings.check(f"the blocks of {program.name}", got == [(True, ["begins"]), (True, ["main-frees"]), (True, ["frees"])], f"{got}")
+    got = {tuple(outside(trace, block.node, source, marks)) for block in trace.got_blocks}
+    given = [(event.thread == first, outside(trace, event.node, source, marks)[:1]) for event in trace.events if event.kind == trace4.REUSE]
+    is_right = got == expected(source, "BLOCK") and len(trace.got_blocks) == 2 and given == [(True, ["frees"])]
+    findings.check(f"the blocks of {program.name}", is_right, f"{got} {given}")
 
 
 def recorded(folder, findings, name, compiler, level):
@@ -190,12 +230,9 @@ def named(folder, findings, compiler, level):
     functions = {(name_of(place, source, marks), name) for place, name in functions_of(trace, source).items()}
     wrong = {pair for pair in functions ^ expected(source, "FUNCTION") if pair[0] in marks.values()}
     findings.check(f"the functions of {program.name}", not wrong, f"{wrong} {trace.damage}")
-    blocks = {(str(event.size), *calls) for event in trace.events if event.kind == trace4.REUSE and (calls := outside(trace, event.node, source, marks)) and calls[0] in marks.values()}
-    findings.check(f"the blocks of {program.name}", blocks == expected(source, "BLOCK"), f"{sorted(blocks ^ expected(source, 'BLOCK'))}")
-    # So they are with --order, and none is in a bracket: happens-before may report it.
-    ordered = Recording(folder, program, "--order").traces[0]
-    got = {(str(event.size), *calls) for event in ordered.events if event.kind == trace4.REUSE and (calls := outside(ordered, event.node, source, marks)) and calls[0] in marks.values()}
-    findings.check(f"the blocks of {program.name} with --order", not list(in_brackets(ordered)) and got == blocks, f"{blocks ^ got}")
+    for ordered in (trace, Recording(folder, program, "--order").traces[0]):
+        wrong = blocks_of(ordered, source) ^ expected(source, "BLOCK") | given_of(ordered, source) ^ expected(source, "GIVEN")
+        findings.check(f"the blocks of {program.name}", not wrong and not list(in_brackets(ordered)), f"{sorted(wrong)}")
     without_debug(folder, findings, program, {pair for pair in functions if pair[0] in marks.values()})
 
 
@@ -211,12 +248,33 @@ def blocks_of_allocator(folder, findings):
     """The blocks of a preloaded allocator, but for the one that the C library gives, since the allocator has no such function."""
     source = PROGRAMS / "named.cpp"
     program = build(folder, findings, source, "gcc", "-O1")
-    recording, marks = Recording(folder, program, "--order", env=preload(folder, findings)), lines_of(source)
-    trace = recording.traces[0]
-    got = {(str(event.size), *calls) for event in trace.events if event.kind == trace4.REUSE and (calls := outside(trace, event.node, source, marks)) and calls[0] in marks.values()}
-    wanted = {block for block in expected(source, "BLOCK") if block[:2] not in (("60", "paged"), ("24", "moved"))}
-    given_back = {("20", "grown", "main"), ("16", "moved", "main")}
-    findings.check("the blocks of a preloaded allocator", not recording.fault() and got == wanted | given_back, f"{recording.fault()} {got ^ wanted}")
+    recording = Recording(folder, program, "--order", env=preload(folder, findings))
+    trace, fault = recording.traces[0], recording.fault()
+    wanted = {block for block in expected(source, "BLOCK") if block[:2] != ("60", "paged")}
+    given = {("20", "grown", "main"), ("16", "moved", "main")}
+    wrong = blocks_of(trace, source) ^ wanted | given_of(trace, source) ^ given
+    findings.check("the blocks of a preloaded allocator", not fault and not wrong, f"{fault} {wrong}")
+
+
+def freed(folder, findings, compiler, level):
+    """A use of freed memory is reported as without calls, though the program got the same bytes again. Each access is in the block that was there."""
+    source, program, recording, found = recorded(folder, findings, "freed.c", compiler, level)
+    trace, marks = recording.traces[0], lines_of(source)
+    wrong = found ^ expected(source) or blocks_of(trace, source) ^ expected(source, "BLOCK")
+    findings.check(f"the calls of {program.name}", not recording.fault() and not wrong, f"{recording.fault()} {wrong}")
+    blocks = {}
+    for number, event in enumerate(trace.events):
+        block = trace.block_before(number, event.address) if event.kind == "access" else None
+        if block:
+            blocks[outside(trace, event.node, source, marks)[0]] = (block.size, event.address - block.address, outside(trace, block.node, source, marks)[0])
+    wanted = {"begins": (64, 12, "first"), "uses": (64, 12, "first"), "races": (64, 12, "again")}
+    findings.check(f"the blocks of {program.name}", blocks == wanted, f"{blocks}")
+    site = next(f"{source.name}:{number}" for number, mark in marks.items() if mark == "races")
+    for words in (["--trace", "4"], ["--stacks"]):
+        path = folder / f"{program.name}.trace"
+        done = command([RUN, "--order", *words, "-o", path, program])
+        told = re.findall(r"^line \d+: (race|unordered): t1 write \S+ at (\S+), holds none$|(: unordered: \S+ reuse)", command([TOP / "eraser", "replay", "--analysis", "both", path]).stdout, re.M)
+        findings.check(f"the use of freed memory in {program.name}, {words[-1]}", told == [("race", site, ""), ("unordered", site, "")], f"{done} {told}")
 
 
 def without_debug(folder, findings, program, functions):
@@ -267,7 +325,7 @@ def tests(record):
         folder = pathlib.Path(name)
         ways = [(compiler, level) for compiler in ("gcc", "clang") for level in LEVELS]
         done = [pool.submit(says_what_it_does, folder, findings, source, *way) for source in sources for way in ways]
-        done += [pool.submit(test, folder, findings, *way) for test in (crowd, deep, interrupted, named) for way in ways]
+        done += [pool.submit(test, folder, findings, *way) for test in (crowd, deep, freed, interrupted, named) for way in ways]
         done += [pool.submit(regions, folder, findings, level) for level in LEVELS]
         done += [pool.submit(blocks_of_allocator, folder, findings), pool.submit(many, folder, findings), pool.submit(refused, folder, findings, "--stacks", "a text has no stacks")]
         for one in done:

@@ -84,7 +84,7 @@ static inline void emit_taken(const void *block, size_t size, uint64_t place)
         emit(EVENT_TAKEN, (uint32_t)size, packed(block, size), place);
 }
 
-/* A block of which no free is seen may be used as another one before. */
+/* If no free is seen, the memory of a block may be part of another one later, and nobody would know of that. */
 static inline void note_block(const void *block, size_t size, uint64_t place)
 {
     if (KEEPS_STACKS && is_free_seen())

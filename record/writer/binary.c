@@ -22,10 +22,11 @@ static const char magic[8] = "\xe5" "eraser\x04";
 #define ACCESS_BYTES 16u
 #define SLOTS 256
 
-/* Kinds of records. */
+/* Kinds of records. The facts of locks and those of blocks have different lengths. */
 enum kind {
     KIND_THREAD = 0, KIND_NODE = 1, KIND_REUSE = 16, KIND_STORE = 19, KIND_LOAD = 20, KIND_THREAD_NAME = 21, KIND_LOCK_NAME = 22, KIND_PLACE = 23,
-    KIND_NEW_NODE = 24, KIND_NOTE = 25, KIND_VARIABLE_FACT = 26, KIND_FUNCTION_FACT = 27, KIND_THREAD_FACT = 28, KIND_LOCK_FACT = 29, KIND_LOST = 30, KIND_END = 31,
+    KIND_NEW_NODE = 24, KIND_NOTE = 25, KIND_VARIABLE_FACT = 26, KIND_FUNCTION_FACT = 27, KIND_THREAD_FACT = 28, KIND_LOCK_FACT = 29, KIND_BLOCK_FACT = 29,
+    KIND_LOST = 30, KIND_END = 31,
 };
 static const uint8_t kinds[VERBS] = {2, 3, 4, 5, 10, 11, 12, 13, 14, 15, 6, 7, 8, 9};
 
@@ -169,6 +170,12 @@ static inline uint32_t node_at(uint64_t place)
     return place ? node_of(place, caller_of_event) : 0;
 }
 
+/* The same of memory, where the call around an event serves for a place that is none. */
+static inline uint32_t node_or_caller(uint64_t place)
+{
+    return place ? node_of(place, caller_of_event) : caller_of_event;
+}
+
 /* The end of the records of an event that no text shows. */
 static inline void end_hidden_event(const char *at)
 {
@@ -279,7 +286,7 @@ static void write_access(struct thread *thread, bool is_write, uint64_t address,
 
 static void write_reuse(struct thread *thread, uint64_t address, uint64_t bytes, uint64_t place)
 {
-    uint32_t node = place ? node_of(place, caller_of_event) : caller_of_event;
+    uint32_t node = node_or_caller(place);
     char *at = begin_event(thread);
     if (at)
         end_event(thread, put(put_operand(put_node(at, node), KIND_REUSE, bytes), &address, 6));
@@ -326,7 +333,7 @@ static void write_of_atomic(struct thread *thread, bool stores, uint64_t address
 
 /* ---- Facts ---- */
 
-/* A record of so many bytes, unless the limit is reached. */
+/* A record with these bytes, unless the limit is reached: then no event comes behind it. */
 static void write_bytes(enum kind kind, const void *bytes, size_t count)
 {
     char *at = output_is_beyond_limit(OUTPUT_ROOM) ? NULL : room();
@@ -357,6 +364,14 @@ static void write_variable_fact(const struct variable *variable)
     size_t bytes = legal_site(fact + 12, variable->name);
     put(put(fact, &variable->address, 6), &variable->size, 6);
     write_bytes(KIND_VARIABLE_FACT, fact, 12 + bytes);
+}
+
+static void write_block_fact(uint64_t address, uint64_t bytes, uint64_t place)
+{
+    char fact[16];
+    uint32_t node = node_or_caller(place);
+    put(put(put(fact, &address, 6), &bytes, 6), &node, 4);
+    write_bytes(KIND_BLOCK_FACT, fact, sizeof fact);
 }
 
 static void write_facts(void)
@@ -395,5 +410,5 @@ static void end(uint64_t lost)
 
 const struct form binary_form = {
     .begin = begin, .access = write_access, .reuse = write_reuse, .of_lock = write_of_lock, .of_thread = write_of_thread, .alone = write_alone,
-    .of_atomic = write_of_atomic, .created = keep_creation, .comment = write_comment, .end = end, .end_part = end_block,
+    .of_atomic = write_of_atomic, .created = keep_creation, .got = write_block_fact, .comment = write_comment, .end = end, .end_part = end_block,
 };

@@ -331,14 +331,6 @@ static void reuse(const struct slot *slot)
     pages_reuse(&reuse, slot->first & REUSE_MASK, reuse_size(slot));
 }
 
-/* A replay takes each page of a block by itself, also those that are never accessed: of longer blocks than one reuse has nothing is written. In no
- * bracket: if memory is used after it was given back, happens-before reports this reuse, and nothing else may show that use. */
-static void take_memory(const struct slot *slot)
-{
-    if (reuse_size(slot) <= REUSE_BYTES)
-        trace_reuse(trace_thread(slot->thread), slot->first & REUSE_MASK, reuse_size(slot), slot->second);
-}
-
 static void take(const struct slot *slot)
 {
     enum event_kind kind = slot_kind(slot);
@@ -358,7 +350,7 @@ static void take(const struct slot *slot)
     case EVENT_AWAIT: await_object(slot, (enum object_kind)(slot->size % OBJECT_KINDS)); break;
     case EVENT_REUSE:
     case EVENT_FREE: reuse(slot); break;
-    case EVENT_TAKEN: take_memory(slot); break;
+    case EVENT_TAKEN: trace_got(slot->first & REUSE_MASK, reuse_size(slot), slot->second); break;
     default: take_rare(slot); break;
     }
 }

@@ -44,9 +44,11 @@ struct form {
     void (*of_lock)(struct thread *thread, enum verb verb, struct label *lock, uint64_t place);
     void (*of_thread)(struct thread *thread, enum verb verb, struct thread *other, uint64_t place);
     void (*alone)(struct thread *thread, enum verb verb);
-    /* An atomic operation that orders nothing, and the call that created a thread: NULL of a text, which has neither. */
+    /* An atomic operation that orders nothing, the call that created a thread, and a block of memory that a call gave to the program: NULL of a text,
+     * which has none of them. The last two are no events. */
     void (*of_atomic)(struct thread *thread, bool stores, uint64_t address, uint64_t place);
     void (*created)(struct thread *thread, uint64_t place);
+    void (*got)(uint64_t address, uint64_t bytes, uint64_t place);
     void (*comment)(const char *text, size_t bytes);
     void (*end)(uint64_t lost);
     /* Before the buffer is written. */

@@ -130,10 +130,14 @@ void trace_access_beyond(struct thread *thread, bool is_write, uint64_t address,
         trace_form->access(thread, is_write, address, most, place);
 }
 
+static uint64_t place_if_instrumented(uint64_t place)
+{
+    return place && sites_has_instrumented(place) ? place : 0;
+}
+
 void trace_reuse(struct thread *thread, uint64_t address, uint64_t bytes, uint64_t place)
 {
-    if (place && !sites_has_instrumented(place))
-        place = 0;
+    place = place_if_instrumented(place);
     while (bytes) {
         uint64_t part = bytes < REUSE_BYTES ? bytes : REUSE_BYTES;
         if (address + part <= ADDRESS_END)
@@ -143,6 +147,12 @@ void trace_reuse(struct thread *thread, uint64_t address, uint64_t bytes, uint64
         address += part;
         bytes -= part;
     }
+}
+
+void trace_got(uint64_t address, uint64_t bytes, uint64_t place)
+{
+    if (trace_form->got)
+        trace_form->got(address, bytes, place_if_instrumented(place));
 }
 
 void trace_lock(struct thread *thread, enum verb verb, struct label *lock, uint64_t place)

@@ -1,5 +1,5 @@
-/* Events that are no accesses have their places and calls as well. EVENT says of which kind they are, and names all of them. The C library takes memory for
- * a thread.
+/* Events that are no accesses have their places and calls as well. EVENT says of which kind they are, and names all of them. BLOCK names the calls
+ * that got memory. The C library takes some for a thread.
  *
  * EVENT start begins main-begins
  * EVENT lock takes main-works
@@ -13,8 +13,8 @@
  * EVENT signal stores main-stores
  * EVENT join ends main-ends
  * EVENT reuse frees main-frees
- * EVENT reuse main-frees
- * EVENT reuse begins main-begins
+ * BLOCK main-frees
+ * BLOCK begins main-begins
  */
 #define _GNU_SOURCE
 #include "marks.h"

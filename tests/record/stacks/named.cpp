@@ -1,5 +1,5 @@
 /* Names of functions, and blocks of memory. FUNCTION names the function of a line with a mark, with its scopes. BLOCK says how many bytes a block has, and
- * the marks of the call that got it and of the calls around that. (The 24 bytes of `moved` are what `realloc` gives back.)
+ * the marks of the call that got it and of the calls around that. GIVEN says the same of one that a call gives back.
  *
  * FUNCTION hidden hidden
  * FUNCTION take pool::Pool::take
@@ -27,7 +27,7 @@
  * BLOCK 16 first main
  * FUNCTION moved get_blocks
  * BLOCK 4000 moved main
- * BLOCK 24 moved main
+ * GIVEN 24 moved main
  * FUNCTION small get_blocks
  * BLOCK 20 small main
  * FUNCTION grown get_blocks
@@ -51,6 +51,9 @@
  * FUNCTION longest get_blocks
  * BLOCK 4194304 longest main
  * FUNCTION longer get_blocks
+ * BLOCK 4194305 longer main
+ * FUNCTION largest get_blocks
+ * BLOCK 5368709120 largest main
  * FUNCTION array get_blocks
  * BLOCK 28 array main
  * FUNCTION wide get_blocks
@@ -177,6 +180,7 @@ APART static void get_blocks()
     use(new (std::nothrow) Five()); /* @nothrow */
     use(malloc(4194304)); /* @longest */
     use(malloc(4194305)); /* @longer */
+    mmap(nullptr, 5368709120, PROT_NONE, MAP_PRIVATE | MAP_ANONYMOUS | MAP_NORESERVE, -1, 0); /* @largest */
     use(new int[7]()); /* @array */
     use(new Wide()); /* @wide */
     auto unique = std::make_unique<Five>(); /* @unique */
