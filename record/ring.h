@@ -9,7 +9,7 @@
 #include <stdatomic.h>
 #include <stdint.h>
 
-#define RING_MAGIC 0x38676e6972617265u /* "eraring8" in memory */
+#define RING_MAGIC 0x39676e6972617265u /* "eraring9" in memory */
 #define RING_BITS 18
 #define RING_SLOTS (1u << RING_BITS)
 #define RING_MASK (RING_SLOTS - 1)
@@ -202,12 +202,11 @@ static inline uint32_t ring_round(uint64_t ticket)
     return (uint32_t)(ticket >> RING_BITS) + 1;
 }
 
-/* Neighbouring tickets lie in different cache lines, so that threads that draw one after the other don't write to one line. Within
- * 256 tickets, ticket i and ticket i + 128 share a line. */
+/* Slots stand in the order of their tickets, which the writer reads faster than any other. Two of them share a cache line: threads that draw one after the
+ * other lose no more by that than by two lines that they have to fetch. */
 static inline uint32_t ring_place(uint64_t ticket)
 {
-    uint32_t low = (uint32_t)ticket & 255;
-    return ((uint32_t)ticket & RING_MASK & ~255u) | (low & 127) << 1 | low >> 7;
+    return (uint32_t)ticket & RING_MASK;
 }
 
 #endif
