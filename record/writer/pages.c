@@ -45,7 +45,7 @@ void pages_mark_new(uint64_t address, uint64_t bytes)
         uint32_t at = page_in_region(page << PAGE_BITS);
         get_region(page << PAGE_BITS)->accessed[at / 64] |= UINT64_C(1) << at % 64;
     }
-    recent_pages[end % RECENT_PAGES] = end;
+    *recent_page(end) = end;
 }
 
 void pages_mark_lock(uint64_t address)

@@ -8,9 +8,16 @@
 #include "trace.h"
 
 #define PAGE_BITS 12
-/* Pages that were marked lately: most accesses are to one of these again. */
+/* Pages that were marked lately: most accesses are to one of these again. The heaps of threads are 64 MiB apart, so pages that are this far apart have
+ * different places. */
 #define RECENT_PAGES 64u
+#define HEAP_BITS 26
 extern uint64_t recent_pages[RECENT_PAGES];
+
+static inline uint64_t *recent_page(uint64_t page)
+{
+    return &recent_pages[(page ^ page >> (HEAP_BITS - PAGE_BITS)) % RECENT_PAGES];
+}
 
 void pages_mark_new(uint64_t address, uint64_t bytes);
 
@@ -18,7 +25,7 @@ void pages_mark_new(uint64_t address, uint64_t bytes);
 static inline void pages_mark(uint64_t address, uint64_t bytes)
 {
     uint64_t page = address >> PAGE_BITS;
-    if (__builtin_expect(recent_pages[page % RECENT_PAGES] != page || (address + bytes - 1) >> PAGE_BITS != page, 0))
+    if (__builtin_expect(*recent_page(page) != page || (address + bytes - 1) >> PAGE_BITS != page, 0))
         pages_mark_new(address, bytes);
 }
 
