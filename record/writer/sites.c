@@ -322,20 +322,12 @@ struct ranges {
     struct range *all;
 };
 
-/* A function as the symbols have it. */
-struct named {
-    Dwarf_Addr begin, end;
-    const char *name;
-    int rank; /* of several at one place the last one counts: libdw's choice */
-};
-
 /* What was found out about a file. */
 struct facts {
-    bool has_ranges, has_named;
+    bool has_ranges;
     char is_instrumented; /* 'y', 'n', or 0: not known */
     struct ranges ranges;
-    size_t named_count;
-    struct named *named; /* by rising begin */
+    struct symbols functions, variables;
 };
 
 static struct facts *get_facts(Dwfl_Module *file)
@@ -392,7 +384,8 @@ static int free_facts(Dwfl_Module *file, void **place, const char *name, Dwarf_A
     struct facts *facts = *place;
     if (facts) {
         free(facts->ranges.all);
-        free(facts->named);
+        free(facts->functions.all);
+        free(facts->variables.all);
     }
     free(facts);
     return DWARF_CB_OK;
@@ -534,6 +527,13 @@ static void grow(void)
     free(old);
 }
 
+const struct symbol *sites_variable(uint64_t address)
+{
+    Dwfl *all = sites_files();
+    Dwfl_Module *file = all ? dwfl_addrmodule(all, address) : NULL;
+    return file ? symbols_find(&get_facts(file)->variables, file, STT_OBJECT, address) : NULL;
+}
+
 bool sites_has_instrumented(uint64_t place)
 {
     Dwfl_Module *file = file_of(place);
@@ -577,48 +577,13 @@ static const struct site *callers_of(struct function *inlined, Dwarf_Die *unit)
     return keep(&site, sizeof site);
 }
 
-/* Of several names of one place a global one counts most, then a weak one. */
-static int rank_of(const GElf_Sym *symbol)
-{
-    int binding = GELF_ST_BIND(symbol->st_info);
-    return binding == STB_GLOBAL ? 2 : binding == STB_WEAK;
-}
-
-static int compare_named(const void *one, const void *other)
-{
-    const struct named *first = one, *second = other;
-    if (first->begin != second->begin)
-        return first->begin < second->begin ? -1 : 1;
-    return first->rank != second->rank ? first->rank - second->rank : strcmp(second->name, first->name);
-}
-
-/* Read once: libdw would look through all symbols of the file for each place. */
-static void read_named(Dwfl_Module *file, struct facts *facts)
-{
-    int count = dwfl_module_getsymtab(file);
-    facts->named = count > 0 ? get_memory(NULL, (size_t)count * sizeof *facts->named) : NULL;
-    for (int i = 1; i < count; i++) {
-        GElf_Sym symbol;
-        GElf_Addr begin;
-        const char *found = dwfl_module_getsym_info(file, i, &symbol, &begin, NULL, NULL, NULL);
-        if (found && *found && GELF_ST_TYPE(symbol.st_info) == STT_FUNC && symbol.st_size && symbol.st_shndx != SHN_UNDEF)
-            facts->named[facts->named_count++] = (struct named){begin, begin + symbol.st_size, found, rank_of(&symbol)};
-    }
-    if (facts->named_count)
-        qsort(facts->named, facts->named_count, sizeof *facts->named, compare_named);
-    facts->has_named = true;
-}
-
 /* Of code without debug information the symbols say it. */
 static const char *name_by_symbol(Dwfl_Module *file, uint64_t place)
 {
     char name[PLAIN_BYTES] = "";
-    struct facts *facts = get_facts(file);
-    if (!facts->has_named)
-        read_named(file, facts);
-    size_t begun = count_begun(facts->named, facts->named_count, sizeof *facts->named, place);
-    if (begun && place < facts->named[begun - 1].end)
-        plain_symbol(facts->named[begun - 1].name, name);
+    const struct symbol *found = symbols_find(&get_facts(file)->functions, file, STT_FUNC, place);
+    if (found)
+        plain_symbol(found->name, name);
     return keep_name(name);
 }
 

@@ -7,6 +7,8 @@
 #include <stddef.h>
 #include <stdint.h>
 
+#include "symbols.h"
+
 /* A site as it ends a line: a space and the site. */
 struct site {
     uint64_t place;
@@ -34,6 +36,8 @@ const struct site *site_of(uint64_t place);
 /* The program's files, opened when they are asked for first, or NULL if none can be read. */
 Dwfl *sites_files(void);
 bool sites_is_instrumented(Dwfl_Module *file);
+/* The variable that has this address, as the symbols of the program's files have it, or NULL. */
+const struct symbol *sites_variable(uint64_t address);
 /* Whether a place is in a file that is instrumented, without a look at its debug information. */
 bool sites_has_instrumented(uint64_t place);
 /* Whether a place is in the recorder's own library, which is loaded by the name of ThreadSanitizer's. */

@@ -11,17 +11,13 @@
 
 bool symbol_of(uint64_t address, char name[PLAIN_BYTES])
 {
-    Dwfl *all = sites_files();
-    Dwfl_Module *file = all ? dwfl_addrmodule(all, address) : NULL;
-    GElf_Off offset;
-    GElf_Sym symbol;
-    const char *found = file ? dwfl_module_addrinfo(file, address, &offset, &symbol, NULL, NULL, NULL) : NULL;
-    if (!found || GELF_ST_TYPE(symbol.st_info) != STT_OBJECT || offset >= symbol.st_size)
+    const struct symbol *found = sites_variable(address);
+    if (!found)
         return false;
-    plain_symbol(found, name);
-    if (offset) {
+    plain_symbol(found->name, name);
+    if (address > found->begin) {
         size_t used = strlen(name);
-        snprintf(name + used, PLAIN_BYTES - used, "_%llu", (unsigned long long)offset);
+        snprintf(name + used, PLAIN_BYTES - used, "_%llu", (unsigned long long)(address - found->begin));
     }
     return true;
 }
