@@ -673,6 +673,10 @@ def allocators(record):
                     sites = set(re.findall(r": (?:race|unordered): .* at (\S+), holds", found.stdout))
                     is_right = (found.returncode, found.stderr, sites) == (0, "", marked(source, "RACE")) and found.stdout.startswith("7200\n")
                     findings.check(f"{way} with {compiler} by {analysis}", is_right, f"{sites} {found.returncode} {found.stderr}")
+                trace = pathlib.Path(name) / "recycle.trace"
+                found = command([RUN, "-q", "--order", "-o", trace, made], env={**os.environ, **preloaded})
+                brackets = trace.read_text().count(" ignore-on\n")
+                findings.check(f"{way} with {compiler}: what is given out", brackets == 0 if "archive" in way else brackets > 4800, f"{brackets} {found}")
             built = command([*words, "-std=c++17", "-O1", source, *within, "-o", made], env=settings)
             found = command([RUN, "-q", "--report", "-", made])
             is_told = found.stderr == "record: what the program frees is not recorded, since it has a `free` of its own: memory that changes hands may be reported\n"

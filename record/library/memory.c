@@ -25,7 +25,8 @@ static void look_for_allocator(struct allocator *found)
     found->calloc = REAL(calloc);
     found->free = REAL(free);
     found->is_first = is_here(used);
-    found->is_foreign = !is_in_one_file(found->free, of_c_library.free);
+    /* No allocator has this name of the C library, but tcmalloc has `__libc_free`. */
+    found->is_foreign = !is_in_one_file(found->free, find_behind("gnu_get_libc_version"));
     found->is_plain = found->is_first && !found->is_foreign && is_here(find_first("malloc"));
     found->size_of = is_in_one_file(REAL(malloc_usable_size), found->free) ? REAL(malloc_usable_size) : NULL;
     found->size_in_front = is_in_one_file(malloc_usable_size, used) ? malloc_usable_size : NULL;
@@ -71,11 +72,16 @@ void give_own(void *block) { get_allocator()->free(block); }
 
 /* ---- Memory that is given out ---- */
 
-static __attribute__((noinline)) void *note_foreign(void *block)
+/* An allocator may take memory of its own when it is asked for a size first: tcmalloc does. */
+static __attribute__((noinline)) void note_foreign(void *block)
 {
-    if (block && allocator.size_of && is_recording())
-        emit_hand_over(block, allocator.size_of(block));
-    return block;
+    static __thread bool is_asking __attribute__((tls_model("initial-exec")));
+    if (!block || !allocator.size_of || !is_recording() || is_asking)
+        return;
+    is_asking = true;
+    size_t size = allocator.size_of(block);
+    is_asking = false;
+    emit_hand_over(block, size);
 }
 
 static inline void emit_taken(const void *block, size_t size, uint64_t place)
