@@ -106,7 +106,7 @@ struct slot {
     uint64_t second;
 };
 
-/* The first program that is recorded takes the first ring. Each further one asks there for a ring of its own. So many may ask at a time. */
+/* The first program that is recorded takes the first ring. Each further one asks there for a ring of its own: at most this number at a time. */
 #define RING_ASKERS 64
 enum asker_state {
     ASKER_NONE,    /* nobody asks here */

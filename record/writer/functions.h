@@ -15,7 +15,8 @@ struct function {
     char *name; /* NULL before it is looked up */
 };
 
-/* How many of these structs, of so many bytes each, begin at or below a place. Each is a range, whose first member is its begin, and they rise. */
+/* The number of ranges that begin at or below a place. `ranges` are `count` structs of `bytes` bytes each. The first member of each is where its range
+ * begins, and they are sorted by it. */
 size_t count_begun(const void *ranges, size_t count, size_t bytes, Dwarf_Addr place);
 /* The innermost one that has this place of the unit, or NULL. */
 struct function *function_at(Dwarf_Die *unit, Dwarf_Addr place);

@@ -171,7 +171,7 @@ static bool releases_forgotten(uint32_t thread, uint64_t address)
 
 /* ---- Misuse ---- */
 
-/* So many lines say it on standard error. Comments in the trace say it each time. */
+/* At most this number of lines on standard error says it. Comments in the trace say it each time. */
 #define MOST_SAID 16
 
 /* If events were lost, a thread may hold what it seems not to hold. */
