@@ -65,6 +65,8 @@ KINDS = {trace4.LOCK: "lock", trace4.UNLOCK: "unlock", trace4.READ_LOCK: "rlock"
     trace4.SIGNAL: "signal", trace4.AWAIT: "await", trace4.REUSE: "reuse"}
 
 
+# The kind of a fact of a block, which has 16 bytes.
+BLOCK_FACT = 29
 # A block of memory that the program got, and how many events come before.
 GotBlock = collections.namedtuple("GotBlock", "events address size node")
 
@@ -77,7 +79,7 @@ class Trace(trace4.Trace):
         super().__init__(data)
 
     def read_fact(self, kind, content):
-        if kind == trace4.LOCK_FACTS and len(content) == 16:
+        if kind == BLOCK_FACT and len(content) == 16:
             address, size, node = (int.from_bytes(part, "little") for part in (content[:6], content[6:12], content[12:]))
             self.check(size and address + size <= trace4.ADDRESS_END and node < len(self.nodes))
             self.got_blocks.append(GotBlock(len(self.events), address, size, node))
