@@ -251,8 +251,13 @@ impl<'t> Machine<'t> {
         if self.words.is_settled(thread, word, kind, locks) {
             return Ok((Brief::Quiet, false));
         }
-        let (reply, changed) = self.words.access_noting(rt, thread, word, kind, locks)?;
-        Ok((of_access(&reply), changed))
+        let noted = self.words.access_noting(rt, thread, word, kind, locks)?;
+        let brief = if noted.is_race {
+            Brief::Race
+        } else {
+            Brief::Quiet
+        };
+        Ok((brief, noted.has_changed))
     }
 
     /// Each few steps reads the states of the words that the next few access, so that they come from memory side by side. `at` is the
@@ -300,17 +305,6 @@ impl<'t> Machine<'t> {
         ensures { (past : List Steps) → Stands self.now past → IfOk result (λ state. state ≡ state_end past word) }
     {
         self.words.state_of(word)
-    }
-}
-
-// The reply to a counted access, in brief.
-#[inline(always)]
-fn of_access(reply: &Reply) -> Brief
-    ensures { (reported : Bool) → reply.now ≡ reply_if reported → result ≡ cond reported Brief.Race Brief.Quiet }
-{
-    match reply {
-        Reply::Race => Brief::Race,
-        _ => Brief::Quiet,
     }
 }
 

@@ -23,6 +23,15 @@ use std::sync::Wait;
 /// How many words `look_ahead` reads.
 const MOST_AHEAD: usize = 16;
 
+/// What a counted access did.
+#[derive(Clone, Copy)]
+pub struct Noted {
+    /// Whether it is reported as a race.
+    pub is_race: bool,
+    /// Whether it changed what stands for its word. If it did not, every word has the state that it had.
+    pub has_changed: bool,
+}
+
 /// The state of every word, by pages of 1,024 words that are made at their first access. Contracts see the `states` of its words.
 #[derive(Drop)]
 pub struct ShadowMap<'t> {
@@ -82,9 +91,8 @@ impl<'t> ShadowMap<'t> {
     }
 
     /// One counted access of a word, with the locks that cover it: those that the thread holds in any mode for a read, and those
-    /// that it holds in write mode for a write. Returns whether it is reported as a race, and whether the access changed what stands for its
-    /// word. If it did not, every word has the state that it had. If it needs a set, the thread's locks go into the table first, and then what
-    /// they have in common with the candidates.
+    /// that it holds in write mode for a write. If it needs a set, the thread's locks go into the table first, and then what they have in common
+    /// with the candidates.
     pub fn access_noting<R: Wait>(
         &mut self,
         rt: &R,
@@ -92,10 +100,10 @@ impl<'t> ShadowMap<'t> {
         word: Word,
         kind: Kind,
         locks: &Lockset,
-    ) -> Result<(Reply, bool), NoRoom>
+    ) -> Result<Noted, NoRoom>
         ensures ok { OnOk result ((w : ℕ) → states self.new w ≡ moved (states self.old w) w (Counted thread kind word locks.now)) }
-        ensures reply { IfOk result (λ answer. answer.0 ≡ reply_if (reports (states self.old word) (advanced (states self.old word) thread kind locks.now))) }
-        ensures unchanged { IfOk result (λ answer. answer.1 ≡ false → (w : ℕ) → states self.new w ≡ states self.old w) }
+        ensures reply { IfOk result (λ noted. noted.is_race ≡ reports (states self.old word) (advanced (states self.old word) thread kind locks.now)) }
+        ensures unchanged { IfOk result (λ noted. noted.has_changed ≡ false → (w : ℕ) → states self.new w ≡ states self.old w) }
         ensures err { OnErr result ((w : ℕ) → states self.new w ≡ states self.old w) }
 
         // The table isn't asked for a set while one thread alone has accessed the word, and that thread's accesses ask for nothing.
@@ -110,7 +118,7 @@ impl<'t> ShadowMap<'t> {
                 self.places.note(number, index);
                 let page = &mut self.pages[index];
                 let before = page.get(place);
-                let (shadow, race) = step(
+                let (shadow, is_race) = step(
                     rt,
                     &mut self.known,
                     &mut self.covers,
@@ -121,14 +129,21 @@ impl<'t> ShadowMap<'t> {
                 )?;
                 page.set(place, shadow);
                 let same = shadow == before;
-                Ok((reply_to(race), !same))
+                let has_changed = !same;
+                Ok(Noted {
+                    is_race,
+                    has_changed,
+                })
             }
             None => {
                 let mut page = Page::new(self.alloc)?;
                 page.set(place, Shadow::exclusive(thread));
                 self.places.note(number, self.pages.len());
                 self.pages.insert(number, page)?;
-                Ok((Reply::Quiet, true))
+                Ok(Noted {
+                    is_race: false,
+                    has_changed: true,
+                })
             }
         }
     }
@@ -164,8 +179,8 @@ impl<'t> ShadowMap<'t> {
             Kind::Read => stamp.held(),
             Kind::Write => stamp.write_held(),
         };
-        let (reply, _) = self.access_noting(rt, stamp.thread(), stamp.word(), stamp.kind(), locks)?;
-        Ok(reply)
+        let noted = self.access_noting(rt, stamp.thread(), stamp.word(), stamp.kind(), locks)?;
+        Ok(reply_to(noted.is_race))
     }
 
     /// Reads what stands for some words that will be accessed soon, 16 at most. Nothing waits for what is read, so words of several pages come

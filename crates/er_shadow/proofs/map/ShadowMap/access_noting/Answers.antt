@@ -6,7 +6,6 @@ use Rattle.er_event.specs.declared.steps.WordState.{WordState}
 use Rattle.er_event.specs.declared.steps.WordState.TheVariants as known
 use Rattle.er_owner.specs.Numbering.{IsNumbered, state_in}
 use Rattle.er_table.specs.Sets.{KeepsNumbers}
-use Rattle.er_shadow.specs.Replies.{reply_if}
 use Rattle.er_shadow.specs.Shadows.{Shadows, states, needs_set}
 use Rattle.er_shadow.specs.declared.map.ShadowMap.TheInside.{Inside}
 use Rattle.er_shadow.proofs.Moves.{found_word, state_found, state_absent, unwritten_page, written_page, made_page, all_numbered, all_kept, states_kept, states_put, needs_from_need, own_needs_nothing, put_same}
@@ -65,9 +64,8 @@ returns-in_ok-shadow-in-Some-clause-ok g c =
 pub returns-in_ok-shadow-in-Some-clause-reply : goal.returns-in_ok-shadow-in-Some-clause-reply
 returns-in_ok-shadow-in-Some-clause-reply g c =
     let found = found_word c.self.inside.pages.entries c.args.word c.page-number.result c.place_of-place.result _ c.get-before.result c.page-number.ensures c.place_of-place.ensures (entry_found c.self.inside.pages c.in-Some.index c.page-number.result c.index_mut-page.result.now c.in-Some.ensures.unique c.in-Some.ensures.key c.index_mut-page.ensures.value) c.get-before.ensures in
-    let told = subst (λ before. c.in_ok-shadow-in-Some.race ≡ reports before (advanced before c.args.thread c.args.kind c.args.locks.now)) (state_found (seen c.self.inside) c.args.word c.get-before.result found) c.in_ok-shadow-in-Some.ensures.race in
-    c.reply_to.ensures ∙ ap reply_if
-    (subst (λ before. c.in_ok-shadow-in-Some.race ≡ reports (states before c.args.word) (advanced (states before c.args.word) c.args.thread c.args.kind c.args.locks.now)) c.self.view_is told)
+    let told = subst (λ before. c.in_ok-shadow-in-Some.is_race ≡ reports before (advanced before c.args.thread c.args.kind c.args.locks.now)) (state_found (seen c.self.inside) c.args.word c.get-before.result found) c.in_ok-shadow-in-Some.ensures.race in
+    subst (λ before. c.in_ok-shadow-in-Some.is_race ≡ reports (states before c.args.word) (advanced (states before c.args.word) c.args.thread c.args.kind c.args.locks.now)) c.self.view_is told
 
 pub invariant_of-self-in-None : goal.invariant_of-self-in-None
 invariant_of-self-in-None g c =
@@ -91,9 +89,8 @@ returns-in_ok-insert-in-None-clause-ok g c =
 pub returns-in_ok-insert-in-None-clause-reply : goal.returns-in_ok-insert-in-None-clause-reply
 returns-in_ok-insert-in-None-clause-reply g c =
     let virgin = state_absent (seen c.self.inside) c.args.word c.page-number.result c.page-number.ensures c.in-None.ensures.none in
-    ap reply_if
-    (subst (λ v. false ≡ reports (states v c.args.word) (advanced (states v c.args.word) c.args.thread c.args.kind c.args.locks.now)) c.self.view_is
-    (ap (λ s. reports s (advanced s c.args.thread c.args.kind c.args.locks.now)) (sym virgin)))
+    subst (λ v. false ≡ reports (states v c.args.word) (advanced (states v c.args.word) c.args.thread c.args.kind c.args.locks.now)) c.self.view_is
+    (ap (λ s. reports s (advanced s c.args.thread c.args.kind c.args.locks.now)) (sym virgin))
 
 virgin_is_not_owned : (s : WordState) (t : ℕ) → s ≡ known.Virgin → s ≡ known.Exclusive t → ⊥
 virgin_is_not_owned s t virgin own = cc
