@@ -1,11 +1,11 @@
 -- Lines in their usual form: the words of what is put together with single spaces.
-use Rattle.std.proofs.Common.{◌≡◌, ℕ, suc, ◌+◌, ◌*◌, ◌^◌, ◌<◌, ◌≤◌, Bool, true, false, not, cond, List, [], ◌∷◌, length, take, get_or, bit_or, refl, ◌∙◌, subst, arith}
+use Rattle.std.proofs.Common.{◌≡◌, ℕ, suc, ◌+◌, ◌*◌, ◌^◌, ◌<◌, ◌≤◌, Bool, true, false, not, cond, List, [], ◌∷◌, length, take, get_or, refl, ◌∙◌, subst, arith}
 use Rattle.std.specs.List.{list_all, position_or_len}
 use Rattle.std.specs.Char.{digit_value, is_digit}
 use Rattle.std.proofs.lemmas.Bool.Decides.{nat_tests}
 use Rattle.std.proofs.lemmas.Int.Digits.{digits_value_more}
 use Rattle.std.proofs.lemmas.List.Folds.{list_all_more}
-use Rattle.std.proofs.lemmas.Nat.{pow-add, le_or_l, le_or_r}
+use Rattle.std.proofs.lemmas.Nat.{pow-add}
 use Rattle.std.proofs.Math.Pow.{pow_mono}
 use Rattle.er_text.specs.Inner.FastPath.{HexSoFar, AreLeadingDigits}
 
@@ -44,7 +44,7 @@ digit_more bytes value digit i so within is low =
 at_place : (bytes : List ℕ) (value i j : ℕ) → i ≡ j → HexSoFar bytes value i → HexSoFar bytes value j
 at_place bytes value i j same so = subst (λ (k : ℕ). HexSoFar bytes value k) same so
 
-of_value : (bytes : List ℕ) (value other i : ℕ) → value ≡ other → HexSoFar bytes value i → HexSoFar bytes other i
+pub of_value : (bytes : List ℕ) (value other i : ℕ) → value ≡ other → HexSoFar bytes value i → HexSoFar bytes other i
 of_value bytes value other i same so = subst (λ (v : ℕ). HexSoFar bytes v i) same so
 
 pub four_digits_more : (bytes : List ℕ) (value i a b c d : ℕ) → HexSoFar bytes value i → i + 4 ≤ length bytes
@@ -56,23 +56,6 @@ four_digits_more bytes value i a b c d so within a_is b_is c_is d_is a_low b_low
     let three = at_place bytes _ (i + 2 + 1) (i + 3) (omega arith) (digit_more bytes ((value * 16 + a) * 16 + b) c (i + 2) two (omega (arith, within)) c_is c_low) in
     let four = at_place bytes _ (i + 3 + 1) (i + 4) (omega arith) (digit_more bytes (((value * 16 + a) * 16 + b) * 16 + c) d (i + 3) three (omega (arith, within)) d_is d_low) in
     of_value bytes _ _ (i + 4) (omega arith) four
-
--- at most 8 digits write a number below 2 ^ 32
-pub below_nine : (value i : ℕ) → value < 2 ^ (4 * i) → i ≤ 8 → value < 2 ^ 32
-below_nine value i small few =
-    let most : 2 ^ (4 * i) ≤ 2 ^ 32 = pow_mono {i = 4 * i} {j = 32} (omega arith) in
-    omega (arith, small, most)
-
--- numbers whose bits are put together are at most what comes out
-pub low_parts : (a b c d all : ℕ) → all ≡ bit_or (bit_or (bit_or a b) c) d → all < 16 → (a < 16) × (b < 16) × (c < 16) × (d < 16)
-low_parts a b c d all is low =
-    let p = le_or_l a b in
-    let q = le_or_r a b in
-    let r = le_or_l (bit_or a b) c in
-    let s = le_or_r (bit_or a b) c in
-    let t = le_or_l (bit_or (bit_or a b) c) d in
-    let u = le_or_r (bit_or (bit_or a b) c) d in
-    (omega (arith, is, low, p, r, t), omega (arith, is, low, q, r, t), omega (arith, is, low, s, t), omega (arith, is, low, u))
 
 -- at most 12 digits write a number below 2 ^ 48
 pub few_small : (value i : ℕ) → value < 2 ^ (4 * i) → i ≤ 12 → value < 2 ^ 48

@@ -1,5 +1,6 @@
 pub mod AddingLemmas
 pub mod FastPathLemmas
+mod DigitLanes
 pub mod FastPathLaws
 pub mod UsualLemmas
 pub mod SpellingLaws

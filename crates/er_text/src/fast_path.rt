@@ -16,6 +16,7 @@ use er_event::{Kind, Mode, Word};
 use er_lines::{class_of, is_lock_name, is_name_byte, name_text, site_text};
 use er_trace::Trace;
 use std::alloc::AllocError;
+use std::simd::prelude::*;
 
 /// Whether a step was added, unless memory was refused.
 type Added = Result<bool, AllocError>;
@@ -114,36 +115,24 @@ fn digits_by_one(bytes: &[u8]) -> (u64, usize)
     (value, most)
 }
 
-/// The value with the four digits from a place on, if there are four.
-#[inline(always)]
-fn four_more(bytes: &[u8], at: usize, value: u64) -> Option<u64>
-    requires room { at + 4 ≤ length bytes.now }
-    requires few { at ≤ 8 }
-    requires front { HexSoFar bytes.now value at }
-    ensures { IfSome result (λ more. HexSoFar bytes.now more (at + 4)) }
-{
-    let first = class_of(bytes[at]);
-    let second = class_of(bytes[at + 1]);
-    let third = class_of(bytes[at + 2]);
-    let fourth = class_of(bytes[at + 3]);
-    let all = first | second | third | fourth;
-    if all >= 16 {
-        return None;
-    }
-    let high = u64::from(first) * 16 + u64::from(second);
-    let low = u64::from(third) * 16 + u64::from(fourth);
-    Some(value * 65536 + (high * 256 + low))
-}
-
-/// The value of the twelve digits in front, if there are twelve: most addresses have as many.
+/// The value of the twelve digits in front, if there are twelve: most addresses have as many, and a site behind them.
 #[inline(always)]
 fn twelve_digits(bytes: &[u8]) -> Option<u64>
-    requires { 12 ≤ length bytes.now }
+    requires { 16 ≤ length bytes.now }
     ensures { IfSome result (λ value. HexSoFar bytes.now value 12) }
 {
-    let value = four_more(bytes, 0, 0)?;
-    let value = four_more(bytes, 4, value)?;
-    four_more(bytes, 8, value)
+    let block = u8x16::from_slice(bytes);
+    let numerals = block - u8x16::splat(b'0');
+    // The cases of a letter differ in one bit.
+    let letters = (block | u8x16::splat(0x20)) - u8x16::splat(b'a');
+    let are_digits = numerals.simd_lt(u8x16::splat(10)) | letters.simd_lt(u8x16::splat(6));
+    if are_digits.to_bitmask() % 4096 != 4095 {
+        return None;
+    }
+    let digits = numerals.simd_min(letters + u8x16::splat(10));
+    // The product has the first digit of two above the second.
+    let pairs = (u16x8::from_le_bytes(digits) * u16x8::splat(0x1001)) >> 8;
+    Some(u64::from_be_bytes(pairs.cast::<u8>().to_array()) >> 16)
 }
 
 /// The value of the hexadecimal digits in front, of which at most 12 are read, and how many these are.
@@ -151,7 +140,7 @@ fn twelve_digits(bytes: &[u8]) -> Option<u64>
 fn leading_digits(bytes: &[u8]) -> (u64, usize)
     ensures { AreLeadingDigits bytes.now result.0 result.1 }
 {
-    if bytes.len() >= 12
+    if bytes.len() >= 16
         && let Some(value) = twelve_digits(bytes)
     {
         return (value, 12);
