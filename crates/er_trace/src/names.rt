@@ -1,7 +1,7 @@
 //! Numbers for the names of threads, locks and sites.
 ghost use Rattle.std.specs.Prelude.{◌≡◌, ◌+◌, ◌-◌, ◌<◌, ◌≤◌, ℕ, List, [], length, map, Some, slice_get, IsTrue, IsOk, IsErr, IfOk, IfSome, IfNone, OnOk, OnErr, true, false};
 ghost use Rattle.er_trace.specs.Appended.{AreNumbers, with_names, with_table};
-ghost use Rattle.er_trace.specs.Inner.Recent.{bytes_of, Knows};
+ghost use Rattle.er_trace.specs.Inner.Recent.{Knows};
 ghost use Rattle.er_trace.specs.Inner.Renumbering.{HasMore};
 ghost use Rattle.er_trace.specs.Names.{is_known, number_of, with_name, no_names, most_names};
 
@@ -138,19 +138,17 @@ impl CachedNames {
         ensures within { IfOk result (λ n. n < most_names) }
         ensures full { most_names ≤ length self.old → is_known self.old name.now ≡ false → IsErr result }
     {
-        let short = ShortName::of(name.as_bytes());
-        if let Some(short) = short
+        if let Some(short) = ShortName::of(name.as_bytes())
             && let Some(number) = self.recent.find(short)
         {
             return Ok(number as usize);
         }
-        self.number_anew(name, short)
+        self.number_anew(name)
     }
 
     /// The same of a name that isn't among the recent short ones, after which it is found without a hash.
     #[inline(never)]
-    fn number_anew(&mut self, name: &str, short: Option<ShortName>) -> Result<usize, AllocError>
-        requires { IfSome short (λ short. bytes_of short ≡ name.now) }
+    fn number_anew(&mut self, name: &str) -> Result<usize, AllocError>
         ensures number { IfOk result (λ n. n ≡ number_of self.old name.now) }
         ensures ok { OnOk result (self.new ≡ with_name self.old name.now) }
         ensures err { OnErr result (self.new ≡ self.old) }
@@ -158,7 +156,7 @@ impl CachedNames {
         ensures within { IfOk result (λ n. n < most_names) }
         ensures full { most_names ≤ length self.old → is_known self.old name.now ≡ false → IsErr result }
     {
-        if let Some(short) = short {
+        if let Some(short) = ShortName::of(name.as_bytes()) {
             let number = self.list.number(name)?;
             self.recent.remember(short, number as u32);
             return Ok(number);
@@ -188,12 +186,13 @@ impl CachedNames {
     }
 }
 
-// A number for the last 16 bytes of a name, in which names of sites and locks differ most.
+// A number for the last 16 bytes of a name, in which long names of sites and locks differ most.
 fn ending_of(name: &str) -> u64 {
-    let bytes = name.as_bytes();
-    let start = bytes.len().saturating_sub(16);
-    match ShortName::of(&bytes[start..]) {
-        Some(end) => end.slot() as u64,
+    let Some(ending) = name.as_bytes().last_chunk::<16>() else {
+        return 0;
+    };
+    match ShortName::of(ending) {
+        Some(ending) => ending.slot() as u64,
         None => 0,
     }
 }

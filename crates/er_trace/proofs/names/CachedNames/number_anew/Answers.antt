@@ -1,4 +1,4 @@
-use Rattle.std.proofs.Common.{◌≡◌, List, ℕ, sym, subst}
+use Rattle.std.proofs.Common.{◌≡◌, List, ℕ, sym, subst, ◌∙◌}
 use Rattle.er_trace.specs.Inner.Recent.{bytes_of, AreRight}
 use Rattle.er_trace.proofs.RecentLemmas.{still_right, knows_new, right_after}
 use Rattle.er_trace.proofs.names.CachedNames.number_anew.Goals as goal
@@ -6,7 +6,7 @@ use Rattle.er_trace.proofs.names.CachedNames.number_anew.Goals as goal
 pub invariant_of-self-in-Some : goal.invariant_of-self-in-Some
 invariant_of-self-in-Some c =
     let done = c.in_ok-number.ensures in
-    let bytes : bytes_of c.in-Some.short ≡ c.args.name.now = rw c.in-Some.is at c.requires in
+    let bytes : bytes_of c.in-Some.short ≡ c.args.name.now = c.in-Some.ensures.bytes ∙ c.as_bytes.ensures.value in
     let P : List (List ℕ) → Type 0 = λ names. AreRight names c.self.inside.recent in
     c.remember.ensures c.number.new.self
     (subst P (sym done.ok) (still_right c.self.inside.list c.args.name.now c.self.inside.recent c.self.invariant))
