@@ -241,6 +241,7 @@ impl TraceReader {
     }
 
     /// Reads the next line, and says whether there was one.
+    #[inline(always)]
     fn next_line<R: Read>(
         &mut self,
         reader: &mut Device<R>,
