@@ -125,6 +125,7 @@ impl LineReader {
     }
 
     /// Looks for the next line, which stays the next one. None at the end of the text.
+    #[inline(always)]
     pub fn find<R: Read>(&mut self, reader: &mut Device<R>) -> Result<Option<FrontLine>, ReadFault>
         requires open { has_failed reader.old ≡ false }
         ensures found { Finds (lines_left self.old (R.remaining (inner_of reader.old))) self.new (R.remaining (inner_of reader.new)) result }

@@ -121,6 +121,7 @@ impl Window {
     }
 
     /// Where the line in front ends. It leaves at most `most` bytes in the window.
+    #[inline(always)]
     pub(crate) fn find<R: Read>(
         &mut self,
         reader: &mut Device<R>,
