@@ -1,18 +1,9 @@
 //! Short names that appeared lately: they are compared as numbers, and found without a hash.
-ghost use Rattle.std.specs.Prelude.{◌≡◌, ◌+◌, ◌*◌, ◌^◌, ◌<◌, ◌≤◌, ℕ, List, length, IfSome};
+ghost use Rattle.std.specs.Prelude.{◌≡◌, ◌<◌, ◌≤◌, ℕ, List, length, IfSome};
 ghost use Rattle.er_trace.specs.Names.{number_of};
 ghost use Rattle.er_trace.specs.Inner.Recent.{unpacked, bytes_of, Knows, AreRight};
 
 use std::alloc::Global;
-
-/// The number with this byte as its lowest digit, and the others above it.
-#[inline(always)]
-fn onto(byte: u8, others: u64) -> u64
-    requires { others < 2 ^ 56 }
-    ensures { result ≡ others * 256 + byte }
-{
-    others * 256 + u64::from(byte)
-}
 
 /// The number with these bytes as its digits, the first of them the lowest. Each length has a form of its own, without a loop, so that
 /// bytes that lie side by side are loaded together.
@@ -22,21 +13,14 @@ fn packed(bytes: &[u8]) -> u64
     ensures { unpacked (length bytes.now) result ≡ bytes.now }
 {
     match *bytes {
-        [a] => onto(a, 0),
-        [a, b] => onto(a, onto(b, 0)),
-        [a, b, c] => onto(a, onto(b, onto(c, 0))),
-        [a, b, c, d] => onto(a, onto(b, onto(c, onto(d, 0)))),
-        [a, b, c, d, e] => onto(a, onto(b, onto(c, onto(d, onto(e, 0))))),
-        [a, b, c, d, e, f] => onto(a, onto(b, onto(c, onto(d, onto(e, onto(f, 0)))))),
-        [a, b, c, d, e, f, g] => {
-            onto(a, onto(b, onto(c, onto(d, onto(e, onto(f, onto(g, 0)))))))
-        }
-        [a, b, c, d, e, f, g, h] => {
-            onto(
-                a,
-                onto(b, onto(c, onto(d, onto(e, onto(f, onto(g, onto(h, 0))))))),
-            )
-        }
+        [a] => u64::from_le_bytes([a, 0, 0, 0, 0, 0, 0, 0]),
+        [a, b] => u64::from_le_bytes([a, b, 0, 0, 0, 0, 0, 0]),
+        [a, b, c] => u64::from_le_bytes([a, b, c, 0, 0, 0, 0, 0]),
+        [a, b, c, d] => u64::from_le_bytes([a, b, c, d, 0, 0, 0, 0]),
+        [a, b, c, d, e] => u64::from_le_bytes([a, b, c, d, e, 0, 0, 0]),
+        [a, b, c, d, e, f] => u64::from_le_bytes([a, b, c, d, e, f, 0, 0]),
+        [a, b, c, d, e, f, g] => u64::from_le_bytes([a, b, c, d, e, f, g, 0]),
+        [a, b, c, d, e, f, g, h] => u64::from_le_bytes([a, b, c, d, e, f, g, h]),
         _ => 0,
     }
 }
