@@ -130,7 +130,7 @@ fn twelve_digits(bytes: &[u8]) -> Option<u64>
         return None;
     }
     let digits = numerals.simd_min(letters + u8x16::splat(10));
-    // The product has the first digit of two above the second.
+    // The high byte of each product has two digits, the first above the second.
     let pairs = (u16x8::from_le_bytes(digits) * u16x8::splat(0x1001)) >> 8;
     Some(u64::from_be_bytes(pairs.cast::<u8>().to_array()) >> 16)
 }
