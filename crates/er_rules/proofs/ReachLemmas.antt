@@ -1,8 +1,7 @@
 -- The end at a word while borders are added one by one.
-use Rattle.std.proofs.Common.{◌≡◌, ◌∙◌, ℕ, suc, ◌+◌, ◌-◌, ◌≤◌, ◌<◌, Bool, true, false, not, ◌&&◌, cond, List, [], ◌∷◌, ◌++◌, length, take, drop, get_or, slice_index_or, nat_le, max, ◌⊎◌, inl, inr, refl, sym, ap, subst, arith, take-append-drop}
+use Rattle.std.proofs.Common.{◌≡◌, ◌∙◌, ℕ, suc, ◌+◌, ◌-◌, ◌≤◌, ◌<◌, Bool, true, false, cond, List, [], ◌∷◌, ◌++◌, length, take, drop, get_or, slice_index_or, nat_le, max, ◌⊎◌, inl, inr, refl, sym, ap, subst, arith, take-append-drop}
 use Rattle.std.proofs.lemmas.List.{take_more, take_all, get_or_append_left, get_or_push, get_or-drop, length-drop, length_push}
 use Rattle.std.proofs.lemmas.List.Sorted.{IsNonDecreasingBy-push}
-use Rattle.std.proofs.lemmas.Bool.Decides.{nat_tests}
 use borrow.Author.Tests.{leb-true, le-leb, lt-leb}
 use Rattle.er_rules.specs.declared.reach.Border.{Border}
 use Rattle.er_rules.specs.Inner.Reach.{end_from, end_at, no_border, word_at, AreInOrder, IsOverlaid}

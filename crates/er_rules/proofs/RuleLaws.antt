@@ -10,7 +10,7 @@ use Rattle.er_lines.specs.declared.faults.TextKind.TheVariants.{BadName, BadVerb
 use Rattle.er_lines.specs.Lines.{has_bytes, word_at}
 use Rattle.er_lines.specs.Number.{number_of}
 use Rattle.er_lines.specs.Naming.{is_site_name}
-use Rattle.er_lines.specs.Words.{and_then, map_ok, or_fault, number_in}
+use Rattle.er_lines.specs.Words.{and_then, map_ok, number_in}
 use Rattle.er_lines.specs.FirstFault.{first_kind}
 use Rattle.er_rules.specs.Texts.{IsRule, run_of, site_kinds, run_kinds, rule_kinds}
 use Rattle.er_rules.specs.Inner.RuleLines.{site_in, is_outside, site_rule_in, long_run_in, run_rule_in, rule_of}

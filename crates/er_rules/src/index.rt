@@ -1,5 +1,5 @@
 //! Rules, looked up by site and by words.
-ghost use Rattle.std.specs.Prelude.{◌≡◌, ℕ, List, ◌<◌, ◌≤◌, cond, get_or, length, take, Option, option_copied, Some, None, string_bytes, bytes_eq, OnOk, OnErr, IfSome};
+ghost use Rattle.std.specs.Prelude.{◌≡◌, ℕ, List, ◌<◌, ◌≤◌, cond, get_or, length, take, Option, option_copied, Some, None, string_bytes, bytes_eq, OnOk, OnErr};
 ghost use Rattle.std.proofs.Props.{props};
 ghost use Rattle.std.specs.Option.{option_or};
 ghost use Rattle.std.specs.BTreeMap.{get_by_text};
@@ -57,13 +57,12 @@ impl WordIndex {
             reach = Reach::over(alloc, &before.reach, &reach)?;
             start = before.start;
         }
-        let pushed: Result<_, _> = self.entries.push(Entry {
+        self.entries.push_reserved(Entry {
             words,
             rule,
             start,
             reach,
         });
-        pushed.unwrap();
         Ok(())
     }
 
@@ -73,13 +72,10 @@ impl WordIndex {
         ensures none { first_of (take result self.now.entries.items) lo hi ≡ None }
     {
         let mut past = 0;
-        let mut width = self
-            .entries
-            .len()
-            .checked_ilog2()
-            .map_or(0, |log| 1usize << log);
+        let count = self.entries.len();
+        let mut width = count.checked_ilog2().map_or(0, |log| 1usize << log);
         while width > 0 {
-            if width <= self.entries.len() - past {
+            if width <= count - past {
                 let entry = &self.entries[past + width - 1];
                 if entry.start <= past && entry.reach.end_at(lo) <= hi {
                     past += width;

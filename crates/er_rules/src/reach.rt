@@ -1,5 +1,5 @@
 //! How far runs of words reach.
-ghost use Rattle.std.specs.Prelude.{◌≡◌, ℕ, ◌+◌, ◌<◌, ◌≤◌, length, cond, max, nat_le, slice_index_or, IfOk, IsTrue, IsFalse};
+ghost use Rattle.std.specs.Prelude.{◌≡◌, ℕ, ◌+◌, ◌<◌, ◌≤◌, length, cond, max, nat_le, IfOk, IsTrue, IsFalse};
 ghost use Rattle.er_rules.specs.Inner.Reach.{end_at, word_at, AreInOrder};
 
 use crate::rules::WordSpan;
@@ -49,7 +49,7 @@ impl Reach {
         ensures { result ≡ end_at self.now word }
     {
         let borders = self.borders.as_slice();
-        let count = count_up_to(borders, word);
+        let count = borders.partition_point(|border| border.word <= word);
         if count == 0 {
             0
         } else {
@@ -65,16 +65,6 @@ impl Reach {
             borders: overlaid(alloc, first.borders.as_slice(), second.borders.as_slice())?,
         })
     }
-}
-
-// How many borders are at or before a word.
-fn count_up_to(borders: &[Border], word: u64) -> usize
-    requires { AreInOrder borders.now }
-    ensures within { result ≤ length borders.now }
-    ensures before { (k : ℕ) → k < result → word_at borders.now k ≤ word }
-    ensures after { (k : ℕ) → result ≤ k → k < length borders.now → word < word_at borders.now k }
-{
-    borders.partition_point(|border| border.word <= word)
 }
 
 // Whether the next border of the first list comes before that of the second.

@@ -1,5 +1,5 @@
 //! Rules, and which of them takes a race.
-ghost use Rattle.std.specs.Prelude.{◌≡◌, ◌<◌, ◌++◌, ◌↔◌, ℕ, List, Option, map, IsTrue, ◌∷◌, [], option_copied, option_map, length, position, string_bytes, IfSome, Some, OnOk, OnErr};
+ghost use Rattle.std.specs.Prelude.{◌≡◌, ◌<◌, ◌++◌, ◌↔◌, ℕ, List, Option, map, IsTrue, ◌∷◌, [], option_copied, length, position, IfSome, Some, OnOk, OnErr};
 ghost use Rattle.std.proofs.Props.{props};
 ghost use Rattle.er_rules.specs.Targets.{matching_rule, matching_reuse_rule, target_of, span_of, is_among};
 ghost use Rattle.er_rules.specs.Inner.Index.{is_of_site, is_of_words};
@@ -80,8 +80,7 @@ impl Suppressions {
     {
         self.rules.reserve(1)?;
         self.index.push(&rule, self.rules.len())?;
-        let pushed: Result<_, _> = self.rules.push(rule);
-        pushed.unwrap();
+        self.rules.push_reserved(rule);
         Ok(())
     }
 

@@ -1,12 +1,11 @@
 //! The texts of rules, line by line.
-ghost use Rattle.std.specs.Prelude.{◌≡◌, ◌+◌, ◌^◌, ◌<◌, ◌≤◌, OnOk, IfOk, IfSome, IsErrOf, true, false};
+ghost use Rattle.std.specs.Prelude.{◌≡◌, ◌+◌, ◌^◌, ◌<◌, ◌≤◌, IfOk, IfSome, IsErrOf, true, false};
 ghost use Rattle.er_device.specs.Device.{inner_of, has_failed, taken_of};
 ghost use Rattle.er_lines.specs.Faults.{HasFailedBy};
 ghost use Rattle.er_lines.specs.Lending.{taken_by, lines_left};
 ghost use Rattle.er_lines.specs.Lines.{bytes_past_limit};
 ghost use Rattle.er_lines.specs.Reading.{Reads, Turns};
-ghost use Rattle.er_lines.specs.Words.{GivesSite};
-ghost use Rattle.er_rules.specs.Inner.RuleLines.{GivesRun, GivesRule, site_in, site_rule_in, long_run_in, run_rule_in, rule_in, add_line, plain_rule_at, rule_view};
+ghost use Rattle.er_rules.specs.Inner.RuleLines.{GivesRun, GivesRule, site_rule_in, long_run_in, run_rule_in, rule_in, add_line, plain_rule_at, rule_view};
 ghost use Rattle.er_rules.specs.Rules.{target_of, targets_of};
 ghost use Rattle.er_rules.specs.Texts.{TellsRules};
 
@@ -58,19 +57,7 @@ enum LineRule<'a> {
     Words(Option<WordSpan>),
 }
 
-/// The site that a word of a rule names, which may be one of any trace. `-` names none.
-fn site_of(word: &[u8]) -> Result<Option<&str>, TextKind>
-    ensures { GivesSite result (site_in word.now) }
-{
-    if !is_site_name(word) {
-        return Err(TextKind::BadName);
-    }
-    if word == b"-".as_slice() {
-        return Ok(None);
-    }
-    Ok(Some(site_text(word)))
-}
-
+/// The rule of a site, which may be one of any trace. `-` names none.
 fn site_rule<'a>(first: &'a [u8], second: &[u8]) -> Result<LineRule<'a>, TextKind>
     ensures { GivesRule result (site_rule_in first.now second.now) }
 {
@@ -80,7 +67,11 @@ fn site_rule<'a>(first: &'a [u8], second: &[u8]) -> Result<LineRule<'a>, TextKin
     if !second.is_empty() {
         return Err(TextKind::ExtraOperand);
     }
-    Ok(LineRule::Site(site_of(first)?))
+    if !is_site_name(first) {
+        return Err(TextKind::BadName);
+    }
+    let is_named = first != b"-".as_slice();
+    Ok(LineRule::Site(is_named.then(|| site_text(first))))
 }
 
 /// The words that some bytes of memory touch, of which there may be none.

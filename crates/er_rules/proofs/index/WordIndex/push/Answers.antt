@@ -1,5 +1,5 @@
 -- The new entry reaches as far as those that it stands for.
-use Rattle.std.proofs.Common.{◌≡◌, ◌∙◌, ◌∷◌, ◌++◌, [], List, IsOk, is_ok, if◌then◌else◌, cond, Some, None, sym, ap, subst, arith}
+use Rattle.std.proofs.Common.{◌≡◌, ◌∙◌, ◌∷◌, ◌++◌, [], List, cond, Some, None, sym, ap, subst}
 use Rattle.std.specs.Option.{option_or}
 use Rattle.er_rules.specs.declared.index.Entry.{Entry}
 use Rattle.er_rules.specs.Targets.{span_of}
@@ -11,8 +11,7 @@ pub invariant_of-self-2 : goal.invariant_of-self-2
 invariant_of-self-2 c =
     let items = c.reserve.new.self.items in
     let entry : Entry = record { words = c.args.words; rule = c.args.rule; start = c.loop-start.start; reach = c.loop-start.reach } in
-    let room : IsOk c.push-pushed.result = c.push-pushed.ensures.succeeds (omega (arith, c.in_ok-reserve.ensures.ok)) in
-    let added : c.push-pushed.new.self.items ≡ items ++ entry ∷ [] = c.push-pushed.ensures.items ∙ ap (λ b. if b then items ++ entry ∷ [] else items) room in
+    let added : c.push_reserved.new.self.items ≡ items ++ entry ∷ [] = c.push_reserved.ensures.items in
     let starts : Start items = subst (λ (es : List Entry). Start es) (sym c.reserve.ensures.items) c.args.self.now.starts in
     let reaches : Reaching items = subst (λ (es : List Entry). Reaching es) (sym c.reserve.ensures.items) c.args.self.now.reaches in
     record {
@@ -24,5 +23,5 @@ pub returns-clause-ok : goal.returns-clause-ok
 returns-clause-ok c = λ lo hi.
     let items = c.reserve.new.self.items in
     let entry : Entry = record { words = c.args.words; rule = c.args.rule; start = c.loop-start.start; reach = c.loop-start.reach } in
-    ap (λ es. first_of es lo hi) (c.push-pushed.ensures.items ∙ ap (λ r. if is_ok r then items ++ entry ∷ [] else items) c.unwrap.ensures)
+    ap (λ es. first_of es lo hi) c.push_reserved.ensures.items
     ∙ (first_of-push items entry lo hi ∙ ap (λ es. option_or (first_of es lo hi) (cond (has_both (Some (span_of c.args.words)) lo hi) (Some c.args.rule) None)) c.reserve.ensures.items)

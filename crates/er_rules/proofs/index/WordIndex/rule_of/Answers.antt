@@ -1,4 +1,4 @@
-use Rattle.std.proofs.Common.{◌≡◌, ◌∙◌, ◌≤◌, true, false, Some, sym, ap, subst, arith}
+use Rattle.std.proofs.Common.{◌≡◌, ◌∙◌, true, false, Some, sym, ap, subst, arith}
 use Rattle.er_rules.specs.declared.index.Entry.{Entry}
 use Rattle.er_rules.specs.Targets.{span_of}
 use Rattle.er_rules.specs.Inner.Index.{has_both}

@@ -1,4 +1,4 @@
-use Rattle.std.proofs.Common.{◌+◌, ap, refl}
+use Rattle.std.proofs.Common.{◌+◌, ap}
 use Rattle.er_rules.proofs.ReachLemmas.{of_words-one}
 use Rattle.er_rules.proofs.reach.Reach.of_words.Goals as goal
 

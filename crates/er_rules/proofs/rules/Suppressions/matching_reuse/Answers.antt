@@ -1,4 +1,4 @@
-use Rattle.std.proofs.Common.{◌≡◌, ◌∙◌, map, option_copied, ap, ap₂}
+use Rattle.std.proofs.Common.{◌∙◌, map, option_copied, ap, ap₂}
 use Rattle.er_rules.specs.Targets.{target_of}
 use Rattle.er_rules.specs.Inner.Index.{least_of}
 use Rattle.er_rules.proofs.MatchLemmas.{matching_reuse_at}

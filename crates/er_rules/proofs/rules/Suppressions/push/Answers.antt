@@ -1,4 +1,4 @@
-use Rattle.std.proofs.Common.{rules, ◌≡◌, ◌∙◌, ◌∷◌, ◌++◌, [], IsOk, if◌then◌else◌, cond, length, map, Some, None, ap, sym, arith}
+use Rattle.std.proofs.Common.{rules, ◌≡◌, ◌∙◌, ◌∷◌, ◌++◌, [], cond, length, map, Some, None, ap, sym}
 use Rattle.std.specs.Option.{option_or}
 use Rattle.er_rules.specs.Targets.{target_of}
 use Rattle.er_rules.specs.Inner.Index.{is_of_site, is_of_words}
@@ -7,8 +7,7 @@ use Rattle.er_rules.proofs.rules.Suppressions.push.Goals as goal
 
 pub invariant_of-self-2 : goal.invariant_of-self-2
 invariant_of-self-2 c =
-    let room : IsOk c.push-pushed.result = c.push-pushed.ensures.succeeds (omega (arith, c.in_ok-reserve.ensures.ok)) in
-    let added : c.push-pushed.new.self.items ≡ c.reserve.new.self.items ++ c.args.rule ∷ [] = c.push-pushed.ensures.items ∙ ap (λ b. if b then c.reserve.new.self.items ++ c.args.rule ∷ [] else c.reserve.new.self.items) room in
+    let added : c.push_reserved.new.self.items ≡ c.reserve.new.self.items ++ c.args.rule ∷ [] = c.push_reserved.ensures.items in
     let count : c.len.result ≡ length c.reserve.new.self.items = search rules in
     let same : c.reserve.new.self.items ≡ c.args.self.now.rules.items = c.reserve.ensures.items in
     record {
