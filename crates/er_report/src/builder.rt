@@ -1,12 +1,12 @@
 //! `ReportBuilder`, a report that grows by one step after another.
-ghost use Rattle.std.specs.Prelude.{◌≡◌, ◌<◌, ◌≤◌, ◌+◌, ◌^◌, ◌++◌, ◌∷◌, ◌&&◌, ℕ, [], All, List, Option, None, Some, cond, false, is_none, is_some, length, map, slice_get, slice_index, OnOk, OnErr, IfOk, IfSome, IsTrue};
+ghost use Rattle.std.specs.Prelude.{◌≡◌, ◌<◌, ◌≤◌, ◌+◌, ◌^◌, ◌&&◌, ℕ, [], All, List, Option, None, Some, false, is_none, is_some, length, map, slice_get, slice_index, OnOk, OnErr, IfOk, IfSome, IsTrue};
 ghost use Rattle.std.specs.Option.{option_to_list};
 ghost use Rattle.er_trace.specs.Trace.{Recording, IsNamed, HasSiteName as IsSite};
 ghost use Rattle.er_explain.specs.Racing.{is_race};
 ghost use Rattle.er_journal.specs.AnswerList.{shown};
 ghost use Rattle.er_journal.specs.declared.answers.Stopped.{Stopped as Stop};
 ghost use Rattle.er_report.specs.Builder.{ArePlain, ArePlainBy, IsBuilt, IsBuiltBy, IsExplained, IsReported, IsStepBy, KeepStates};
-ghost use Rattle.er_report.specs.Inner.Adding.{empty_report, with_answer, HasRoom};
+ghost use Rattle.er_report.specs.Inner.Adding.{with_answer, HasRoom};
 ghost use Rattle.er_report.specs.Kept.{Follows};
 ghost use Rattle.er_report.specs.Lines.{line_view};
 ghost use Rattle.er_report.specs.Names.{HasNames, HasReasonNames, HasSiteName, HaveStateNames};
@@ -79,10 +79,19 @@ impl<'r> ReportBuilder<'r> {
         ensures built_by { IfOk result (λ builder. (a : Answering) (r : Recording) → IsBuiltBy a builder r 0) }
         ensures built { IfOk result (λ builder. (r : Recording) → IsReported builder r 0) }
     {
-        let report = empty_report(alloc, rules.len())?;
+        let rule_counts = vec![in alloc; 0; rules.len()]?;
         Ok(ReportBuilder {
             rules,
-            report,
+            report: Report {
+                lines: Vec::new(alloc),
+                stop: None,
+                rule_counts,
+                steps: 0,
+                races: 0,
+                suppressed: 0,
+                refused: 0,
+                lost: None,
+            },
             races: Vec::new(alloc),
             explainer: explainer_if(alloc, explain, keys),
         })
@@ -223,22 +232,6 @@ fn explainer_if(alloc: Global, explain: bool, keys: HashKeys) -> Option<Explaine
     } else {
         None
     }
-}
-
-// The report before any step, with so many rules.
-fn empty_report(alloc: Global, rules: usize) -> Made<Report>
-    ensures { IfOk result (λ report. told report ≡ empty_report rules) }
-{
-    Ok(Report {
-        lines: Vec::new(alloc),
-        stop: None,
-        rule_counts: vec![in alloc; 0; rules]?,
-        steps: 0,
-        races: 0,
-        suppressed: 0,
-        refused: 0,
-        lost: None,
-    })
 }
 
 /// A view of an answer.

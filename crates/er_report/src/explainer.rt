@@ -1,12 +1,8 @@
 //! `Explainer`, which finds the reasons of races while steps go by.
-ghost use Rattle.std.specs.Prelude.{◌≡◌, ◌++◌, ◌∷◌, ◌+◌, ℕ, [], List, cond, length, map, slice_get, slice_index, IfOk, OnOk, Some};
-ghost use Rattle.er_explain.specs.Books.{book_after};
+ghost use Rattle.std.specs.Prelude.{◌≡◌, ◌++◌, ◌+◌, ℕ, [], List, length, map, slice_get, slice_index, IfOk, OnOk, Some};
 ghost use Rattle.er_explain.specs.WordBooks.{book_in};
-ghost use Rattle.er_held.specs.ThreadLocks.{held_by};
 ghost use Rattle.er_model.specs.Explanations.{word_in};
-ghost use Rattle.er_model.specs.Following.{marked};
-ghost use Rattle.er_model.specs.Holdings.{after_step};
-ghost use Rattle.er_report.specs.Kept.{Follows, joining_reasons, line_access, told_found, word_reasons};
+ghost use Rattle.er_report.specs.Kept.{Follows, joining_reasons, told_found, word_reasons};
 ghost use Rattle.er_report.specs.Report.{is_printed};
 ghost use Rattle.er_rules.specs.Rules.{Target};
 ghost use Rattle.er_trace.specs.Trace.{Recording};
@@ -62,30 +58,10 @@ impl Explainer {
     pub(crate) fn follow(&mut self, line: u64, step: &Step, printed: bool) -> Made<()>
         ensures { (r : Recording) (rules : List Target) (k : ℕ) → Follows self.old r rules k → slice_get r.steps k ≡ Some step.now → line ≡ slice_index r.lines k → printed ≡ is_printed r rules k → OnOk result (Follows self.new r rules (k + 1)) }
     {
-        self.go_on(line, step)?;
-        self.tell(step.event, printed)?;
-        Ok(())
-    }
-
-    // The books and the locks go on by a step.
-    fn go_on(&mut self, line: u64, step: &Step) -> Made<()>
-        ensures books { OnOk result ((w : ℕ) → book_in self.new.books w ≡ book_after (book_in self.old.books w) w (line_access line (Some step.now)) (marked (held_by self.old.threads step.now.thread) step.now.thread step.now.event)) }
-        ensures held { OnOk result ((t : ℕ) → held_by self.new.threads t ≡ after_step (held_by self.old.threads t) t step.now) }
-        ensures told { OnOk result (self.new.told ≡ self.old.told) }
-    {
         self.books.follow(&self.locks, line, step)?;
         self.locks.follow(self.alloc, step)?;
-        Ok(())
-    }
-
-    // Keeps the reasons of a race that is printed.
-    fn tell(&mut self, event: Event, printed: bool) -> Made<()>
-        ensures books { OnOk result (self.new.books ≡ self.old.books) }
-        ensures held { OnOk result (self.new.threads ≡ self.old.threads) }
-        ensures told { OnOk result (self.new.told ≡ self.old.told ++ cond printed (word_reasons (book_in self.old.books) (word_in event) ∷ []) []) }
-    {
         if printed {
-            let reasons = self.reasons_for(word_in(event))?;
+            let reasons = self.reasons_for(word_in(step.event))?;
             self.told.push(reasons)?;
         }
         Ok(())

@@ -1,7 +1,7 @@
 //! The lines of races get their reasons.
 ghost use Rattle.std.specs.Prelude.{◌≡◌, drop, map};
 ghost use Rattle.std.specs.Vec.Iter.{into_iter_items};
-ghost use Rattle.er_report.specs.Inner.Explained.{line_told, lines_kept, next_told, told_left, with_told};
+ghost use Rattle.er_report.specs.Inner.Explained.{line_told, next_told, told_left, with_told};
 ghost use Rattle.er_report.specs.Lines.{line_view};
 
 use crate::{Because, Line};

@@ -1,22 +1,21 @@
 //! The report of a whole run.
-ghost use Rattle.std.specs.Prelude.{◌≡◌, ◌<◌, ◌≤◌, ◌+◌, ◌^◌, ℕ, [], All, IsTrue, is_some, length, IfOk, IfSome, OnOk};
+ghost use Rattle.std.specs.Prelude.{◌≡◌, ◌<◌, [], All, IsTrue, is_some, length, IfOk, IfSome, OnOk};
 ghost use Rattle.er_explain.specs.Racing.{is_race};
 ghost use Rattle.er_held.specs.ThreadLocks.{held_by};
 ghost use Rattle.er_journal.specs.AnswerList.{shown};
 ghost use Rattle.er_model.specs.Answers.{answers};
-ghost use Rattle.er_report.specs.Builder.{IsReported, IsStepAt};
-ghost use Rattle.er_report.specs.Names.{HasNames, HasSiteName};
+ghost use Rattle.er_report.specs.Builder.{IsReported};
+ghost use Rattle.er_report.specs.Names.{HasNames};
 ghost use Rattle.er_report.specs.Report.{told, report_of, answered_steps, stop_line};
 ghost use Rattle.er_rules.specs.Rules.{targets_of};
-ghost use Rattle.er_trace.specs.Trace.{Recording};
 
 use crate::{Made, Report, ReportBuilder};
-use er_event::{Lockset, NoRoom, Site, Step, ThreadId};
+use er_event::{Lockset, NoRoom, ThreadId};
 use er_held::ThreadLocks;
 use er_journal::{Answer, Outcome, Stopped};
 use er_keys::HashKeys;
 use er_rules::Suppressions;
-use er_trace::{Names, Trace};
+use er_trace::Trace;
 use std::alloc::{AllocError, Global};
 
 /// The report of a run of a trace's steps, which may have stopped at one of them. A race that a rule takes has no line and counts
@@ -83,42 +82,15 @@ fn add_steps(
         let Some(answer) = outcome.answers.get(k) else {
             break;
         };
+        let (names, line, site) = (trace.names(), trace.lines()[k], trace.sites()[k]);
         let held = race_locks(alloc, locks, step.thread, answer)?;
-        let added = add_one(
-            builder,
-            trace.names(),
-            trace.lines()[k],
-            trace.sites()[k],
-            step,
-            answer,
-            &held,
-        );
+        let added = builder.add(names, line, site, step, answer, &held);
         drop(held);
         added?;
+        builder.explain(line, step)?;
         locks.follow(alloc, step)?;
     }
     Ok(())
-}
-
-// Adds a step, and finds its reasons if it has some.
-fn add_one(
-    builder: &mut ReportBuilder<'_>,
-    names: &Names,
-    line: u64,
-    site: Site,
-    step: &Step,
-    answer: Answer<'_>,
-    held: &Lockset,
-) -> Made<()>
-    requires room { builder.old.report.steps + 1 < 2 ^ 64 }
-    requires site { HasSiteName names.now step.now.event }
-    requires at { site ≤ length names.now.sites }
-    ensures rules { OnOk result (builder.new.rules ≡ builder.old.rules) }
-    ensures explains { OnOk result (is_some builder.new.kept ≡ is_some builder.old.kept) }
-    ensures reported { (r : Recording) (k : ℕ) → IsReported builder.old r k → IsStepAt r k names.now line site step.now (shown answer.entry) held.now → OnOk result (IsReported builder.new r (k + 1)) }
-{
-    builder.add(names, line, site, step, answer, held)?;
-    builder.explain(line, step)
 }
 
 // The locks that the thread holds, if this answers a race; a report needs no others.

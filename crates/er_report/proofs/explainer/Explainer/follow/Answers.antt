@@ -1,16 +1,29 @@
-use Rattle.std.proofs.Common.{◌∙◌, ◌++◌, ◌∷◌, [], List, cond, ap}
+use Rattle.std.proofs.Common.{◌≡◌, ◌∙◌, ◌++◌, ◌∷◌, [], Bool, List, cond, map, refl, sym, ap, subst}
+use Rattle.std.proofs.lemmas.List.{append-nil, map-append}
 use Rattle.er_explain.specs.WordBooks.{book_in}
-use Rattle.er_held.specs.ThreadLocks.{held_by}
 use Rattle.er_model.specs.Explanations.{word_in}
-use Rattle.er_model.specs.Holdings.{Holdings}
-use Rattle.er_report.specs.Kept.{word_reasons}
+use Rattle.er_report.specs.Kept.{Follows, Kept, word_reasons}
 use Rattle.er_report.specs.declared.report.Because.{Because}
 use Rattle.er_report.proofs.KeptLemmas.{follows-next}
 use Rattle.er_report.proofs.explainer.Explainer.follow.Goals as goal
 
-pub returns : goal.returns
-returns c = λ r rules k so_far here number printed.
-    follows-next c.args.self.now c.tell.new.self r rules k c.args.line c.args.step.now c.args.printed c.go_on.new.self.books so_far here number printed c.in_ok-go_on.ensures.books
-    (λ t. ap (λ (threads : List Holdings). held_by threads t) c.in_ok-tell.ensures.held ∙ c.in_ok-go_on.ensures.held t) c.in_ok-tell.ensures.books
-    (c.in_ok-tell.ensures.told
-    ∙ ap (λ (told : List (List Because)). told ++ cond c.args.printed (word_reasons (book_in c.go_on.new.self.books) (word_in c.args.step.now.event) ∷ []) []) c.in_ok-go_on.ensures.told)
+pub returns-in_ok-push : goal.returns-in_ok-push
+returns-in_ok-push c = λ r rules k so_far here number printed.
+    let told : List (List Because) = map (λ reasons. reasons.items) c.self.inside.told.items in
+    let before : Kept = record { threads = c.self.inside.locks; books = c.self.inside.books; told = told } in
+    let found : List Because = word_reasons (book_in c.follow.new.self) (word_in c.args.step.now.event) in
+    let tells : map (λ reasons. reasons.items) c.push.new.self.items ≡ told ++ cond c.args.printed (found ∷ []) [] =
+    ap (map (λ reasons. reasons.items)) c.in_ok-push.ensures.items
+    ∙ map-append (λ reasons. reasons.items) c.self.inside.told.items (c.in_ok-reasons.reasons ∷ [])
+    ∙ ap (λ (reasons : List Because). told ++ reasons ∷ []) (c.in_ok-reasons.ensures ∙ ap (word_reasons (book_in c.follow.new.self)) c.word_in.ensures)
+    ∙ ap (λ (b : Bool). told ++ cond b (found ∷ []) []) (sym c.if-printed.true) in
+    follows-next before _ r rules k c.args.line c.args.step.now c.args.printed c.follow.new.self (subst (λ (kept : Kept). Follows kept r rules k) (sym c.self.view_is) so_far) here number printed
+    c.in_ok-follow.ensures c.in_ok-follow-2.ensures.threads refl tells
+
+pub returns-else-printed : goal.returns-else-printed
+returns-else-printed c = λ r rules k so_far here number printed.
+    let told : List (List Because) = map (λ reasons. reasons.items) c.self.inside.told.items in
+    let before : Kept = record { threads = c.self.inside.locks; books = c.self.inside.books; told = told } in
+    let found : List Because = word_reasons (book_in c.follow.new.self) (word_in c.args.step.now.event) in
+    follows-next before _ r rules k c.args.line c.args.step.now c.args.printed c.follow.new.self (subst (λ (kept : Kept). Follows kept r rules k) (sym c.self.view_is) so_far) here number printed
+    c.in_ok-follow.ensures c.in_ok-follow-2.ensures.threads refl (sym (append-nil told) ∙ ap (λ (b : Bool). told ++ cond b (found ∷ []) []) (sym c.if-printed.false))
