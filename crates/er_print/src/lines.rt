@@ -2,7 +2,7 @@
 ghost use Rattle.std.specs.Prelude.{◌≡◌, ◌<◌, [], ◌∷◌, ◌++◌, length, All, codes, decimal, flat_map, OnOk};
 ghost use Rattle.er_event.specs.Refusal.{text_of};
 ghost use Rattle.er_report.specs.declared.report.Deed.TheVariants as deed;
-ghost use Rattle.er_print.specs.Printed.{HasEventNames, event_text, kind_text, name_at, HasNames, HasRaceNames, HasReasonNames, RacedView, line_view, told, bytes_between, deed_text, place_text, race_label, races_label, reason_text, line_text, stop_text, count_text, counts_text, lost_text, totals_text, end_text};
+ghost use Rattle.er_print.specs.Printed.{HasEventNames, event_text, kind_text, name_at, HasNames, HasRaceNames, HasReasonNames, RacedView, line_view, told, bytes_between, deed_text, place_text, race_label, races_label, reason_text, line_text, stop_text, counts_text, lost_text, totals_text, end_text};
 
 use crate::naming::{put_address, put_event};
 use crate::pieces::Piece::{Address, Label, NamedSite, Number, State, Text, Thread, Verb};
@@ -181,17 +181,10 @@ fn put_rule_counts(out: &mut Vec<u8>, rule_counts: &[u64]) -> Put
     ensures { OnOk result (out.new.items ≡ out.old.items ++ counts_text 1 rule_counts.now) }
 {
     for (k, count) in rule_counts.iter().enumerate() {
-        put_rule_count(out, k as u64 + 1, *count)?;
+        put_labelled(out, b"suppression ", k as u64 + 1)?;
+        put_labelled(out, b": ", *count)?;
+        out.extend_from_slice(b"\n")?;
     }
-    Ok(())
-}
-
-fn put_rule_count(out: &mut Vec<u8>, number: u64, count: u64) -> Put
-    ensures { OnOk result (out.new.items ≡ out.old.items ++ count_text number count) }
-{
-    put_labelled(out, b"suppression ", number)?;
-    put_labelled(out, b": ", count)?;
-    out.extend_from_slice(b"\n")?;
     Ok(())
 }
 

@@ -74,21 +74,16 @@ pub(crate) fn put_state(out: &mut Vec<u8>, names: &Names, state: &WordState) -> 
             out.extend_from_slice(b"exclusive ")?;
             out.extend_from_slice(names.thread_name(*thread).as_bytes())
         }
-        WordState::Shared(locks) => {
-            out.extend_from_slice(b"shared")?;
-            put_candidates(out, names, locks)
-        }
-        WordState::SharedModified(locks) => {
-            out.extend_from_slice(b"shared-modified")?;
-            put_candidates(out, names, locks)
-        }
+        WordState::Shared(locks) => put_candidates(out, b"shared", names, locks),
+        WordState::SharedModified(locks) => put_candidates(out, b"shared-modified", names, locks),
     }
 }
 
-fn put_candidates(out: &mut Vec<u8>, names: &Names, locks: &Lockset) -> Put
+fn put_candidates(out: &mut Vec<u8>, label: &[u8], names: &Names, locks: &Lockset) -> Put
     requires { HasLockNames names.now locks.now }
-    ensures { OnOk result (out.new.items ≡ out.old.items ++ candidates_text names.now locks.now) }
+    ensures { OnOk result (out.new.items ≡ out.old.items ++ (label.now ++ candidates_text names.now locks.now)) }
 {
+    out.extend_from_slice(label)?;
     out.extend_from_slice(b", candidates ")?;
     put_locks_in(out, Style::Plain, names, locks.as_slice())
 }

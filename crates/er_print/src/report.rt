@@ -53,10 +53,7 @@ pub fn write_text<W: Write>(writer: &mut Device<W>, text: Built) -> Result<(), W
     let Ok(text) = text else {
         return Err(WriteFault::Memory);
     };
-    if writer.write_all(&text).is_err() {
-        return Err(WriteFault::Write);
-    }
-    Ok(())
+    writer.write_all(&text).map_err(|_| WriteFault::Write)
 }
 
 /// The text of a report of the lockset rule, with these names for its numbers.

@@ -1,6 +1,6 @@
 //! How names are written.
 ghost use Rattle.std.specs.Prelude.{◌≡◌, ◌++◌, ◌≤◌, length, OnOk};
-ghost use Rattle.er_print.specs.Styles.{escaped, escaped_text, label_in, level_in, lock_in, locks_in, missing_in, named_site, name_in, short, site_in, spaced_in, string_text};
+ghost use Rattle.er_print.specs.Styles.{escaped, escaped_text, label_in, level_in, lock_in, locks_in, named_site, name_in, short, site_in, string_text};
 ghost use Rattle.er_print.specs.Values.{between_text, comma_before};
 ghost use Rattle.er_report.specs.Names.{HasLabelName, HasLockName, HasLockNames};
 
@@ -110,7 +110,10 @@ pub(crate) fn put_site_in(out: &mut Vec<u8>, style: Style, names: &Names, site: 
     ensures { OnOk result (out.new.items ≡ out.old.items ++ site_in style names.now site) }
 {
     if site.number() == 0 {
-        return out.extend_from_slice(missing(style));
+        return match style {
+            Style::Json => out.extend_from_slice(b"null"),
+            Style::Plain | Style::InString | Style::Short => out.extend_from_slice(b"-"),
+        };
     }
     put_name(out, style, names.site_name(site).as_bytes(), 72)
 }
@@ -134,39 +137,20 @@ pub(crate) fn put_named_site(
     put_site_in(out, style, names, site)
 }
 
-fn missing(style: Style) -> &'static [u8]
-    ensures { result.now ≡ missing_in style }
-{
-    match style {
-        Style::Json => b"null".as_slice(),
-        Style::Plain | Style::InString | Style::Short => b"-".as_slice(),
-    }
-}
-
 /// Puts the names of locks.
 pub(crate) fn put_locks_in(out: &mut Vec<u8>, style: Style, names: &Names, locks: &[LockId]) -> Put
     requires { HasLockNames names.now locks.now }
     ensures { OnOk result (out.new.items ≡ out.old.items ++ locks_in style names.now locks.now) }
 {
-    match style {
-        Style::Json => {
+    match (style, locks) {
+        (Style::Json, _) => {
             out.push(b'[')?;
             put_between(out, b',', style, names, locks)?;
             out.extend_from_slice(b"]")
         }
-        Style::Plain | Style::InString | Style::Short => put_spaced(out, style, names, locks),
+        (_, []) => out.extend_from_slice(b"none"),
+        _ => put_between(out, b' ', style, names, locks),
     }
-}
-
-// Puts locks with spaces between them, or that there are none.
-fn put_spaced(out: &mut Vec<u8>, style: Style, names: &Names, locks: &[LockId]) -> Put
-    requires { HasLockNames names.now locks.now }
-    ensures { OnOk result (out.new.items ≡ out.old.items ++ spaced_in style names.now locks.now) }
-{
-    if locks.is_empty() {
-        return out.extend_from_slice(b"none");
-    }
-    put_between(out, b' ', style, names, locks)
 }
 
 fn put_between(out: &mut Vec<u8>, sign: u8, style: Style, names: &Names, locks: &[LockId]) -> Put

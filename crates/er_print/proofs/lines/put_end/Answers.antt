@@ -1,5 +1,5 @@
 -- The counts are those of the report.
-use Rattle.std.proofs.Common.{◌≡◌, ◌++◌, ℕ, List}
+use Rattle.std.proofs.Common.{◌≡◌, ◌++◌}
 use Rattle.std.proofs.lemmas.Result.{on_ok_weaker}
 use Rattle.er_print.proofs.DigitLemmas.{put_three}
 use Rattle.er_print.specs.Printed.{counts_text}
