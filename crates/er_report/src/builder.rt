@@ -80,6 +80,11 @@ impl<'r> ReportBuilder<'r> {
         ensures built { IfOk result (λ builder. (r : Recording) → IsReported builder r 0) }
     {
         let rule_counts = vec![in alloc; 0; rules.len()]?;
+        let explainer = explain.then(
+            || -> Explainer
+                ensures { (r : Recording) (rules : List Target) → Follows result r rules 0 }
+            { Explainer::new(alloc, keys) },
+        );
         Ok(ReportBuilder {
             rules,
             report: Report {
@@ -93,7 +98,7 @@ impl<'r> ReportBuilder<'r> {
                 lost: None,
             },
             races: Vec::new(alloc),
-            explainer: explainer_if(alloc, explain, keys),
+            explainer,
         })
     }
 
@@ -219,18 +224,6 @@ impl<'r> ReportBuilder<'r> {
         report.stop = None;
         give_reasons(reasons, &mut report.lines);
         report
-    }
-}
-
-// What finds reasons, if they are wanted.
-fn explainer_if(alloc: Global, explain: bool, keys: HashKeys) -> Option<Explainer>
-    ensures some { is_some result ≡ explain }
-    ensures start { (r : Recording) (rules : List Target) → IfSome result (λ kept. Follows kept r rules 0) }
-{
-    if explain {
-        Some(Explainer::new(alloc, keys))
-    } else {
-        None
     }
 }
 

@@ -1,4 +1,5 @@
 use Rattle.std.proofs.Common.{rules, ◌≡◌, None}
+use Rattle.std.proofs.lemmas.Option.{IfSome_then}
 use Rattle.er_report.specs.Builder.{IsBuilt}
 use Rattle.er_report.specs.Inner.Adding.{empty_report}
 use Rattle.er_report.specs.Report.{told}
@@ -14,4 +15,4 @@ returns-clause-built_by c =
 
 pub returns-clause-built : goal.returns-clause-built
 unfolding IsBuilt
-returns-clause-built c = λ r. record { built = returns-clause-built_by c _ r; explained = c.explainer_if.ensures.start r _ }
+returns-clause-built c = λ r. record { built = returns-clause-built_by c _ r; explained = IfSome_then c.then-explainer.result c.then-explainer.ensures.some (λ kept made. made r _) }
