@@ -5,7 +5,6 @@
 #![tactic(auto)]
 
 mod options;
-mod reading;
 mod request;
 mod words;
 

@@ -1,12 +1,13 @@
 //! What the words of a command line ask for.
 ghost use Rattle.std.specs.Prelude.{◌≡◌, ◌||◌, false, true, IfOk, IsOk};
-ghost use Rattle.er_request.specs.Words.{IsUsual, asks_hints, asks_print, asks_progress, asks_until_fault, asks_usual, gives_hints, names, names_hints, names_progress, names_until_fault, prints_input, replays_input, takes_input, usual_limit};
+ghost use Rattle.er_request.specs.Words.{IsUsual, asks_hints, asks_print, asks_progress, asks_until_fault, asks_usual, gives_hints, names, names_hints, names_progress, names_until_fault, prints_input, replays_input, takes_input};
 
-use crate::reading::read_by_parser;
-use crate::request::{Replay, Request};
-use clap::Error;
+use crate::options::{DEMOS, MOST_BYTES, MOST_SHARDS, MOST_WORKERS, eraser_command};
+use crate::request::{Demo, Explain, Replay, Request};
+use clap::error::ErrorKind;
+use clap::{ArgMatches, Command, Error};
 use er_report::{Analysis, Form};
-use std::alloc::Global;
+use std::alloc::{AllocError, Global};
 
 /// Reads a command line, of which the first word is the program's name. Steps before a fault are asked for only if a word asks for them,
 /// and so is how far a replay has come. What helps people is asked for by a word, or if the errors are a terminal. `replay -` and `print -` are read
@@ -30,8 +31,15 @@ pub fn read_request<'a>(
     if takes_input(words, "replay") {
         return Ok(Request::Replay(usual_replay(alloc, on_terminal)));
     }
-    let request = read_by_parser(alloc, words)?;
-    Ok(if_named(request, words, on_terminal))
+    match read_by_parser(alloc, words)? {
+        Request::Replay(mut replay) => {
+            replay.until_fault = replay.until_fault && names(words, "--until-fault");
+            replay.progress = replay.progress && names(words, "--progress");
+            replay.hints = on_terminal || (replay.hints && names(words, "--hints"));
+            Ok(Request::Replay(replay))
+        }
+        other => Ok(other),
+    }
 }
 
 // Whether the words are this command and `-`.
@@ -76,19 +84,112 @@ fn names(words: &[String], option: &str) -> bool
     words.iter().any(|word| word.as_str() == option)
 }
 
-fn if_named<'a>(request: Request<'a>, words: &[String], on_terminal: bool) -> Request<'a>
-    ensures until_fault { asks_until_fault result ≡ true → names_until_fault words.now ≡ true }
-    ensures progress { asks_progress result ≡ true → names_progress words.now ≡ true }
-    ensures hints { asks_hints result ≡ true → (names_hints words.now || on_terminal) ≡ true }
-    ensures terminal { on_terminal ≡ true → gives_hints result ≡ true }
-{
-    match request {
-        Request::Replay(mut replay) => {
-            replay.until_fault = replay.until_fault && names(words, "--until-fault");
-            replay.progress = replay.progress && names(words, "--progress");
-            replay.hints = on_terminal || (replay.hints && names(words, "--hints"));
-            Request::Replay(replay)
-        }
-        other => other,
+// The request, or the parser's error.
+type Read<'a> = Result<Request<'a>, Error>;
+
+// Reads a command line by the parser.
+fn read_by_parser<'a>(alloc: Global, words: &'a [String]) -> Read<'a> {
+    let mut command = eraser_command(alloc)?;
+    request_by(alloc, &mut command, words)
+}
+
+fn request_by<'a>(alloc: Global, command: &mut Command<'a>, words: &'a [String]) -> Read<'a> {
+    let matches = command.try_get_matches_from_mut(words)?;
+    let found = request_of(alloc, &matches);
+    drop(matches);
+    let Some(request) = found? else {
+        return Err(command.error(ErrorKind::InvalidValue, "a value is missing")?);
+    };
+    match conflict_of(&request) {
+        None => Ok(request),
+        Some(text) => Err(command.error(ErrorKind::ArgumentConflict, text)?),
     }
+}
+
+// What is wrong with a request whose words are right one by one.
+fn conflict_of(request: &Request<'_>) -> Option<&'static str> {
+    let Request::Replay(replay) = request else {
+        return None;
+    };
+    if replay.source.is_some() && replay.form != Form::Html {
+        return Some("--source goes with --format html alone");
+    }
+    if let Some(path) = replay.write_rules
+        && replay.suppressions.iter().any(|other| *other == path)
+    {
+        return Some("--write-rules would replace a file of --suppress: give it another path");
+    }
+    None
+}
+
+// None if a value is missing that the parser requires or gives.
+fn request_of<'a>(alloc: Global, all: &ArgMatches<'a>) -> Result<Option<Request<'a>>, AllocError> {
+    Ok(match all.subcommand() {
+        Some(("replay", found)) => {
+            let suppressions = found.get_strs("suppress").unwrap_or(&[]);
+            replay_of(found, suppressions.to_vec(alloc)?)
+        }
+        Some(("explain", found)) => explain_of(found),
+        Some(("print", found)) => found.get_str("trace").map(Request::Print),
+        Some(("demo", found)) => demo_of(found),
+        _ => None,
+    })
+}
+
+// The parser has refused numbers beyond their limits: `clamp` and `min` show that to the prover.
+fn replay_of<'a>(found: &ArgMatches<'a>, suppressions: Vec<&'a str>) -> Option<Request<'a>> {
+    let form = form_of(found)?;
+    let has_reasons = matches!(form, Form::BySite | Form::Sarif | Form::Html);
+    Some(Request::Replay(Replay {
+        write_rules: found.get_str("write-rules"),
+        unused_rules: found.get_flag("unused-rules"),
+        max_races: found.get_one::<u64>("max-races"),
+        trace: found.get_str("trace")?,
+        analysis: analysis_of(found)?,
+        form,
+        source: found.get_str("source"),
+        explain: has_reasons || found.get_flag("explain"),
+        strict: found.get_flag("strict"),
+        until_fault: found.get_flag("until-fault"),
+        progress: found.get_flag("progress"),
+        hints: found.get_flag("hints"),
+        shards: found.get_one::<u32>("shards")?.clamp(1, MOST_SHARDS),
+        workers: found.get_one::<u32>("workers")?.clamp(1, MOST_WORKERS),
+        byte_limit: found.get_one::<u64>("byte-limit")?.min(MOST_BYTES),
+        suppressions,
+    }))
+}
+
+fn analysis_of(found: &ArgMatches<'_>) -> Option<Analysis> {
+    match found.get_str("analysis")? {
+        "lockset" => Some(Analysis::Lockset),
+        "happens-before" => Some(Analysis::HappensBefore),
+        "both" => Some(Analysis::Both),
+        _ => None,
+    }
+}
+
+fn form_of(found: &ArgMatches<'_>) -> Option<Form> {
+    match (found.get_flag("by-site"), found.get_str("format")?) {
+        (true, _) => Some(Form::BySite),
+        (false, "text") => Some(Form::Text),
+        (false, "json") => Some(Form::Json),
+        (false, "sarif") => Some(Form::Sarif),
+        (false, "html") => Some(Form::Html),
+        _ => None,
+    }
+}
+
+fn explain_of<'a>(found: &ArgMatches<'a>) -> Option<Request<'a>> {
+    Some(Request::Explain(Explain {
+        line: found.get_one::<u64>("line")?,
+        trace: found.get_str("trace")?,
+        byte_limit: found.get_one::<u64>("byte-limit")?.min(MOST_BYTES),
+    }))
+}
+
+fn demo_of<'a>(found: &ArgMatches<'a>) -> Option<Request<'a>> {
+    let name = found.get_str("name")?;
+    let place = DEMOS.iter().position(|known| *known == name)?;
+    Some(Request::Demo(Demo { place }))
 }
