@@ -1,5 +1,5 @@
 -- What the program leaves in its two writers.
-use Rattle.std.specs.Prelude.{◌⊎◌, ℕ, Bool, true, false, List, Option, Result, Ok, Err, take, codes}
+use Rattle.std.specs.Prelude.{◌⊎◌, ℕ, Bool, true, false, List, Option, take, codes}
 use Rattle.std.specs.Io.KnownBytes.{Appends, Keeps}
 use Rattle.er_exit.specs.declared.faults.Fault.{Fault}
 use Rattle.er_exit.specs.declared.faults.Fault.TheVariants.{Write, WriteRules}
@@ -9,12 +9,6 @@ abbrev pub LeavesOutput : Option (List ℕ) → Option (List ℕ) → Fault → 
 LeavesOutput old new Write = Unit {0}
 LeavesOutput old new WriteRules = Unit {0}
 LeavesOutput old new fault = Keeps old new
-
--- the output got this line whole, and a beginning of it at most where there is a fault
-abbrev pub WritesLine : {X : Type 0} → Option (List ℕ) → Option (List ℕ) → List ℕ → Result X Fault → Type 0
-WritesLine old new line (Ok x) = Appends old new line
-WritesLine old new line (Err Write) = (n : ℕ) × Appends old new (take n line)
-WritesLine old new line (Err fault) = Keeps old new
 
 -- these bytes were written whole, or a beginning of them if a write failed
 abbrev pub WritesBytes : Option (List ℕ) → Option (List ℕ) → List ℕ → Bool → Type 0

@@ -38,9 +38,8 @@ where
     E: Write,
     ensures plain { AddsPlain (E.contents (inner_of errors.old)) (E.contents (inner_of errors.new)) }
 {
-    match advice_of(rt, trouble, byte_limit) {
-        Ok(text) => put_plain(errors, &text),
-        Err(_) => put_plain(errors, b""),
+    if let Ok(text) = advice_of(rt, trouble, byte_limit) {
+        put(errors, &text);
     }
 }
 
@@ -61,13 +60,6 @@ pub fn is_ordinary<R: Files>(rt: &R, path: &str) -> bool {
 pub fn open_ordinary<R: Files>(rt: &R, path: &str) -> Option<R::File> {
     let _size = size_of(rt, path)?;
     File::open(rt, path).ok()
-}
-
-fn put_plain<E: Write>(errors: &mut Device<E>, text: &[u8])
-    requires { is_plain text.now ≡ true }
-    ensures { AddsPlain (E.contents (inner_of errors.old)) (E.contents (inner_of errors.new)) }
-{
-    put(errors, text);
 }
 
 fn advice_of<R: Files + AllocGlobal>(rt: &R, trouble: Trouble<'_>, byte_limit: u64) -> Text

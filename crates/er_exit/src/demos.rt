@@ -2,8 +2,7 @@
 ghost use Rattle.std.specs.Prelude.{IfOk, IfErr};
 ghost use Rattle.er_device.specs.Device.{inner_of};
 ghost use Rattle.er_exit.specs.Demos.{IsDemo};
-ghost use Rattle.er_exit.specs.Lines.{demo_line};
-ghost use Rattle.er_exit.specs.Writes.{LeavesOutput, WritesLine};
+ghost use Rattle.er_exit.specs.Writes.{LeavesOutput};
 
 use crate::faults::Fault;
 use er_device::Device;
@@ -26,23 +25,11 @@ pub fn run_demo<R: Threads + Wait + Sync, O: Write>(
     ensures nothing { IfErr result (LeavesOutput (O.contents (inner_of output.old)) (O.contents (inner_of output.new))) }
 {
     let run = run_workload(rt, alloc, workload, &OpenGate)?;
-    let races = run.races();
-    write_demo(alloc, workload.name(), run.steps.len(), races, output)?;
-    Ok(u8::from(races > 0))
-}
-
-fn write_demo<O: Write>(
-    alloc: Global,
-    name: &str,
-    steps: usize,
-    races: usize,
-    output: &mut Device<O>,
-) -> Result<(), Fault>
-    ensures { WritesLine (O.contents (inner_of output.old)) (O.contents (inner_of output.new)) (demo_line name.now steps races) result }
-{
+    let (name, steps, races) = (workload.name(), run.steps.len(), run.races());
+    drop(run);
     let line = format!(in alloc; "{name}: steps {steps}, races {races}\n")?;
     match output.write_all(line.as_bytes()) {
-        Ok(()) => Ok(()),
+        Ok(()) => Ok(u8::from(races > 0)),
         Err(_) => Err(Fault::Write),
     }
 }
