@@ -94,8 +94,7 @@ where
             end(rt.alloc(), print_trace(rt, trace, input, output), errors)
         }
         Ok(Request::Demo(demo)) => {
-            let workload = Workload::ALL[demo.place];
-            let made = run_demo(rt, rt.alloc(), workload, output);
+            let made = run_demo(rt, rt.alloc(), Workload::ALL[demo.place], output);
             end(rt.alloc(), made, errors)
         }
         Err(error) => {

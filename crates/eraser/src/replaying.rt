@@ -99,26 +99,16 @@ where
 pub(crate) fn notes_of(alloc: Global, ended: Ended, hints: bool) -> Vec<u8>
     ensures { HasAdded ended.notes.items result.items (notes_on hints ended.ending ended.unordered) }
 {
-    let Ended {
-        status: _,
-        mut notes,
-        ending,
-        unordered,
-    } = ended;
-    add_notes(alloc, &mut notes, notes_on(hints, ending, unordered));
-    notes
-}
-
-// What is noted of a text that ends so, and in which nothing orders so many unordered accesses.
-fn notes_on(hints: bool, ending: Ending, unordered: u64) -> TextNotes
-    ensures { result ≡ notes_on hints ending unordered }
-{
+    let (ending, unordered) = (ended.ending, ended.unordered);
+    let Ended { mut notes, .. } = ended;
     let is_counted = ending.is_text_3 || hints;
-    TextNotes {
+    let added = TextNotes {
         no_end: ending.is_open,
         no_line_feed: ending.is_cut && hints,
         unordered: if is_counted { unordered } else { 0 },
-    }
+    };
+    add_notes(alloc, &mut notes, added);
+    notes
 }
 
 // What stands for a fault of a replay.
@@ -237,13 +227,7 @@ fn finish<R: Files>(
         drop(triaged);
         return Err(fault);
     }
-    let Triaged {
-        reports,
-        known_races,
-        notes,
-    } = triaged;
-    drop(reports);
-    drop(known_races);
+    let Triaged { notes, .. } = triaged;
     Ok(Ended {
         status: status_of(verdict),
         notes,
@@ -256,13 +240,10 @@ fn finish<R: Files>(
 fn write_rules<R: Files>(rt: &R, path: &str, text: &[u8]) -> Result<(), Fault>
     ensures { IfErr result (λ fault. fault ≡ WriteRules) }
 {
-    let Ok(file) = File::create(rt, path) else {
-        return Err(Fault::WriteRules);
-    };
-    match Device::new(file).write_all(text) {
-        Ok(()) => Ok(()),
-        Err(_) => Err(Fault::WriteRules),
-    }
+    let file = File::create(rt, path).map_err(|_| Fault::WriteRules)?;
+    Device::new(file)
+        .write_all(text)
+        .map_err(|_| Fault::WriteRules)
 }
 
 // Which file gets the rules for the known races, and their text. None if the replay stopped.

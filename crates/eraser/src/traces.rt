@@ -31,10 +31,8 @@ pub(crate) fn open_trace<R: Files + AllocGlobal>(
 ) -> Result<Decoded<R::File>, Fault>
     ensures { IfErr result (λ why. why ≡ OpenTrace) }
 {
-    match File::open(rt, path) {
-        Ok(file) => Ok(Decoded::new(rt.alloc(), file)),
-        Err(_) => Err(Fault::OpenTrace),
-    }
+    let file = File::open(rt, path).map_err(|_| Fault::OpenTrace)?;
+    Ok(Decoded::new(rt.alloc(), file))
 }
 
 /// How many bytes the text of a trace has. None if that isn't known before all of it is read.
@@ -154,10 +152,7 @@ fn explain_in<O: Write>(alloc: Global, trace: &Trace, line: u64, output: &mut De
     ensures fault { IfErr result (IsStoryFault trace.now line) }
     ensures failed { FailsOutput (has_failed output.new) result }
 {
-    let Ok(found) = tell_line(alloc, trace, line) else {
-        return Err(Fault::Memory);
-    };
-    let Some(story) = found else {
+    let Some(story) = tell_line(alloc, trace, line)? else {
         return Err(Fault::NoStep(line));
     };
     let written = write_story(alloc, output, &story, trace.names());

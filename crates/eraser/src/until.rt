@@ -46,7 +46,8 @@ enum Again<'a> {
     Kept(&'a [u8]),
 }
 
-/// Writes the notes, then the damage, and then the fault with what helps people. If a write fails, the rest is left out.
+/// Writes the notes, then the damage, and then the fault, whose status it returns. What helps people follows if it is asked for, as far as it is
+/// known. If a write fails, the rest is left out.
 pub(crate) fn report_cut<R: Files + AllocGlobal, E: Write>(
     rt: &R,
     replay: &Replay<'_>,
@@ -63,7 +64,13 @@ pub(crate) fn report_cut<R: Files + AllocGlobal, E: Write>(
     if let Some(damage) = cut.damage {
         report_fault(rt.alloc(), Fault::Damaged(damage), errors);
     }
-    report_replay_fault(rt, replay, cut.fault, errors)
+    let status = report_fault(rt.alloc(), cut.fault, errors);
+    if replay.hints
+        && let Some(trouble) = trouble_of(rt, replay, cut.fault)
+    {
+        advise(rt, trouble, replay.byte_limit, errors);
+    }
+    status
 }
 
 /// A replay that comes to no report for this reason.
@@ -186,19 +193,13 @@ fn replay_before<R: Files + AllocGlobal + Threads + Wait + Sync, O: Write, V: Wa
         return cut_by(rt.alloc(), fault);
     };
     let lines = first.line.saturating_sub(1);
-    let hints = job.replay.hints;
-    let second = replay_lines(rt, job, lines, again, output, watcher);
-    if !lacks_end_alone(&second) {
-        return cut_at(rt.alloc(), hints, first, second);
-    }
-    drop(second);
     let options = job.options.with_strict(false);
-    let lenient = Job {
-        options: &options,
-        ..job
-    };
-    let third = replay_lines(rt, lenient, lines, again, output, watcher);
-    cut_at(rt.alloc(), hints, first, third)
+    let mut replayed = replay_lines(rt, job, lines, again, output, watcher);
+    if lacks_end_alone(&replayed) {
+        let options = &options;
+        replayed = replay_lines(rt, Job { options, ..job }, lines, again, output, watcher);
+    }
+    cut_at(rt.alloc(), job.replay.hints, first, replayed)
 }
 
 // Replays the first lines of a text that is read again. A failed write is final.
@@ -258,25 +259,6 @@ fn cut_at(alloc: Global, hints: bool, first: TextFault, second: Result<Ended, Fa
         damage,
         fault,
     }
-}
-
-// Writes the line of a fault, and returns its status. What helps people follows if it is asked for, as far as it is known.
-fn report_replay_fault<R: Files + AllocGlobal, E: Write>(
-    rt: &R,
-    replay: &Replay<'_>,
-    fault: Fault,
-    errors: &mut Device<E>,
-) -> u8
-    ensures status { result ≡ fault_status fault }
-    ensures line { replay.now.hints ≡ false → GetsLine (E.contents (inner_of errors.old)) (E.contents (inner_of errors.new)) (fault_line fault) (has_failed errors.new) }
-{
-    let status = report_fault(rt.alloc(), fault, errors);
-    if replay.hints
-        && let Some(trouble) = trouble_of(rt, replay, fault)
-    {
-        advise(rt, trouble, replay.byte_limit, errors);
-    }
-    status
 }
 
 // What a fault has to do with a file whose path is known, if it has.
