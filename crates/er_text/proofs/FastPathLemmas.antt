@@ -1,5 +1,6 @@
 -- Lines in their usual form: the words of what is put together with single spaces.
 use Rattle.std.proofs.Common.{◌≡◌, ℕ, suc, ◌+◌, ◌*◌, ◌^◌, ◌<◌, ◌≤◌, Bool, true, false, not, cond, List, [], ◌∷◌, length, take, get_or, refl, ◌∙◌, subst, arith}
+use Rattle.std.specs.Prelude.{Option, Some, None, IfSome}
 use Rattle.std.specs.List.{list_all, position_or_len}
 use Rattle.std.specs.Char.{digit_value, is_digit}
 use Rattle.std.proofs.lemmas.Bool.Decides.{nat_tests}
@@ -56,6 +57,11 @@ four_digits_more bytes value i a b c d so within a_is b_is c_is d_is a_low b_low
     let three = at_place bytes _ (i + 2 + 1) (i + 3) (omega arith) (digit_more bytes ((value * 16 + a) * 16 + b) c (i + 2) two (omega (arith, within)) c_is c_low) in
     let four = at_place bytes _ (i + 3 + 1) (i + 4) (omega arith) (digit_more bytes (((value * 16 + a) * 16 + b) * 16 + c) d (i + 3) three (omega (arith, within)) d_is d_low) in
     of_value bytes _ _ (i + 4) (omega arith) four
+
+-- twelve digits of bytes that begin so are those of others
+pub same_front : (bytes block : List ℕ) (found : Option ℕ) → take 12 bytes ≡ take 12 block → IfSome found (λ value. HexSoFar block value 12) → IfSome found (λ value. HexSoFar bytes value 12)
+same_front bytes block None same so = tt
+same_front bytes block (Some value) same so = record { digits = rw same so.digits; value_is = rw same so.value_is; small = so.small }
 
 -- at most 12 digits write a number below 2 ^ 48
 pub few_small : (value i : ℕ) → value < 2 ^ (4 * i) → i ≤ 12 → value < 2 ^ 48

@@ -135,17 +135,31 @@ fn twelve_digits(bytes: &[u8]) -> Option<u64>
     Some(u64::from_be_bytes(pairs.cast::<u8>().to_array()) >> 16)
 }
 
+/// The same of fewer than 16 bytes: no site follows the address.
+#[inline(never)]
+fn twelve_last_digits(bytes: &[u8]) -> Option<u64>
+    requires { 12 ≤ length bytes.now }
+    ensures { IfSome result (λ value. HexSoFar bytes.now value 12) }
+{
+    let mut block = [0; 16];
+    block[..12].copy_from_slice(&bytes[..12]);
+    twelve_digits(&block)
+}
+
 /// The value of the hexadecimal digits in front, of which at most 12 are read, and how many these are.
 #[inline(always)]
 fn leading_digits(bytes: &[u8]) -> (u64, usize)
     ensures { AreLeadingDigits bytes.now result.0 result.1 }
 {
-    if bytes.len() >= 16
-        && let Some(value) = twelve_digits(bytes)
-    {
-        return (value, 12);
+    let twelve = match bytes.len() {
+        0..12 => None,
+        12..16 => twelve_last_digits(bytes),
+        _ => twelve_digits(bytes),
+    };
+    match twelve {
+        Some(value) => (value, 12),
+        None => digits_by_one(bytes),
     }
-    digits_by_one(bytes)
 }
 
 /// The word whose address stands in front, and what follows the address.
