@@ -378,7 +378,7 @@ def hostile_tests(record, one, folder):
     told = one.value("[...document.querySelectorAll('ul.threads > li')].map(start => start.textContent)")
     record("hostile names of threads are text", told == [f'{name} "{name}" was started at {name}' for name in HOSTILE], f"{told}")
     told = one.value("[...document.querySelectorAll('details.site > .body > p:first-child')].map(first => first.textContent)")
-    wanted = [f"byte 4 of a block of 8 bytes reused at {name}, the word" if place % 2 else f"{name}+4, the word" for place, name in enumerate(HOSTILE)]
+    wanted = [f"byte 4 of a block of 8 bytes allocated at {name}, the word" if place % 2 else f"{name}+4, the word" for place, name in enumerate(HOSTILE)]
     record("hostile names of variables and blocks are text", len(told) == len(wanted) and all(words in text for words, text in zip(wanted, told)), f"{told}")
     # And if a block were not escaped, the policy would keep the script from running.
     opened(b"".join((before, b"{}</script><script>window.hostile = 6</script><img src=x onerror='window.hostile = 7'>", between, b"[]", behind)), folder, one)

@@ -190,7 +190,7 @@ def subject(trace, line, address, most=72):
         return ""
     if memory.name:
         return f" {short(memory.name.decode(), most)}{f'+{memory.offset}' if memory.offset else ''},"
-    return f" byte {memory.offset} of a block of {memory.size} bytes{f' reused at {short(memory.place.decode(), most)}' if memory.place else ''},"
+    return f" byte {memory.offset} of a block of {memory.size} bytes{f' allocated at {short(memory.place.decode(), most)}' if memory.place else ''},"
 
 
 def starts(threads, trace):

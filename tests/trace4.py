@@ -26,7 +26,7 @@ ADDRESS_END = 1 << 48
 # By the bits of a tag.
 OPERANDS, DISTANCES, NODES, SIZES = (1, 2, 4, 8), (1, 2, 4, 6), (0, 1, 2, 4), (1, 4, 8, None)
 (THREAD, NODE, LOCK, UNLOCK, READ_LOCK, READ_UNLOCK, TRY, READ_TRY, FAILED_TRY, FAILED_READ_TRY, SIGNAL, AWAIT, START, JOIN, IGNORE_ON, IGNORE_OFF,
-    REUSE, SHOW, LEVEL, SENT, SAW, THREAD_NAME, LOCK_NAME, PLACE, NEW_NODE, NOTE, VARIABLE, FUNCTION, THREAD_FACTS, LOCK_FACTS, LOST, END) = range(32)
+    REUSE, SHOW, LEVEL, SENT, SAW, THREAD_NAME, LOCK_NAME, PLACE, NEW_NODE, NOTE, VARIABLE, FUNCTION, THREAD_FACTS, MEMORY_FACTS, LOST, END) = range(32)
 # Which verb a record has in the text, by what it names.
 OF_LOCKS = {LOCK: b"lock", UNLOCK: b"unlock", READ_LOCK: b"rlock", READ_UNLOCK: b"runlock", TRY: b"lock", READ_TRY: b"rlock", SIGNAL: b"signal", AWAIT: b"await"}
 FAILED = (FAILED_TRY, FAILED_READ_TRY)
@@ -85,7 +85,7 @@ class Trace:
         # By the numbers of lines, the places of the calls that led to their events, the innermost first.
         self.calls = {}
         # By the numbers of lines, the number of the place of their event, and those of the calls.
-        self.ways, self.functions, self.reused, self.words = {}, {}, [], {}
+        self.ways, self.functions, self.got, self.words = {}, {}, [], {}
         # The words of the races that a report shows in full, if they are known: no other words' blocks are kept for it.
         self.in_full = None
         try:
@@ -229,7 +229,7 @@ class Trace:
             self.line(ALONE[kind])
         elif kind in (REUSE, SHOW, LEVEL, SENT, SAW):
             self.read_other_event(kind, operand)
-        elif kind in (THREAD_NAME, LOCK_NAME, PLACE, NOTE, VARIABLE, FUNCTION, THREAD_FACTS, LOCK_FACTS):
+        elif kind in (THREAD_NAME, LOCK_NAME, PLACE, NOTE, VARIABLE, FUNCTION, THREAD_FACTS, MEMORY_FACTS):
             self.read_bytes(kind, self.take(operand))
         elif kind == NEW_NODE:
             place, flags = self.number(4), self.number(1)
@@ -247,8 +247,6 @@ class Trace:
         self.add_event(kind, address=address, size=operand if kind == REUSE else None)
         if kind == REUSE:
             self.line(b"reuse", b"0x%012x" % address, b"%d" % operand, *self.site())
-            if operand and address + operand <= ADDRESS_END:
-                self.reused.append(Block(len(self.lines), address, operand, self.place_of(self.node)))
         elif kind == SHOW:
             self.line(b"show", b"0x%012x" % address)
         elif kind == LEVEL:
@@ -273,16 +271,18 @@ class Trace:
 
     def read_fact(self, kind, content):
         """Keeps a fact that has the form of one. Any other says nothing."""
-        numbers = [int.from_bytes(content[begin:end], "little") for begin, end in ((0, 4), (4, 8), (4, 10), (0, 6), (6, 12))]
-        if kind == VARIABLE and reference.is_site(content[12:], b"3") and numbers[4] and sum(numbers[3:]) <= ADDRESS_END:
+        numbers = [int.from_bytes(content[begin:end], "little") for begin, end in ((0, 4), (4, 8), (4, 10), (0, 6), (6, 12), (12, 16))]
+        if kind == VARIABLE and reference.is_site(content[12:], b"3") and numbers[4] and sum(numbers[3:5]) <= ADDRESS_END:
             if not self.variables or numbers[3] >= self.variables[-1].address:
-                self.variables.append(Variable(*numbers[3:], content[12:]))
+                self.variables.append(Variable(*numbers[3:5], content[12:]))
         elif kind == FUNCTION and numbers[0] < len(self.places) and len(content) > 4 and reference.is_site(content[4:], b"3"):
             self.functions.setdefault(numbers[0], content[4:])
         elif kind == THREAD_FACTS and numbers[0] < len(self.threads) and numbers[1] < len(self.nodes) and (len(content) == 8 or reference.is_site(content[8:], b"3")):
             self.thread_facts[self.threads[numbers[0]]] = ThreadFact(numbers[1], content[8:])
-        elif kind == LOCK_FACTS and numbers[0] < len(self.locks) and len(content) == 10:
+        elif kind == MEMORY_FACTS and len(content) == 10 and numbers[0] < len(self.locks):
             self.lock_addresses[self.locks[numbers[0]]] = numbers[2]
+        elif kind == MEMORY_FACTS and len(content) == 16 and numbers[4] and sum(numbers[3:5]) <= ADDRESS_END and numbers[5] < len(self.nodes):
+            self.got.append(Block(len(self.lines), *numbers[3:5], self.place_of(numbers[5])))
 
     def variable_at(self, address):
         """What is at an address: the name of a variable, with the byte in it (`table+40`), or None."""
@@ -307,10 +307,7 @@ class Trace:
         return None
 
     def block_of(self, line, word):
-        """The block that the access on a line touched in a word: what the last reuse before it gave that has a byte of the word, or None. If no function
-        is named, memory that was taken may have no reuse, so no block is known."""
-        if not self.functions:
-            return None
+        """The block that the access on a line touched in a word: the last one before it that has a byte of the word, or None."""
         for block in reversed(self.kept(line)):
             if touches(block, word):
                 return Memory(b"", max(word - block.address, 0), block.size, block.place)
@@ -319,7 +316,7 @@ class Trace:
     def kept(self, line):
         """The last blocks before a line, without those that lie in a later one."""
         kept = []
-        for block in self.reused:
+        for block in self.got:
             if block.line < line and (self.in_full is None or any(touches(block, word) for word in self.in_full)):
                 apart = [old for old in kept if old.address < block.address or old.address + old.size > block.address + block.size]
                 kept = [*apart, block][-MOST_BLOCKS:]
@@ -428,13 +425,13 @@ class Writer:
             self.thread = number
         if self.chance(6):
             self.add_idle()
-        if self.facts and self.chance(40):
+        if self.facts and (self.events == 0 or self.chance(40)):
             self.add_facts()
         self.events += 1
 
     def add_idle(self):
         """A record that no text shows."""
-        kind = self.dice.choice((FAILED_TRY, FAILED_READ_TRY, SENT, SAW, VARIABLE, FUNCTION, THREAD_FACTS, LOCK_FACTS, LOST, THREAD_NAME, LOCK_NAME, NODE))
+        kind = self.dice.choice((FAILED_TRY, FAILED_READ_TRY, SENT, SAW, VARIABLE, FUNCTION, THREAD_FACTS, MEMORY_FACTS, LOST, THREAD_NAME, LOCK_NAME, NODE))
         if kind in (FAILED_TRY, FAILED_READ_TRY, SENT, SAW):
             operand = self.name(self.locks, LOCK_NAME, b"tried") if kind in FAILED else self.dice.randrange(ADDRESS_END)
             self.record(kind, operand)
@@ -450,26 +447,33 @@ class Writer:
             content = self.dice.randbytes(self.dice.randrange(40))
             self.record(kind, len(content), content)
 
-    def fact(self, kind, *numbers):
-        """A fact with these numbers, each with how many bytes it has, and a name, nothing or what is no name."""
+    def fact(self, kind, *numbers, names=(b"stats", b"Pool::take", b"main::{lambda}", b"f::x.guard", b"a", b"", b"no name", b"x" * 128, b"x" * 129)):
+        """A fact with these numbers, each with how many bytes it has, and one of the names, of which some are none."""
         if len(self.records) >= self.most_bytes:
             thread = self.thread
             self.end_block()
             if thread is not None:
                 self.record(THREAD, thread)
                 self.thread = thread
-        name = self.dice.choice((b"stats", b"Pool::take", b"main::{lambda}", b"f::x.guard", b"a", b"", b"no name", b"x" * 128, b"x" * 129))
-        content = b"".join(number.to_bytes(size, "little") for number, size in numbers) + name
+        content = b"".join(number.to_bytes(size, "little") for number, size in numbers) + self.dice.choice(names)
         content = content[:self.dice.randrange(len(content))] if self.chance(12) else content
         self.record(kind, len(content), content)
 
     def add_facts(self):
-        """Facts of the places and threads so far, and of the next ones."""
+        """Facts of memory, and of the places and threads so far and the next ones."""
+        self.add_blocks()
         for place in range(len(self.places) + 1):
             for _ in range(self.dice.randrange(3)):
                 self.fact(FUNCTION, (place, 4))
         for thread in range(len(self.threads) + 1):
             self.fact(THREAD_FACTS, (thread, 4), (self.dice.randrange(len(self.nodes) + 2), 4))
+
+    def add_blocks(self):
+        """Blocks of memory near the words of random traces. Some lie in others, and some facts lack a byte, a node or an end within memory."""
+        for _ in range(self.dice.randrange(5)):
+            address = self.dice.choice((0xff0, 0x1000, 0x1002, 0x1ff8, 0x2000, ADDRESS_END - 20, *self.touched))
+            node = self.dice.choice((0, self.node_of(b"new.c:5"), self.dice.randrange(len(self.nodes) + 2), len(self.nodes) + 1))
+            self.fact(MEMORY_FACTS, (address, 6), (self.dice.randrange(40), 6), (node, 4), names=(*[b""] * 8, b"x"))
 
     def add_variables(self):
         """Variables of the words so far. Some share words, and some lie below the one before."""

@@ -7,7 +7,7 @@
   the text, and replays give the same report, by path and by standard input, with each option of a report and several workers
 - random trees of calls and facts: the reports by site by each analysis, the JSON and the SARIF of a file show the calls that led to accesses, and what
   raced, as their second readings say; from standard input, from a FIFO and with --until-fault they show neither
-- the last 256 blocks of memory are known to a report, and no block before them
+- the last 256 blocks of memory are known to a report, and no block before them; facts that say nothing of a block
 - three small traces cut off at each byte, and with a random bit of each byte flipped: the fault of the damage, or the same report
 - records that no trace has, in blocks whose checksum is right: the damage is at their byte, and with --until-fault what stands before it is reported
 - one name or place more than a trace may have; records and blocks of the greatest length, and of one byte more; long traces of several blocks
@@ -38,7 +38,7 @@ from site_tests import TOP, preloaded, run, run_fifo, run_file
 
 RANDOM_TRACES = 200
 # What reports have of calls and facts.
-SHOWN = (b"called at", b" more\n", b"    in Pool::take\n", b" in stats\n", b" stats+", b" of a block of ", b" reused at ", b"\nthreads:\n", b" was started at ", b' "stats" was',
+SHOWN = (b"called at", b" more\n", b"    in Pool::take\n", b" in stats\n", b" stats+", b" of a block of ", b" allocated at ", b"\nthreads:\n", b" was started at ", b' "stats" was',
     b'"calls":', b'"functions":[', b'"functions":[null', b'"variable":', b'"block":', b'"site":null}', b'"threads":', b'"name":null', b'"stacks":', b'"kind":"function"')
 SCHEMA = json.loads(json_tests.SCHEMA.read_text())
 # Options of a replay. Each trace is replayed with some of them.
@@ -71,13 +71,6 @@ def is_sound(text):
 
 def random_texts():
     return [(f"random trace {seed}", reference.random_trace(seed)) for seed in range(RANDOM_TRACES) if is_sound(reference.random_trace(seed))]
-
-
-def with_blocks(text, dice):
-    """The text with blocks of memory that a thread of their own gets before all others do something. Some have a place, and some lie in others."""
-    header = b"eraser trace 3\n"
-    reuses = [b"maker reuse %#x %d%s\n" % (dice.choice((0xff0, 0x1000, 0x1002, 0x1ff8, 0x2000)), dice.randrange(1, 40), dice.choice((b"", b" new.c:5"))) for _ in range(dice.randrange(5))]
-    return header + b"".join(reuses) + text[len(header):] if text.startswith(header) else text
 
 
 def loss_of(dice):
@@ -174,7 +167,6 @@ def check_calls(record, name, text, data, way):
 def shown_calls(record):
     met = collections.Counter()
     for at, (name, text) in enumerate(random_texts()):
-        text = with_blocks(text, random.Random(at))
         data = trace4.encode(text, random.Random(at), most_bytes=random.Random(at).choice([100, 65536]), most_calls=at % 14, facts=at % 4 > 0)
         met.update(check_calls(record, name, trace4.text_of(data), data, list(READ_ONCE)[at % 3]))
     shown = collections.Counter()
@@ -206,6 +198,10 @@ def fact(writer, kind, *content):
     writer.record(kind, len(whole), whole)
 
 
+def block(writer, address, size, node):
+    fact(writer, T.MEMORY_FACTS, (address, 6), (size, 6), (node, 4))
+
+
 def pool(most_bytes=trace4.USUAL_BYTES):
     """A trace by hand that says all that a report can name: two threads meet in a block of memory, and in a variable."""
     writer = trace4.Writer(most_bytes=most_bytes)
@@ -214,7 +210,7 @@ def pool(most_bytes=trace4.USUAL_BYTES):
     first, second, third = (writer.node_of(place, called) for place in (b"pool.cpp:12", b"pool.cpp:13", b"pool.cpp:14"))
     for place, function in ((b"pool.cpp:22", b"main"), (b"pool.cpp:24", b"main"), (b"pool.cpp:17", b"work"), *((b"pool.cpp:%d" % line, b"note") for line in (12, 13, 14))):
         fact(writer, T.FUNCTION, (writer.places[place], 4), function)
-    writer.reuse(b"main", 0x555e36321eb0, 32, taken)
+    block(writer, 0x555e36321eb0, 32, taken)
     for thread in (b"t2", b"t3"):
         writer.of_thread(b"main", T.START, thread, started)
     writer.access(b"t2", True, 0x555e36321ebc, 4, first)
@@ -228,28 +224,58 @@ def pool(most_bytes=trace4.USUAL_BYTES):
 
 
 def blocks_by_hand(record):
-    """A report knows the last 256 blocks that have a word of its races, without those that lie in later ones, and none if no function is named."""
-    for count, is_named in ((255, True), (256, True), (255, False)):
+    """A report knows the last 256 blocks that have a word of its races, without those that lie in later ones. A reuse is no block."""
+    for count, begin in ((255, block), (256, block), (255, lambda writer, *bytes_and_node: writer.reuse(b"t1", *bytes_and_node))):
         writer = trace4.Writer()
         node = writer.node_of(b"a.c:2", writer.node_of(b"a.c:1"))
-        if is_named:
-            fact(writer, T.FUNCTION, (writer.places[b"a.c:1"], 4), b"main")
-        writer.reuse(b"t1", 0x1000, 64, node)
+        begin(writer, 0x1000, 64, node)
         for address, sizes in ((0x3000, [64] * 300), (0x2000, [4] * 300), (0x2000, range(4 * count, 0, -4))):
             for size in sizes:
-                writer.reuse(b"t1", address, size, node)
+                begin(writer, address, size, node)
         for word in (0x1004, 0x2000):
             for thread in (b"t1", b"t2"):
                 writer.access(thread, True, word, 4, writer.node_of(b"%s.c:%x" % (thread, word)))
         data = writer.finish()
         trace = trace4.Trace(data)
         trace.in_full = {0x1004, 0x2000}
+        name = f"{'a block' if begin is block else 'a reuse'}, and {count} behind it"
         found, wanted = run_file(None, data, "--by-site"), site_tests.expected(trace.text(), None, True, trace)
-        record(f"trace 4: a block, and {count} behind it{'' if is_named else ', without a function'}", found == wanted and wanted[2] == 1, f"{found}, {wanted}")
+        record(f"trace 4: {name}", found == wanted and wanted[2] == 1, f"{found}, {wanted}")
         told = re.findall(rb"wrote(.*?) the word at", found[0])
-        oldest, latest = b" byte 4 of a block of 64 bytes reused at a.c:2,", b" byte 0 of a block of 4 bytes reused at a.c:2,"
-        named = [oldest if count == 255 else b"", latest] if is_named else [b"", b""]
-        record(f"trace 4: which of {count + 1} blocks are reported{'' if is_named else ', without a function'}", told == named, f"{told}")
+        oldest, latest = b" byte 4 of a block of 64 bytes allocated at a.c:2,", b" byte 0 of a block of 4 bytes allocated at a.c:2,"
+        named = [oldest if count == 255 else b"", latest] if begin is block else [b"", b""]
+        record(f"trace 4: {name}: which of them are reported", told == named, f"{told}")
+    facts_of_memory(record)
+
+
+def facts_of_memory(record):
+    """What is told of a block by a fact of its address, its size and its node, or by bytes that are none."""
+    told, end = b" byte 4 of a block of 8 bytes", (1 << 48) - 8
+    for name, address, facts, wanted in (
+        ("a block", 0x1000, [(0x1000, 8, 1)], told + b" allocated at new.c:5,"),
+        ("a block without a node", 0x1000, [(0x1000, 8, 0)], told + b","),
+        ("a block at the end of memory", end, [(end, 8, 1)], told + b" allocated at new.c:5,"),
+        ("a block past the end of memory", end, [(end, 9, 1)], b""),
+        ("a block of all memory", 0x1000, [(0, (1 << 48) - 1, 1)], b" byte 4100 of a block of 281474976710655 bytes allocated at new.c:5,"),
+        ("a block of no byte", 0x1000, [(0x1000, 0, 1)], b""),
+        ("a node that isn't there", 0x1000, [(0x1000, 8, 3)], b""),
+        ("a fact of 15 bytes", 0x1000, [(0x1000, 8, 1), b"\0\x10\0\0\0\0\4" + bytes(8)], told + b" allocated at new.c:5,"),
+        ("a fact of 17 bytes", 0x1000, [(0x1000, 8, 1), b"\0\x10\0\0\0\0\4" + bytes(10)], told + b" allocated at new.c:5,"),
+        ("where a lock lies", 0x1000, [(0x1000, 8, 1), b"\0\0\0\0\0\x10\0\0\0\0"], told + b" allocated at new.c:5,"),
+        ("a block in a block", 0x1000, [(0x1000, 8, 1), (0x1004, 4, 0)], b" byte 0 of a block of 4 bytes,"),
+        ("a block beside a block", 0x1000, [(0x1000, 8, 1), (0x1008, 4, 0)], told + b" allocated at new.c:5,"),
+    ):
+        writer = trace4.Writer()
+        writer.node_of(b"new.c:5")
+        for thread in (b"t1", b"t2"):
+            writer.access(thread, True, address + 4, 4, writer.node_of(b"a.c:1"))
+            for fact_of in facts if thread == b"t1" else []:
+                block(writer, *fact_of) if isinstance(fact_of, tuple) else fact(writer, T.MEMORY_FACTS, fact_of)
+        data = writer.finish()
+        trace = trace4.Trace(data)
+        found, expected = run_file(None, data, "--by-site"), site_tests.expected(trace.text(), None, True, trace)
+        record(f"trace 4: {name}, in a report", found == expected and found[2] == 1, f"{found}, {expected}")
+        record(f"trace 4: {name}: what is told of it", re.findall(rb"wrote(.*?) the word at", found[0]) == [wanted], f"{found}")
 
 
 # ---- Damaged traces
@@ -319,7 +345,7 @@ EVENTS_OF = [record_of(kind, 0) for kind in (T.LOCK, T.UNLOCK, T.READ_LOCK, T.RE
 OTHERS = [record_of(T.START, 1), record_of(T.JOIN, 1), record_of(T.IGNORE_ON, 7), record_of(T.IGNORE_OFF, 2**64 - 1), record_of(T.REUSE, 8, b"\3\0\0\0\0\0"), record_of(T.REUSE, 8, b"\3\0\0\0\0\0"),
     record_of(T.SHOW, 2**48 - 1), record_of(T.LEVEL, 31), record_of(T.LEVEL, 0, length=8), record_of(T.SENT, 5), record_of(T.SAW, 5)]
 SOUND = {
-    "every kind of record": ([*BEGIN, *EVENTS_OF, *OTHERS, *(named(kind, b"\0\xff") for kind in (T.VARIABLE, T.FUNCTION, T.THREAD_FACTS, T.LOCK_FACTS)), named(T.NOTE, b" a~"),
+    "every kind of record": ([*BEGIN, *EVENTS_OF, *OTHERS, *(named(kind, b"\0\xff") for kind in (T.VARIABLE, T.FUNCTION, T.THREAD_FACTS, T.MEMORY_FACTS)), named(T.NOTE, b" a~"),
         record_of(T.LOST, 9), record_of(T.LOST, 2), record_of(T.END, len(EVENTS_OF) + len(OTHERS))],
         b"a lock m\na unlock m\na rlock m\na runlock m\na lock m\na unlock m\na rlock m\na runlock m\na signal m\na await m\na start b\na join b\na ignore-on\na ignore-off\n"
         b"a reuse 0x000000000003 8\na reuse 0x000000000003 8\na show 0xffffffffffff\na level 31\na level 0\n#  a~\n# incomplete: 23 events, 2 lost\nend\n"),
@@ -429,7 +455,7 @@ def refusals_again(record, preloaded, folder):
         (b"", b"read fault\n", 4): "read fault",
     }
     whole = next(iter(reports))[0]
-    named = all(word in whole for word in (b" byte 12 of a block of 32 bytes reused at pool.cpp:22,", b" stats+24,", b"    in note\n", b"    called at pool.cpp:17 in work\n", b'  t3 "worker" was started at pool.cpp:24\n'))
+    named = all(word in whole for word in (b" byte 12 of a block of 32 bytes allocated at pool.cpp:22,", b" stats+24,", b"    in note\n", b"    called at pool.cpp:17 in work\n", b'  t3 "worker" was started at pool.cpp:24\n'))
     record("trace 4: what a report by site of a file may have", len(reports) == 4 and named, f"{reports}")
     for nth, found, was_refused in each_refused(library, folder, lambda env: run(["replay", "--by-site", str(path)], env=env)):
         outcome = reports.get(found) or outcome_of(found, None, lambda text: b": stopped: out of memory\n" in text)

@@ -3,3 +3,4 @@ pub mod PlaceLemmas
 pub mod TextLemmas
 pub mod AskLemmas
 pub mod FrontLemmas
+pub mod NotingLemmas

@@ -1,9 +1,12 @@
 -- What is noted of a binary trace beside its text.
-use Rattle.std.specs.Prelude.{ℕ, cond, length, nat_eq, ◌+◌, ◌-◌, ◌/◌, ◌&&◌, nat_le, Bool, List, [], option_map, vec_items, unwrap_or}
+use Rattle.std.specs.Prelude.{◌≡◌, ◌<◌, ◌==◌, ℕ, cond, count_by, drop, length, min, nat_eq, ◌+◌, ◌-◌, ◌/◌, ◌^◌, ◌&&◌, nat_le, not, Bool, false, List, [], option_map, vec_items, unwrap_or, if◌then◌else◌}
 use Rattle.std.specs.Global.{Vec}
 use Rattle.std.specs.BTreeMap.{is_at}
+use Rattle.std.specs.List.{list_any}
 use Rattle.std.specs.Map.{lookup}
 use Rattle.std.specs.Ordering.{nat_cmp}
+use Rattle.er_binary.specs.Nodes.{way_to}
+use Rattle.er_binary.specs.declared.state.State.{State}
 use Rattle.er_places.specs.declared.facts.Block.{Block}
 use Rattle.er_places.specs.declared.facts.Extent.{Extent}
 use Rattle.er_places.specs.declared.facts.Facts.{Facts}
@@ -28,10 +31,13 @@ table_of f = record { ways = f.ways.entries; blocks = f.blocks.entries; variable
 abbrev pub known_places : List (List ℕ) → FactTable
 known_places names = record { ways = []; blocks = []; variables = []; threads = []; functions = []; places = names }
 
--- what is told of what was noted: nothing if memory was refused, and no block if no function is named
+-- whether it is told: no memory was refused
+abbrev pub is_told : Facts → Bool
+is_told f = not f.failed
+
+-- what is told of it, with the names of places
 abbrev pub told : Facts → List (List ℕ) → FactTable
-told f names =
-    cond f.failed (known_places names) (record (table_of f) { blocks = cond (nat_eq (length f.functions.entries) 0) [] f.blocks.entries; places = names })
+told f names = cond (is_told f) (record (table_of f) { places = names }) (known_places names)
 
 -- the lines and the words of which something is asked
 abbrev pub lines_asked : Facts → List ℕ
@@ -51,3 +57,22 @@ way_on facts line = unwrap_or (option_map vec_items (lookup (is_at (nat_cmp line
 -- the function that a place is in
 abbrev pub function_in : FactTable → ℕ → List ℕ
 function_in facts place = unwrap_or (option_map vec_items (lookup (is_at (nat_cmp place)) facts.functions)) []
+
+-- how many lines there are behind more text, up to 2^64 - 1
+abbrev pub lines_behind : ℕ → List ℕ → ℕ
+lines_behind lines text = min (lines + count_by (λ byte. byte == 10) text) (2 ^ 64 - 1)
+
+-- a line is among the first, and is one of the wanted ones that were not met
+abbrev pub is_due : Facts → ℕ → ℕ → Bool
+is_due f lines line = list_any (nat_eq line) (drop f.met (lines_asked f)) && nat_le line lines
+
+-- what is kept for a line once these are met: the calls that led to the node, or what was kept before
+abbrev pub way_behind : Facts → ℕ → State → ℕ → List ℕ
+way_behind f lines state line = if is_due f lines line then way_to state.nodes state.node else way_on (table_of f) line
+
+-- what a record with this text changed: its lines are counted, and the wanted ones among them are met
+pub record HasNoted (before : Facts) (text : List ℕ) (state : State) (after : Facts) : Type 0 where
+  pub lines : before.met < length (lines_asked before) → after.lines ≡ lines_behind before.lines text
+  pub ways : (line : ℕ) → way_on (table_of after) line ≡ way_behind before after.lines state line
+  pub met : (line : ℕ) → is_due after after.lines line ≡ false
+  pub wanted : after.wanted ≡ before.wanted

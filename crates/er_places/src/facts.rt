@@ -1,5 +1,5 @@
 //! What a binary trace says of the program beside its events, as far as that is asked.
-ghost use Rattle.std.specs.Prelude.{◌≡◌, ◌≤◌, ◌<◌, ◌^◌, ◌+◌, ◌*◌, ◌-◌, ◌/◌, ℕ, [], None, IfSome, OnOk, false, nat_eq, vec_len};
+ghost use Rattle.std.specs.Prelude.{IsSorted, ◌≡◌, ◌==◌, ◌≤◌, ◌<◌, ◌^◌, ◌+◌, ◌*◌, ◌-◌, ◌/◌, ℕ, [], None, IfSome, OnOk, true, false, count_by, nat_eq, vec_len};
 ghost use Rattle.er_binary.specs.Nodes.{way_to};
 
 use crate::wanted::Put;
@@ -11,7 +11,7 @@ use std::collections::BTreeMap;
 use std::io;
 use std::io::Read;
 
-// So many blocks that have wanted words are kept.
+// The most blocks that are kept.
 const MOST_BLOCKS: usize = 256;
 
 /// Bytes of memory: `size` of them, from an address on.
@@ -26,13 +26,14 @@ pub struct Extent {
 impl Extent {
     ghost use Rattle.er_places.specs.Facts.{has_word};
 
-    // None if it has no byte, or one past the last address.
-    fn new(address: u64, size: u64) -> Option<Extent> {
-        let end = Word::ADDRESSES;
-        if size == 0 || address > end || size > end - address {
+    // What the first bytes say, and the others. None if it has no byte, or one past the last address.
+    fn read(bytes: &[u8]) -> Option<(Extent, &[u8])> {
+        let (head, rest) = bytes.split_first_chunk::<12>()?;
+        let (address, size) = (number(&head[..6]), number(&head[6..]));
+        if size == 0 || size > Word::ADDRESSES || address > Word::ADDRESSES - size {
             return None;
         }
-        Some(Extent { address, size })
+        Some((Extent { address, size }, rest))
     }
 
     /// Whether the word of a number has one of its bytes.
@@ -64,7 +65,7 @@ pub struct Variable {
     pub name: Vec<u8>,
 }
 
-/// A block of memory, and the place where it was taken or given back, if that is known.
+/// A block of memory, and the place where the program got it, if that is known.
 #[derive(Clone, Copy)]
 pub struct Block {
     pub extent: Extent,
@@ -92,7 +93,7 @@ pub struct Facts {
     // No variable to come begins before this address, or is the first of so many of the words.
     from: u64,
     named: usize,
-    // What the last reuses gave, without those that lie in later ones.
+    // The last blocks that have wanted words, without those that lie in later ones.
     recent: Vec<Block>,
     // By the line of an event its place and those of the calls that led there, the innermost first, and the block that it touched.
     pub(crate) ways: BTreeMap<u64, Vec<u32>>,
@@ -107,8 +108,9 @@ pub struct Facts {
 }
 
 impl Facts {
-    ghost use Rattle.er_places.specs.Inner.Noting.{next_made};
-    ghost use Rattle.er_places.specs.Facts.{known_places, table_of, way_on};
+    ghost use Rattle.std.specs.Ordering.{nat_cmp};
+    ghost use Rattle.er_places.specs.Inner.Noting.{SameLines, next_made};
+    ghost use Rattle.er_places.specs.Facts.{HasNoted, known_places, lines_asked, table_of, way_on};
 
     /// What a trace says of the events on these lines, and of these words, is asked. Both rise.
     pub(crate) fn asked(alloc: Global, lines: Vec<u64>, words: Vec<u64>) -> Facts
@@ -137,11 +139,23 @@ impl Facts {
         }
     }
 
-    // Notes the wanted lines that are made. An access on line L is of the word L behind the given one, modulo 2^64.
-    fn meet_lines(&mut self, word: u64, state: &State) -> Put
-        ensures lines { self.new.lines ≡ self.old.lines }
-        ensures all { OnOk result (next_made self.new ≡ None) }
+    /// Nothing is asked.
+    pub(crate) fn none(alloc: Global) -> Facts
+        ensures { table_of result ≡ known_places [] }
     {
+        Facts::asked(alloc, Vec::new(alloc), Vec::new(alloc))
+    }
+
+    // Counts the lines of a text, and notes the wanted ones among them. After an error some may be missed.
+    fn meet_lines(&mut self, text: &[u8], state: &State) -> Put
+        ensures { OnOk result (IsSorted nat_cmp (lines_asked self.old) → HasNoted self.old text.now state.now self.new) }
+    {
+        if self.met >= self.wanted.len() {
+            return Ok(());
+        }
+        // An access on line L is of the word L behind this one, modulo 2^64.
+        let word = state.last_word().wrapping_sub(self.lines.wrapping_add(1));
+        self.lines = self.lines.saturating_add(feeds_in(text) as u64);
         while let Some(line) = self.next_made() {
             self.note(line, word.wrapping_add(line), state)?;
             self.met += 1;
@@ -179,44 +193,42 @@ impl Facts {
     }
 
     // Notes what a record says. After an error it may be missed.
-    fn note_record(&mut self, bytes: &[u8], text: &[u8], state: &State) -> Put {
-        if self.met < self.wanted.len() {
-            let word = state.last_word().wrapping_sub(self.lines.wrapping_add(1));
-            let feeds = text.iter().filter(|byte| **byte == b'\n');
-            self.lines = self.lines.saturating_add(feeds.count() as u64);
-            self.meet_lines(word, state)?;
-        }
+    fn note_record(&mut self, bytes: &[u8], text: &[u8], state: &State) -> Put
+        ensures { OnOk result (IsSorted nat_cmp (lines_asked self.old) → HasNoted self.old text.now state.now self.new) }
+    {
+        self.meet_lines(text, state)?;
         match bytes.first() {
-            Some(tag) if *tag >= 128 => self.note_other(bytes, state),
+            Some(tag) if *tag >= 128 => self.note_fact(bytes, state),
             _ => Ok(()),
         }
     }
 
     // A fact that doesn't have its form, or that names what isn't there yet, says nothing.
-    fn note_other(&mut self, bytes: &[u8], state: &State) -> Put {
+    fn note_fact(&mut self, bytes: &[u8], state: &State) -> Put
+        ensures { SameLines self.old self.new }
+    {
         let Some(head) = record_at(bytes) else {
             return Ok(());
         };
         let (_, body) = bytes.split_at(head.len);
         // The tag is 4 times 32 and the kind, and which operand it has.
-        match (bytes[0] / 4, head.says) {
-            (48, Record::Other(_, size)) => self.add_block(state, size, body),
-            (58, _) => self.add_variable(body),
-            (59, _) => self.add_function(state, body),
-            (60, _) => self.add_thread(state, body),
+        match bytes[0] / 4 {
+            58 => self.add_variable(body),
+            59 => self.add_function(body, state),
+            60 => self.add_thread(body, state),
+            61 => self.add_block(body, state),
             _ => Ok(()),
         }
     }
 
-    fn add_block(&mut self, state: &State, size: u64, body: &[u8]) -> Put {
-        let Some((address, _)) = body.split_first_chunk::<6>() else {
-            return Ok(());
-        };
-        let Some(extent) = Extent::new(number(address), size) else {
+    fn add_block(&mut self, body: &[u8], state: &State) -> Put
+        ensures { SameLines self.old self.new }
+    {
+        let Some((extent, node)) = Extent::read(body) else {
             return Ok(());
         };
         let (from, to) = self.words_of(extent);
-        if from == to {
+        if from == to || node.len() != 4 || number(node) > state.nodes.len() {
             return Ok(());
         }
         let end = extent.address + extent.size;
@@ -225,16 +237,15 @@ impl Facts {
         if self.recent.len() >= MOST_BLOCKS {
             self.recent.remove(0);
         }
-        let place = state.nodes.place_of(state.node);
+        let place = state.nodes.place_of(number(node));
         self.recent.push(Block { extent, place })?;
         Ok(())
     }
 
-    fn add_variable(&mut self, body: &[u8]) -> Put {
-        let Some((head, name)) = body.split_first_chunk::<12>() else {
-            return Ok(());
-        };
-        let Some(extent) = Extent::new(number(&head[..6]), number(&head[6..])) else {
+    fn add_variable(&mut self, body: &[u8]) -> Put
+        ensures { SameLines self.old self.new }
+    {
+        let Some((extent, name)) = Extent::read(body) else {
             return Ok(());
         };
         if extent.address < self.from || !is_site_name(name) {
@@ -252,7 +263,9 @@ impl Facts {
         Ok(())
     }
 
-    fn add_function(&mut self, state: &State, body: &[u8]) -> Put {
+    fn add_function(&mut self, body: &[u8], state: &State) -> Put
+        ensures { SameLines self.old self.new }
+    {
         let Some((head, name)) = body.split_first_chunk::<4>() else {
             return Ok(());
         };
@@ -263,7 +276,9 @@ impl Facts {
         Ok(())
     }
 
-    fn add_thread(&mut self, state: &State, body: &[u8]) -> Put {
+    fn add_thread(&mut self, body: &[u8], state: &State) -> Put
+        ensures { SameLines self.old self.new }
+    {
         let Some((head, name)) = body.split_first_chunk::<8>() else {
             return Ok(());
         };
@@ -287,8 +302,19 @@ impl Facts {
     }
 }
 
+fn feeds_in(bytes: &[u8]) -> usize
+    ensures { result ≡ count_by (λ byte. byte == 10) bytes.now }
+{
+    bytes.iter().filter(|byte| **byte == b'\n').count()
+}
+
 impl Listener for Facts {
-    fn hear(&mut self, bytes: &[u8], text: &[u8], state: &State) {
+    ghost use Rattle.std.specs.Ordering.{nat_cmp};
+    ghost use Rattle.er_places.specs.Facts.{HasNoted, is_told, lines_asked};
+
+    fn hear(&mut self, bytes: &[u8], text: &[u8], state: &State)
+        ensures { is_told self.new ≡ true → IsSorted nat_cmp (lines_asked self.old) → HasNoted self.old text.now state.now self.new }
+    {
         if !self.failed {
             self.failed = self.note_record(bytes, text, state).is_err();
         }
@@ -306,17 +332,13 @@ impl<R: Drop> Noting<R> {
     ghost use Rattle.er_binary.specs.Decoded.{places_of};
     ghost use Rattle.er_places.specs.Facts.{table_of, told};
 
-    /// What is told of what was noted, as far as the trace was read: the names of the places alone if memory was refused meanwhile, and no block if
-    /// the trace names no function. Then memory that was taken may have no reuse.
+    /// What was noted, as far as the trace was read. If memory was refused meanwhile, it is the names of the places alone.
     pub fn into_facts(self) -> Facts
         ensures { table_of result ≡ told self.facts (places_of self.decoded) }
     {
         let Noting { decoded, mut facts } = self;
-        let alloc = facts.alloc;
         if facts.failed {
-            facts = Facts::asked(alloc, Vec::new(alloc), Vec::new(alloc));
-        } else if facts.functions.is_empty() {
-            facts.blocks = BTreeMap::new(alloc);
+            facts = Facts::none(facts.alloc);
         }
         facts.places = decoded.into_places();
         facts

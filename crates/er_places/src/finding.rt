@@ -10,7 +10,7 @@ ghost use Rattle.er_lines.specs.Faults.{HasFailedBy};
 ghost use Rattle.er_lines.specs.Lending.{taken_by};
 
 use crate::follower::Follower;
-use crate::wanted::Wanted;
+use crate::wanted::{Numbers, Wanted, to_rising};
 use crate::{Facts, Places};
 use er_device::Device;
 use er_report::Reports;
@@ -45,13 +45,13 @@ impl Finder {
     }
 
     /// Reads a batch, follows its steps and forgets them. Returns whether more can be found: not once each wanted line has its place.
-    fn turn<D: Read>(&mut self, reader: &mut Device<D>, wanted: &Wanted) -> Result<bool, ReadFault>
+    fn turn<D: Read>(&mut self, reader: &mut Device<D>, wanted: &Numbers) -> Result<bool, ReadFault>
         requires open { has_failed reader.old ≡ false }
-        ensures come { (told : Option (List ℕ)) → HasCome (is_wanted wanted.now) told (D.remaining (inner_of reader.old)) self.old.lines self.old.trace self.old.follower
-            → IfOk result (λ more. more ≡ true → HasCome (is_wanted wanted.now) told (D.remaining (inner_of reader.new)) self.new.lines self.new.trace self.new.follower) }
-        ensures ended { (told : Option (List ℕ)) → HasCome (is_wanted wanted.now) told (D.remaining (inner_of reader.old)) self.old.lines self.old.trace self.old.follower
-            → IfOk result (λ more. more ≡ false → HasEnded (is_wanted wanted.now) told self.old.lines.place.limit self.new.trace self.new.follower) }
-        ensures fault { (told : Option (List ℕ)) → HasCome (is_wanted wanted.now) told (D.remaining (inner_of reader.old)) self.old.lines self.old.trace self.old.follower
+        ensures come { (told : Option (List ℕ)) → HasCome (is_wanted wanted.now.keys) told (D.remaining (inner_of reader.old)) self.old.lines self.old.trace self.old.follower
+            → IfOk result (λ more. more ≡ true → HasCome (is_wanted wanted.now.keys) told (D.remaining (inner_of reader.new)) self.new.lines self.new.trace self.new.follower) }
+        ensures ended { (told : Option (List ℕ)) → HasCome (is_wanted wanted.now.keys) told (D.remaining (inner_of reader.old)) self.old.lines self.old.trace self.old.follower
+            → IfOk result (λ more. more ≡ false → HasEnded (is_wanted wanted.now.keys) told self.old.lines.place.limit self.new.trace self.new.follower) }
+        ensures fault { (told : Option (List ℕ)) → HasCome (is_wanted wanted.now.keys) told (D.remaining (inner_of reader.old)) self.old.lines self.old.trace self.old.follower
             → IfErr result (λ why. IsFaultOf told self.old.lines.place.limit why) }
         ensures limit { self.new.lines.place.limit ≡ self.old.lines.place.limit }
         ensures more { IfOk result (λ more. more ≡ true → self.old.lines.place.start < self.new.lines.place.start) }
@@ -74,11 +74,11 @@ impl Finder {
         }
     }
 
-    fn run<D: Read>(&mut self, reader: &mut Device<D>, wanted: &Wanted) -> Result<(), ReadFault>
+    fn run<D: Read>(&mut self, reader: &mut Device<D>, wanted: &Numbers) -> Result<(), ReadFault>
         requires open { has_failed reader.old ≡ false }
-        ensures ended { (told : Option (List ℕ)) → HasCome (is_wanted wanted.now) told (D.remaining (inner_of reader.old)) self.old.lines self.old.trace self.old.follower
-            → OnOk result (HasEnded (is_wanted wanted.now) told self.old.lines.place.limit self.new.trace self.new.follower) }
-        ensures fault { (told : Option (List ℕ)) → HasCome (is_wanted wanted.now) told (D.remaining (inner_of reader.old)) self.old.lines self.old.trace self.old.follower
+        ensures ended { (told : Option (List ℕ)) → HasCome (is_wanted wanted.now.keys) told (D.remaining (inner_of reader.old)) self.old.lines self.old.trace self.old.follower
+            → OnOk result (HasEnded (is_wanted wanted.now.keys) told self.old.lines.place.limit self.new.trace self.new.follower) }
+        ensures fault { (told : Option (List ℕ)) → HasCome (is_wanted wanted.now.keys) told (D.remaining (inner_of reader.old)) self.old.lines self.old.trace self.old.follower
             → IfErr result (λ why. IsFaultOf told self.old.lines.place.limit why) }
         ensures failed { HasFailedBy (has_failed reader.new) result }
         ensures taken { taken_of reader.new + taken_by self.old.lines.place ≤ taken_of reader.old + self.old.lines.place.limit + bytes_past_limit }
@@ -99,7 +99,10 @@ pub fn facts_of_reports(
     ensures rising { IfOk result (λ facts. IsSorted nat_cmp (lines_asked facts)) }
     ensures words { IfOk result (λ facts. IsSorted nat_cmp (words_asked facts)) }
 {
-    Wanted::of_reports(alloc, keys, reports)?.to_facts(alloc)
+    let wanted = Wanted::of_reports(alloc, keys, reports)?;
+    let lines = to_rising(alloc, &wanted.lines)?;
+    let words = to_rising(alloc, &wanted.words)?;
+    Ok(Facts::asked(alloc, lines, words))
 }
 
 /// Reads a trace text of at most `byte_limit` bytes once more, and returns the places of the accesses that the reasons of each report's first races
@@ -123,12 +126,8 @@ pub fn places_of_reports<D: Read>(
         return Ok(Places::new(alloc));
     }
     let mut finder = Finder::new(alloc, byte_limit, keys)?;
-    match finder.run(reader, &wanted) {
-        Ok(()) => Ok(Places::of(
-            finder.follower.into_places(),
-            finder.trace,
-            Facts::asked(alloc, Vec::new(alloc), Vec::new(alloc)),
-        )),
+    match finder.run(reader, &wanted.lines) {
+        Ok(()) => Ok(Places::of(alloc, finder.follower.into_places(), finder.trace)),
         Err(why) => Err(why),
     }
 }

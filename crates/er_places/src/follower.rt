@@ -1,10 +1,11 @@
 //! `Follower`, which notes places as steps go by.
-ghost use Rattle.std.specs.Prelude.{◌≡◌, ◌++◌, ◌==◌, ◌&&◌, ℕ, List, All, [], true, cond, nat_eq, length, IfSome, OnOk};
+ghost use Rattle.std.specs.Prelude.{◌≡◌, ◌++◌, ◌==◌, ◌&&◌, ℕ, List, All, [], true, cond, nat_eq, length, is_some, IfSome, OnOk};
+ghost use Rattle.std.specs.List.{list_all};
 ghost use Rattle.er_event.specs.declared.steps.Step.{Step as Steps};
 ghost use Rattle.er_places.specs.Inner.Following.{Follows, HasAll, IsNamed, StandsFor, held_by, is_wanted, place_in};
 
 use crate::Place;
-use crate::wanted::{Put, Wanted};
+use crate::wanted::{Numbers, Put};
 use er_event::{Event, Kind, Site, Step, ThreadId};
 use er_held::ThreadLocks;
 use er_keys::{HashKeys, NumberHasher};
@@ -13,12 +14,15 @@ use std::alloc::Global;
 use std::collections::HashMap;
 use std::marker::Model;
 
+/// Places by their lines.
+pub(crate) type PlaceMap = HashMap<u64, Place, NumberHasher>;
+
 /// What each thread holds, and the places of the accesses so far that are on wanted lines.
 #[derive(Drop)]
 pub(crate) struct Follower {
     alloc: Global,
     threads: ThreadLocks,
-    places: HashMap<u64, Place, NumberHasher>,
+    places: PlaceMap,
 }
 
 impl Model for Follower {
@@ -42,11 +46,11 @@ impl Follower {
     }
 
     /// Goes on by the steps of a trace. `AllocError`: memory was refused, and nothing is known of what it has now.
-    pub(crate) fn follow(&mut self, wanted: &Wanted, trace: &Trace) -> Put
+    pub(crate) fn follow(&mut self, wanted: &Numbers, trace: &Trace) -> Put
         ensures level { length trace.now.lines ≡ length trace.now.steps }
         ensures named { All (IsNamed trace.now.names) trace.now.steps }
-        ensures stands { (past : List Steps) (numbers : List ℕ) → length numbers ≡ length past → StandsFor (is_wanted wanted.now) self.old past numbers
-            → OnOk result (StandsFor (is_wanted wanted.now) self.new (past ++ trace.now.steps) (numbers ++ trace.now.lines)) }
+        ensures stands { (past : List Steps) (numbers : List ℕ) → length numbers ≡ length past → StandsFor (is_wanted wanted.now.keys) self.old past numbers
+            → OnOk result (StandsFor (is_wanted wanted.now.keys) self.new (past ++ trace.now.steps) (numbers ++ trace.now.lines)) }
     {
         let steps = trace.steps();
         let lines = trace.lines();
@@ -57,7 +61,7 @@ impl Follower {
     }
 
     /// The places.
-    pub(crate) fn into_places(self) -> HashMap<u64, Place, NumberHasher>
+    pub(crate) fn into_places(self) -> PlaceMap
         ensures { result.entries ≡ self.places }
     {
         let Follower { places, .. } = self;
@@ -65,17 +69,17 @@ impl Follower {
     }
 
     /// Whether each wanted line has its place.
-    pub(crate) fn has_all(&self, wanted: &Wanted) -> bool
-        ensures { result ≡ true → HasAll (is_wanted wanted.now) self.now.places }
+    pub(crate) fn has_all(&self, wanted: &Numbers) -> bool
+        ensures { result ≡ true → HasAll (is_wanted wanted.now.keys) self.now.places }
     {
-        self.places.len() == wanted.len() && wanted.are_in(&self.places)
+        self.places.len() == wanted.len() && are_in(wanted, &self.places)
     }
 
-    fn follow_step(&mut self, wanted: &Wanted, step: &Step, line: u64) -> Put
-        ensures { OnOk result (Follows (is_wanted wanted.now) self.old step.now line self.new) }
+    fn follow_step(&mut self, wanted: &Numbers, step: &Step, line: u64) -> Put
+        ensures { OnOk result (Follows (is_wanted wanted.now.keys) self.old step.now line self.new) }
     {
         if let Event::Access(kind, _, site) = step.event {
-            if wanted.contains(line) && !self.places.contains_key(&line) {
+            if wanted.contains(&line) && !self.places.contains_key(&line) {
                 self.note(line, step.thread, kind, site)?;
             }
             return Ok(());
@@ -100,4 +104,11 @@ impl Follower {
         drop(self.places.insert(line, place)?);
         Ok(())
     }
+}
+
+// Whether each of these lines has a place.
+fn are_in(lines: &Numbers, places: &PlaceMap) -> bool
+    ensures { result ≡ list_all (λ line. is_some (place_in places.now.entries line)) lines.now.keys }
+{
+    lines.iter().all(|line| places.contains_key(line))
 }

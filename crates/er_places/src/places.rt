@@ -7,6 +7,7 @@ ghost use Rattle.er_places.specs.Places.{HasPlaceNames, call_name, calls_of, no_
 ghost use Rattle.er_places.specs.Reasons.{access_place, fits, race_place, reason_place};
 
 use crate::facts::{Block, Facts, Start, Variable};
+use crate::follower::PlaceMap;
 use er_event::{Kind, Lockset, Site, ThreadId, Word};
 use er_keys::{HashKeys, NumberHasher};
 use er_report::{Because, Deed, Race};
@@ -35,7 +36,7 @@ pub struct Place {
 /// The places of some accesses, by the line of each, and the names of their numbers. Of a binary trace also what it says of the program.
 #[derive(Drop)]
 pub struct Places {
-    by_line: HashMap<u64, Place, NumberHasher>,
+    by_line: PlaceMap,
     trace: Trace,
     facts: Facts,
 }
@@ -61,21 +62,20 @@ impl Places {
         Places {
             by_line: HashMap::with_hasher(alloc, NumberHasher::new(HashKeys::KNOWN)),
             trace: Trace::new(alloc),
-            facts: Facts::asked(alloc, Vec::new(alloc), Vec::new(alloc)),
+            facts: Facts::none(alloc),
         }
     }
 
-    /// These places, under the names of a trace, and with these facts.
-    pub(crate) fn of(by_line: HashMap<u64, Place, NumberHasher>, trace: Trace, facts: Facts) -> Self
+    /// These places, under the names of a trace.
+    pub(crate) fn of(alloc: Global, by_line: PlaceMap, trace: Trace) -> Self
         requires { AreNamed trace.names by_line.entries }
         ensures places { result.places ≡ by_line.entries }
         ensures names { result.names ≡ trace.names }
-        ensures facts { result.facts ≡ table_of facts }
     {
         Places {
             by_line,
             trace,
-            facts,
+            facts: Facts::none(alloc),
         }
     }
 

@@ -10,16 +10,16 @@ use Rattle.er_places.proofs.finding.places_of_reports.Goals as goal
 pub of-requires : goal.of-requires
 of-requires g c =
     let told : Option (List ℕ) = g.D.Read.remaining (inner_of c.args.reader.now) in
-    let ended = c.in-Ok.ensures.ended told (c.in_ok-finder.ensures.come c.in_ok-wanted.wanted told) in
+    let ended = c.in-Ok.ensures.ended told (c.in_ok-finder.ensures.come c.in_ok-wanted.wanted.lines.keys told) in
     subst (AreNamed c.run.new.self.trace.names) (sym c.into_places.ensures) ended.named
 
 pub returns-in-Ok-clause-found : goal.returns-in-Ok-clause-found
 returns-in-Ok-clause-found g c =
     let told : Option (List ℕ) = g.D.Read.remaining (inner_of c.args.reader.now) in
-    let ended = c.in-Ok.ensures.ended told (c.in_ok-finder.ensures.come c.in_ok-wanted.wanted told) in
-    places-asked (is_wanted c.in_ok-wanted.wanted) (are_asked c.args.reports.now) told c.args.byte_limit (Ok c.of.result) c.in_ok-wanted.ensures
-    (subst (λ (n : ℕ). IfSome told (λ text. ArePlaces (is_wanted c.in_ok-wanted.wanted) text n c.of.result)) c.in_ok-finder.ensures.limit
-    (places-found (is_wanted c.in_ok-wanted.wanted) told c.in_ok-finder.finder.lines.place.limit c.run.new.self.trace c.run.new.self.follower c.of.result ended (c.of.ensures.places ∙ c.into_places.ensures)
+    let ended = c.in-Ok.ensures.ended told (c.in_ok-finder.ensures.come c.in_ok-wanted.wanted.lines.keys told) in
+    places-asked (is_wanted c.in_ok-wanted.wanted.lines.keys) (are_asked c.args.reports.now) told c.args.byte_limit (Ok c.of.result) c.in_ok-wanted.ensures
+    (subst (λ (n : ℕ). IfSome told (λ text. ArePlaces (is_wanted c.in_ok-wanted.wanted.lines.keys) text n c.of.result)) c.in_ok-finder.ensures.limit
+    (places-found (is_wanted c.in_ok-wanted.wanted.lines.keys) told c.in_ok-finder.finder.lines.place.limit c.run.new.self.trace c.run.new.self.follower c.of.result ended (c.of.ensures.places ∙ c.into_places.ensures)
     c.of.ensures.names))
 
 pub returns-then-is_empty-clause-found : goal.returns-then-is_empty-clause-found

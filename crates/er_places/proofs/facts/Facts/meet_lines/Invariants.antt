@@ -1,9 +1,14 @@
--- Each line that is noted leaves fewer of the wanted ones.
-use Rattle.std.proofs.Common.{◌≡◌, ◌-◌, vec_len}
+-- Each line that is noted leaves fewer of the wanted ones, and leaves to be kept what was to be kept.
+use Rattle.std.proofs.Common.{◌≡◌, ◌-◌, ℕ, vec_len}
+use Rattle.er_places.specs.Facts.{lines_behind, way_behind}
 use Rattle.er_places.proofs.facts.Facts.meet_lines.Given as goal
 
 abbrev pub invariant-loop-line : goal.invariant-loop-line
-invariant-loop-line l = record { lines : l.self.lines ≡ l.fn.self.lines }
+invariant-loop-line l = record {
+  lines : l.self.lines ≡ lines_behind l.fn.self.lines l.text;
+  wanted : l.self.wanted ≡ l.fn.self.wanted;
+  ways : (line : ℕ) → way_behind l.self l.self.lines l.state line ≡ way_behind l.fn.self l.self.lines l.state line;
+}
 
 abbrev pub decreases-loop-line : goal.decreases-loop-line
 decreases-loop-line l = vec_len l.self.wanted - l.self.met

@@ -11,8 +11,8 @@ invariant-loop g l = record {
   unfailed : has_failed l.reader ≡ false;
   limit : l.self.lines.place.limit ≡ l.fn.self.lines.place.limit;
   taken : taken_of l.reader + taken_by l.fn.self.lines.place ≤ taken_of l.fn.reader + taken_by l.self.lines.place;
-  come : (told : Option (List ℕ)) → HasCome (is_wanted l.wanted) told (g.D.Read.remaining (inner_of l.fn.reader)) l.fn.self.lines l.fn.self.trace l.fn.self.follower
-      → HasCome (is_wanted l.wanted) told (g.D.Read.remaining (inner_of l.reader)) l.self.lines l.self.trace l.self.follower;
+  come : (told : Option (List ℕ)) → HasCome (is_wanted l.wanted.keys) told (g.D.Read.remaining (inner_of l.fn.reader)) l.fn.self.lines l.fn.self.trace l.fn.self.follower
+      → HasCome (is_wanted l.wanted.keys) told (g.D.Read.remaining (inner_of l.reader)) l.self.lines l.self.trace l.self.follower;
 }
 
 abbrev pub decreases-loop : goal.decreases-loop

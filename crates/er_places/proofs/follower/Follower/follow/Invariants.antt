@@ -6,5 +6,5 @@ use Rattle.er_places.specs.Wanted.{is_wanted}
 use Rattle.er_places.proofs.follower.Follower.follow.Given as goal
 
 abbrev pub invariant-loop-k : goal.invariant-loop-k
-invariant-loop-k l = (past : List Step) (numbers : List ℕ) → length numbers ≡ length past → StandsFor (is_wanted l.wanted) l.fn.self past numbers
-    → StandsFor (is_wanted l.wanted) l.self (past ++ take l.k l.steps) (numbers ++ take l.k l.lines)
+invariant-loop-k l = (past : List Step) (numbers : List ℕ) → length numbers ≡ length past → StandsFor (is_wanted l.wanted.keys) l.fn.self past numbers
+    → StandsFor (is_wanted l.wanted.keys) l.self (past ++ take l.k l.steps) (numbers ++ take l.k l.lines)

@@ -4,4 +4,4 @@ use Rattle.er_places.specs.Wanted.{name_line, is_wanted}
 use Rattle.er_places.proofs.wanted.Wanted.add_lines.Given as goal
 
 abbrev pub invariant-loop-because : goal.invariant-loop-because
-invariant-loop-because l = (line : ℕ) → is_wanted l.self-inside.lines.keys line ≡ (is_wanted l.fn.self line || name_line (take l.because-index l.reasons) line)
+invariant-loop-because l = (line : ℕ) → is_wanted l.self.lines.keys line ≡ (is_wanted l.fn.self.lines.keys line || name_line (take l.because-index l.reasons) line)

@@ -7,13 +7,13 @@ use Rattle.er_places.specs.Wanted.{is_wanted}
 use Rattle.er_places.proofs.wanted.Wanted.add_report.Goals as goal
 
 pub loop-line-init : goal.loop-line-init
-loop-line-init c = record { sites = λ s k. ap (list_any (nat_eq (site_key s k))) c.with_hasher-sites.ensures.empty; lines = λ number. none-asked c.deref-line-items.result.now number (is_wanted c.args.self.now number) }
+loop-line-init c = record { sites = λ s k. ap (list_any (nat_eq (site_key s k))) c.with_hasher-sites.ensures.empty; lines = λ number. none-asked c.deref-line-items.result.now number (is_wanted c.args.self.now.lines.keys number) }
 
 pub loop-line-preserved : goal.loop-line-preserved
 loop-line-preserved c =
     record {
       sites = sites-next c.deref-line-items.result.now c.loop-line.line-index c.line-item.result (omega arith) c.line-item.is (has_site c.loop-line.sites.keys) (has_site c.add_line.new.sites.keys)
           c.loop-line.invariant.sites c.in_ok-add_line.ensures.sites;
-      lines = λ number. lines-next c.deref-line-items.result.now c.loop-line.line-index c.line-item.result (omega arith) c.line-item.is (has_site c.loop-line.sites.keys) number (is_wanted c.args.self.now number)
-          (is_wanted c.loop-line.self number) (is_wanted c.add_line.new.self number) c.loop-line.invariant.sites (c.loop-line.invariant.lines number) (c.in_ok-add_line.ensures.lines number);
+      lines = λ number. lines-next c.deref-line-items.result.now c.loop-line.line-index c.line-item.result (omega arith) c.line-item.is (has_site c.loop-line.sites.keys) number (is_wanted c.args.self.now.lines.keys number)
+          (is_wanted c.loop-line.self.lines.keys number) (is_wanted c.add_line.new.self.lines.keys number) c.loop-line.invariant.sites (c.loop-line.invariant.lines number) (c.in_ok-add_line.ensures.lines number);
     }

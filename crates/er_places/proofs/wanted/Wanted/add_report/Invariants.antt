@@ -9,5 +9,5 @@ use Rattle.er_places.proofs.wanted.Wanted.add_report.Given as goal
 abbrev pub invariant-loop-line : goal.invariant-loop-line
 invariant-loop-line l = record {
   sites : (s : ℕ) (k : Kind) → has_site l.sites.keys s k ≡ list_any (is_race_at s k) (take l.line-index l.line-items);
-  lines : (line : ℕ) → is_wanted l.self line ≡ (is_wanted l.fn.self line || asked_below l.line-items line l.line-index);
+  lines : (line : ℕ) → is_wanted l.self.lines.keys line ≡ (is_wanted l.fn.self.lines.keys line || asked_below l.line-items line l.line-index);
 }
