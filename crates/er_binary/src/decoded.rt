@@ -18,11 +18,8 @@ pub trait Listener {
     fn hear(&mut self, bytes: &[u8], text: &[u8], state: &State);
 }
 
-// Who hears nothing.
-#[derive(Drop)]
-struct Deaf;
-
-impl Listener for Deaf {
+// It hears nothing.
+impl Listener for () {
     fn hear(&mut self, _bytes: &[u8], _text: &[u8], _state: &State) {}
 }
 
@@ -150,6 +147,6 @@ impl<R: Read> Read for Decoded<R> {
     ghost remaining = { λ decoded. option_map (to_come decoded) (R.remaining (source_of decoded)) };
 
     fn read(&mut self, buffer: &mut [u8]) -> io::Result<usize> {
-        self.read_with(buffer, &mut Deaf)
+        self.read_with(buffer, &mut ())
     }
 }

@@ -1,7 +1,7 @@
 //! Decodes the blocks of a binary trace, one after another.
 ghost use Rattle.std.specs.Prelude.{◌≡◌, ◌<◌, ◌≤◌, ◌^◌, ◌+◌, ◌++◌, ℕ, List, OnOk, OnErr, IfOk, length, vec_len, min, take, option_map, false};
 ghost use Rattle.std.specs.Io.{ReadsAtMost};
-ghost use Rattle.er_binary.specs.Meaning.{checksum, is_bad_len, last_line, mixed, past, spot_at};
+ghost use Rattle.er_binary.specs.Meaning.{checksum, is_bad_len, last_line, mixed};
 ghost use Rattle.std.specs.Io.KnownBytes.{IsAtEnd, Keeps, ReadConsumes, prepend_known};
 
 use crate::decoded::Listener;
@@ -22,32 +22,6 @@ pub(crate) struct Spot {
     pub(crate) found: u64,
     pub(crate) count: u32,
     pub(crate) sum: u64,
-}
-
-impl Spot {
-    /// The place of the first record of a block with this header, which begins at the same byte.
-    pub(crate) fn begun(self, header: &[u8]) -> Spot
-        requires { length header.now ≡ 16 }
-        ensures { result ≡ spot_at self.block self.start header.now }
-    {
-        Spot {
-            at: self.start.wrapping_add(16),
-            found: 0,
-            count: number(&header[4..8]) as u32,
-            sum: number(&header[8..16]),
-            ..self
-        }
-    }
-
-    pub(crate) fn past(self, len: u64) -> Spot
-        ensures { result ≡ past self len }
-    {
-        Spot {
-            at: self.at.wrapping_add(len),
-            found: self.found.wrapping_add(1),
-            ..self
-        }
-    }
 }
 
 /// What comes next: the first 16 bytes of a block, its records' bytes, a record of them, or nothing.
@@ -196,7 +170,8 @@ impl Decoder {
         match self.state.take(&mut self.text, rest) {
             Ok(Some(len)) => {
                 self.next += len;
-                self.spot = self.spot.past(len as u64);
+                self.spot.at = self.spot.at.wrapping_add(len as u64);
+                self.spot.found = self.spot.found.wrapping_add(1);
                 let (bytes, _) = rest.split_at(len);
                 listener.hear(bytes, &self.text, &self.state);
                 Ok(())
@@ -253,7 +228,10 @@ impl Decoder {
         self.held = 0;
         self.next = 0;
         self.bytes.resize(len as usize, 0)?;
-        self.spot = self.spot.begun(&self.header);
+        self.spot.at = start.wrapping_add(16);
+        self.spot.found = 0;
+        self.spot.count = number(&self.header[4..8]) as u32;
+        self.spot.sum = number(&self.header[8..16]);
         self.phase = Phase::Content;
         Ok(())
     }

@@ -4,7 +4,7 @@ ghost use Rattle.std.specs.List.{list_all};
 ghost use Rattle.er_binary.specs.Inner.Taking.{HasTaken};
 ghost use Rattle.er_binary.specs.Meaning.{take_access, take_record, take_said};
 ghost use Rattle.er_binary.specs.Records.{body_len};
-ghost use Rattle.er_binary.specs.States.{address_of, after, after_access, at_block, first_state, is_access, is_note_byte, is_place, is_right, may_come, node_by, slot};
+ghost use Rattle.er_binary.specs.States.{address_of, after, at_block, first_state, is_access, is_note_byte, is_right, node_by, slot};
 
 use crate::names::{Names, number};
 use crate::nodes::{Node as TreeNode, Nodes};
@@ -92,23 +92,7 @@ impl State {
             && self.address_of(access) + access.size <= ADDRESS_END
     }
 
-    pub(crate) fn add_access(&mut self, access: Access)
-        ensures { self.new ≡ after_access self.old access }
-    {
-        let (slot, address) = (self.slot(), self.address_of(access));
-        self.last[slot] = address;
-        self.node = access.node.unwrap_or(self.node);
-        self.events = self.events.wrapping_add(1);
-    }
-
-    /// Whether another record may come next. Its body is whole, and the block has `behind` behind it.
-    pub(crate) fn may_come(&self, kind: Kind, number: u64, body: &[u8], behind: &[u8]) -> bool
-        requires { length body.now ≡ body_len kind number }
-        ensures { result ≡ may_come self.now kind number body.now behind.now }
-    {
-        (!kind.is_event() || self.thread.is_some()) && self.is_right(kind, number, body, behind)
-    }
-
+    // Whether a record's number and body are right. Its body is whole, and the block has `behind` behind it.
     fn is_right(&self, kind: Kind, number: u64, body: &[u8], behind: &[u8]) -> bool
         requires { length body.now ≡ body_len kind number }
         ensures { result ≡ is_right self.now kind number body.now behind.now }
@@ -122,7 +106,7 @@ impl State {
             Level => number <= 31,
             ThreadName => is_name(body) && self.threads.len() < MOST,
             LockName => is_lock_name(body) && self.locks.len() < MOST,
-            Place => is_place(body) && self.places.len() < MOST,
+            Place => body != b"-".as_slice() && is_site_name(body) && self.places.len() < MOST,
             NewNode => self.is_node(number, body),
             Note => body.len() <= 1000 && is_note(body),
             End => number == self.events && behind.is_empty(),
@@ -207,7 +191,10 @@ impl State {
             return Ok(None);
         }
         self.put_access(out, access)?;
-        self.add_access(access);
+        let (slot, address) = (self.slot(), self.address_of(access));
+        self.last[slot] = address;
+        self.node = access.node.unwrap_or(self.node);
+        self.events = self.events.wrapping_add(1);
         Ok(Some(len))
     }
 
@@ -229,19 +216,14 @@ impl State {
             return Ok(None);
         }
         let (body, behind) = rest.split_at(body_len as usize);
-        if !self.may_come(kind, number, body, behind) {
+        let has_thread = !kind.is_event() || self.thread.is_some();
+        if !(has_thread && self.is_right(kind, number, body, behind)) {
             return Ok(None);
         }
         self.put_record(out, kind, number, body)?;
         self.add(kind, number, body)?;
         Ok(Some(len + body_len as usize))
     }
-}
-
-fn is_place(bytes: &[u8]) -> bool
-    ensures { result ≡ is_place bytes.now }
-{
-    bytes != b"-".as_slice() && is_site_name(bytes)
 }
 
 fn is_note(bytes: &[u8]) -> bool

@@ -1,7 +1,7 @@
 //! The text of records.
 ghost use Rattle.std.specs.Prelude.{◌≡◌, ◌≤◌, ◌<◌, ◌^◌, ◌-◌, ◌*◌, ◌++◌, OnOk, codes, decimal, length};
 ghost use Rattle.er_binary.specs.Records.{body_len};
-ghost use Rattle.er_binary.specs.Texts.{access_lines, access_text, access_verb, feed, lost_text, operand, site, text_of, thread_does, verb, word};
+ghost use Rattle.er_binary.specs.Texts.{access_lines, access_text, feed, lost_text, operand, site, text_of, thread_does, verb, word};
 
 use crate::names::{Put, number, put_address};
 use crate::records::Kind::*;
@@ -38,7 +38,12 @@ impl State {
         let node = access.node.unwrap_or(self.node);
         let address = self.address_of(access);
         let end = (address + access.size - 1) / 4 + 1;
-        self.put_lines(out, access.verb(), node, address / 4, end)
+        let verb = if access.writes {
+            b"write".as_slice()
+        } else {
+            b"read".as_slice()
+        };
+        self.put_lines(out, verb, node, address / 4, end)
     }
 
     // Puts a line for each word from the first one to the end.
@@ -63,7 +68,11 @@ impl State {
     {
         match kind {
             Thread | Node | FailedTry | Flow | ThreadName | LockName | Place | NewNode | Fact | Lost => Ok(()),
-            Note => put_note(out, body),
+            Note => {
+                out.extend_from_slice(b"# ")?;
+                out.extend_from_slice(body)?;
+                out.extend_from_slice(b"\n")
+            }
             End => self.put_end(out, number),
             _ => {
                 self.put_thread(out, kind.verb())?;
@@ -112,18 +121,6 @@ impl State {
     }
 }
 
-impl Access {
-    fn verb(self) -> &'static [u8]
-        ensures { result.now ≡ access_verb self }
-    {
-        if self.writes {
-            b"write".as_slice()
-        } else {
-            b"read".as_slice()
-        }
-    }
-}
-
 impl Kind {
     fn verb(self) -> &'static [u8]
         ensures { result.now ≡ verb self }
@@ -159,12 +156,4 @@ fn put_number_word(out: &mut Vec<u8>, n: u64) -> Put
 {
     out.push(b' ')?;
     put_number(out, n)
-}
-
-fn put_note(out: &mut Vec<u8>, body: &[u8]) -> Put
-    ensures { OnOk result (out.new.items ≡ out.old.items ++ (codes "# " ++ body.now ++ feed)) }
-{
-    out.extend_from_slice(b"# ")?;
-    out.extend_from_slice(body)?;
-    out.extend_from_slice(b"\n")
 }

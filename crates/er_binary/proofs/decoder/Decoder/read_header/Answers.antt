@@ -98,4 +98,4 @@ returns g c =
     let is_whole = ap (λ (t : List ℕ). t ++ after) (sym all) ∙ same in
     let was = header_from d before (h ++ after) c.requires.given c.requires.phase is_whole ∙ blocks_good d.spot.block d.spot.start d.state (h ++ after) c.if-self.false whole good
     ∙ good_parts d.spot.block d.spot.start d.state h after _ sixteen same_len in
-    content_is _ after c.requires.given refl ∙ rw (c.begun-self.ensures, c.in_ok-resize.ensures.len) refl ∙ sym was)
+    content_is _ after c.requires.given refl ∙ rw (c.number.ensures.value, c.number-self.ensures.value, c.in_ok-resize.ensures.len) refl ∙ sym was)
