@@ -4,7 +4,7 @@ ghost use Rattle.std.specs.List.{list_all};
 ghost use Rattle.er_binary.specs.Inner.Taking.{HasTaken};
 ghost use Rattle.er_binary.specs.Meaning.{take_access, take_record, take_said};
 ghost use Rattle.er_binary.specs.Records.{body_len};
-ghost use Rattle.er_binary.specs.States.{address_of, after, at_block, first_state, is_access, is_note_byte, is_right, node_by, slot};
+ghost use Rattle.er_binary.specs.States.{address_of, after, at_block, first_state, is_note_byte, is_right, node_by, slot};
 
 use crate::names::{Names, number};
 use crate::nodes::{Node as TreeNode, Nodes};
@@ -75,21 +75,11 @@ impl State {
         self.last[self.slot()] / 4
     }
 
-    /// The address of an access.
-    pub(crate) fn address_of(&self, access: Access) -> u64
+    // The address of an access.
+    fn address_of(&self, access: Access) -> u64
         ensures { result ≡ address_of self.now access }
     {
         self.last[self.slot()].wrapping_add(access.distance) % ADDRESS_END
-    }
-
-    /// Whether an access may come next.
-    pub(crate) fn is_access(&self, access: Access) -> bool
-        requires { access.size ≤ 16 }
-        ensures { result ≡ is_access self.now access }
-    {
-        self.thread.is_some()
-            && access.node.unwrap_or(self.node) <= self.nodes.len()
-            && self.address_of(access) + access.size <= ADDRESS_END
     }
 
     // Whether a record's number and body are right. Its body is whole, and the block has `behind` behind it.
@@ -187,13 +177,21 @@ impl State {
         ensures len { IfOk result (λ n. IfSome n (λ k. k ≡ len)) }
         ensures err { OnErr result (self.new ≡ self.old) }
     {
-        if !self.is_access(access) {
+        let (slot, address) = (self.slot(), self.address_of(access));
+        let node = access.node.unwrap_or(self.node);
+        let is_below = address + access.size <= ADDRESS_END;
+        if !(self.thread.is_some() && node <= self.nodes.len() && is_below) {
             return Ok(None);
         }
-        self.put_access(out, access)?;
-        let (slot, address) = (self.slot(), self.address_of(access));
+        let end = (address + access.size - 1) / 4 + 1;
+        let verb = if access.writes {
+            b"write".as_slice()
+        } else {
+            b"read".as_slice()
+        };
+        self.put_lines(out, verb, node, address / 4, end)?;
         self.last[slot] = address;
-        self.node = access.node.unwrap_or(self.node);
+        self.node = node;
         self.events = self.events.wrapping_add(1);
         Ok(Some(len))
     }

@@ -1,11 +1,11 @@
 //! The text of records.
 ghost use Rattle.std.specs.Prelude.{◌≡◌, ◌≤◌, ◌<◌, ◌^◌, ◌-◌, ◌*◌, ◌++◌, OnOk, codes, decimal, length};
 ghost use Rattle.er_binary.specs.Records.{body_len};
-ghost use Rattle.er_binary.specs.Texts.{access_lines, access_text, feed, lost_text, operand, site, text_of, thread_does, verb, word};
+ghost use Rattle.er_binary.specs.Texts.{access_lines, feed, lost_text, operand, site, text_of, thread_does, verb, word};
 
 use crate::names::{Put, number, put_address};
+use crate::records::Kind;
 use crate::records::Kind::*;
-use crate::records::{Access, Kind};
 use crate::state::State;
 use er_lines::put_number;
 
@@ -29,25 +29,15 @@ impl State {
         put_word(out, name)
     }
 
-    /// Puts the text of an access that comes next.
-    pub(crate) fn put_access(&self, out: &mut Vec<u8>, access: Access) -> Put
-        requires some { 1 ≤ access.size }
-        requires size { access.size ≤ 16 }
-        ensures { OnOk result (out.new.items ≡ out.old.items ++ access_text self.now access) }
-    {
-        let node = access.node.unwrap_or(self.node);
-        let address = self.address_of(access);
-        let end = (address + access.size - 1) / 4 + 1;
-        let verb = if access.writes {
-            b"write".as_slice()
-        } else {
-            b"read".as_slice()
-        };
-        self.put_lines(out, verb, node, address / 4, end)
-    }
-
-    // Puts a line for each word from the first one to the end.
-    fn put_lines(&self, out: &mut Vec<u8>, verb: &[u8], node: u64, first: u64, end: u64) -> Put
+    /// Puts a line for each word from the first one to the end.
+    pub(crate) fn put_lines(
+        &self,
+        out: &mut Vec<u8>,
+        verb: &[u8],
+        node: u64,
+        first: u64,
+        end: u64,
+    ) -> Put
         requires { end < 2 ^ 48 }
         ensures { OnOk result (out.new.items ≡ out.old.items ++ access_lines self.now verb.now node first (end - first)) }
     {
