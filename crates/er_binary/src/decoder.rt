@@ -265,16 +265,12 @@ impl Decoder {
     {
         self.given = 0;
         self.text.clear();
-        match put_last_line(&mut self.text, what, byte) {
-            Ok(()) => {
-                self.phase = Phase::Nothing;
-                Ok(())
-            }
-            Err(refused) => {
-                self.text.clear();
-                Err(io::Error::from(refused))
-            }
+        if let Err(refused) = put_last_line(&mut self.text, what, byte) {
+            self.text.clear();
+            return Err(io::Error::from(refused));
         }
+        self.phase = Phase::Nothing;
+        Ok(())
     }
 }
 

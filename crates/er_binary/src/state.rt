@@ -83,35 +83,28 @@ impl State {
     }
 
     // Whether a record's number and body are right. Its body is whole, and the block has `behind` behind it.
-    fn is_right(&self, kind: Kind, number: u64, body: &[u8], behind: &[u8]) -> bool
-        requires { length body.now ≡ body_len kind number }
-        ensures { result ≡ is_right self.now kind number body.now behind.now }
+    fn is_right(&self, kind: Kind, operand: u64, body: &[u8], behind: &[u8]) -> bool
+        requires { length body.now ≡ body_len kind operand }
+        ensures { result ≡ is_right self.now kind operand body.now behind.now }
     {
         match kind {
-            Thread | Start | Join => number < self.threads.len(),
-            Node => number <= self.nodes.len(),
-            Lock | Unlock | ReadLock | ReadUnlock | FailedTry | Signal | Await => number
+            Thread | Start | Join => operand < self.threads.len(),
+            Node => operand <= self.nodes.len(),
+            Lock | Unlock | ReadLock | ReadUnlock | FailedTry | Signal | Await => operand
                 < self.locks.len(),
-            Show => number < ADDRESS_END,
-            Level => number <= 31,
+            Show => operand < ADDRESS_END,
+            Level => operand <= 31,
             ThreadName => is_name(body) && self.threads.len() < MOST,
             LockName => is_lock_name(body) && self.locks.len() < MOST,
             Place => body != b"-".as_slice() && is_site_name(body) && self.places.len() < MOST,
-            NewNode => self.is_node(number, body),
+            NewNode => operand <= self.nodes.len()
+                && number(&body[0..4]) < self.places.len()
+                && body[4] <= 3
+                && self.nodes.len() < MOST,
             Note => body.len() <= 1000 && is_note(body),
-            End => number == self.events && behind.is_empty(),
+            End => operand == self.events && behind.is_empty(),
             _ => true,
         }
-    }
-
-    fn is_node(&self, caller: u64, body: &[u8]) -> bool
-        requires { length body.now ≡ 5 }
-        ensures { result ≡ is_right self.now Kind.NewNode caller body.now [] }
-    {
-        caller <= self.nodes.len()
-            && number(&body[0..4]) < self.places.len()
-            && body[4] <= 3
-            && self.nodes.len() < MOST
     }
 
     fn node_by(&self, caller: u64, body: &[u8]) -> TreeNode

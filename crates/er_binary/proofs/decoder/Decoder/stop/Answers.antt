@@ -5,9 +5,9 @@ use Rattle.er_binary.specs.Meaning.{last_line}
 use Rattle.er_binary.proofs.DecoderLaws.{same_undecoded}
 use Rattle.er_binary.proofs.decoder.Decoder.stop.Goals as goal
 
-pub returns-in-Ok-clause-ok : goal.returns-in-Ok-clause-ok
+pub returns-clause-ok : goal.returns-clause-ok
 unfolding still
-returns-in-Ok-clause-ok c = λ rest. append-nil _ ∙ c.in-Ok.ensures ∙ ap (λ (t : List ℕ). t ++ last_line c.args.what.now c.args.byte) c.clear.ensures.items
+returns-clause-ok c = λ rest. append-nil _ ∙ c.in_default.ensures ∙ ap (λ (t : List ℕ). t ++ last_line c.args.what.now c.args.byte) c.clear.ensures.items
 
 pub returns-in-Err-clause-err : goal.returns-in-Err-clause-err
 returns-in-Err-clause-err c = λ rest. same_undecoded _ _ rest c.requires (search rules) refl
