@@ -4,7 +4,7 @@ ghost use Rattle.er_places.specs.Inner.Following.{AreNamed};
 ghost use Rattle.er_places.specs.Facts.{table_of};
 ghost use Rattle.er_places.specs.Names.{block_of, call_function, function_of, has_word, start_of, variable_of, way_of};
 ghost use Rattle.er_places.specs.Places.{HasPlaceNames, call_name, calls_of, no_names, place_at};
-ghost use Rattle.er_places.specs.Reasons.{access_place, fits, race_place, reason_place};
+ghost use Rattle.er_places.specs.Reasons.{access_place, race_place, reason_place};
 
 use crate::facts::{Block, Facts, Start, Variable};
 use crate::follower::PlaceMap;
@@ -203,7 +203,7 @@ impl Places {
         ensures named { IfSome (option_copied result) (HasPlaceNames self.now.names) }
     {
         match self.by_line.get(&line) {
-            Some(place) if fits(thread, kind, place) => Some(place),
+            Some(place) if place.thread == thread && place.kind == kind => Some(place),
             _ => None,
         }
     }
@@ -216,10 +216,4 @@ pub struct Legend<'a> {
     pub names: &'a Names,
     /// The places of accesses, as far as they are known. They have names of their own.
     pub places: &'a Places,
-}
-
-fn fits(thread: ThreadId, kind: Kind, place: &Place) -> bool
-    ensures { result ≡ fits thread kind place.now }
-{
-    place.thread == thread && place.kind == kind
 }
