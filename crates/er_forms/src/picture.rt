@@ -165,7 +165,7 @@ function ledOf({ calls = [], functions = [] }) {
 // What is known of the word of a race: its variable, or the block that it was in.
 function subjectOf({ variable, block }) {
   if (variable) return `${variable.name}${variable.offset ? `+${variable.offset}` : ""}, `;
-  return block ? `byte ${block.offset} of a block of ${block.size} bytes${block.site === null ? "" : ` reused at ${block.site}`}, ` : "";
+  return block ? `byte ${block.offset} of a block of ${block.size} bytes${block.site === null ? "" : ` allocated at ${block.site}`}, ` : "";
 }
 
 function sentenceOf(access, race) {

@@ -220,10 +220,10 @@ plus_text (suc n) = codes "+" ++ decimal (suc n)
 unfoldable pub variable_text : Style → ℕ → Variable → List ℕ
 variable_text style word variable = codes " " ++ name_in style 72 variable.name.items ++ plus_text (4 * word - variable.extent.address) ++ codes ","
 
--- where memory was taken or given back, if that is known
+-- where the block was allocated, if that is known
 abbrev pub from_text : Style → PlaceTable → Option ℕ → List ℕ
 from_text style table None = []
-from_text style table (Some place) = codes " reused at " ++ name_in style 72 (call_name table place)
+from_text style table (Some place) = codes " allocated at " ++ name_in style 72 (call_name table place)
 
 -- how far in which block a word begins
 unfoldable pub block_text : Style → PlaceTable → ℕ → Block → List ℕ

@@ -197,7 +197,7 @@ fn put_from(out: &mut Vec<u8>, style: Style, places: &Places, place: Option<u32>
 {
     match place {
         Some(place) =>
-            put!(out, style, places.names(); Name(b" reused at ", places.call_name(place))),
+            put!(out, style, places.names(); Name(b" allocated at ", places.call_name(place))),
         None => Ok(()),
     }
 }
