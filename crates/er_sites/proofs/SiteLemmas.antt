@@ -1,5 +1,8 @@
 -- The rows of the sites that have no race among some lines are among all rows.
-use Rattle.std.proofs.Common.{◌≡◌, ◌<◌, ◌≤◌, ◌+◌, ◌&&◌, ◌==◌, ℕ, Bool, true, false, All, cond, count_by, List, [], ◌∷◌, ◌++◌, length, take, get_or, flat_map, slice_index_or, Option, None, Some, IfSome}
+use Rattle.std.proofs.Common.{◌≡◌, ◌<◌, ◌≤◌, ◌+◌, ◌&&◌, ◌==◌, ℕ, Bool, true, false, All, cond, count_by, List, [], ◌∷◌, ◌++◌, length, take, get_or, flat_map, arith, slice_get, slice_index_or, option_copied, Option, None, Some, IfSome, refl, sym}
+use denote.Ref.{Bor}
+use Rattle.std.specs.Slice.{IsItemAt}
+use Rattle.std.proofs.lemmas.Option.{slice_get_past, slice_get_read}
 use Rattle.std.proofs.lemmas.Grind.{flat_map-append}
 use Rattle.std.proofs.lemmas.List.{append-nil, take_more}
 use Rattle.std.proofs.lemmas.List.Elements.{All-append, All-head, All-nil, All-cons, All-tail}
@@ -7,10 +10,15 @@ use Rattle.er_report.specs.Names.{HasNames}
 use Rattle.er_report.specs.declared.report.Line.{Line}
 use Rattle.er_report.specs.declared.report.Report.{Report}
 use Rattle.er_sites.proofs.NameLemmas.{site_named}
-use Rattle.er_sites.specs.Sites.{if_elsewhere, lines_of, other_rows}
+use Rattle.er_sites.specs.Sites.{are_none, if_elsewhere, lines_of, other_rows}
 use Rattle.er_sites.specs.Table.{IsTable, reads_at, reuses_at, writes_at}
 use Rattle.er_sites.specs.declared.row.SiteRow.{SiteRow}
 use Rattle.er_trace.specs.Names.{NameTable}
+
+-- what `get` answered
+pub got : {X : Type 0} (xs : List X) (i : ℕ) (r : Option (Bor X)) → IsItemAt xs i r → option_copied r ≡ slice_get xs i
+got xs i None is = sym (slice_get_past xs i is.3)
+got xs i (Some x) is = sym (slice_get_read xs (length xs) i x.now refl is.3.0 is.1)
 
 -- one more row
 pub take_next : (lines : List Line) (rows : List SiteRow) (k : ℕ) (row : SiteRow) → k < length rows → row ≡ get_or rows k row
@@ -38,3 +46,8 @@ lines_named names (Some report) named = named
 pub table_named : (names : NameTable) (lines : List Line) (rows : List SiteRow) → All (HasNames names) lines → IsTable names lines rows
     → All (λ (row : SiteRow). row.site ≤ length names.sites) rows
 table_named names lines rows named table = λ k d h. site_named names lines (slice_index_or rows k d) named (table.own k d h)
+
+-- there are no rows
+pub none_is : (rows : List SiteRow) → (length rows == 0) ≡ are_none rows
+none_is [] = refl
+none_is (row ∷ rows) = grind arith

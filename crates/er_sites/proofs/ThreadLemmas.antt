@@ -1,5 +1,7 @@
 -- Threads that are added, each once.
-use Rattle.std.proofs.Common.{◌≡◌, ◌+◌, ◌<◌, ◌∙◌, ℕ, nat_eq, Bool, true, false, All, cond, List, [], ◌∷◌, ◌++◌, length, take, get_or, flat_map, map, refl, sym, ap}
+use Rattle.std.proofs.Common.{◌≡◌, ◌+◌, ◌<◌, ◌∙◌, ℕ, nat_eq, Bool, true, false, All, cond, List, [], ◌∷◌, ◌++◌, length, take, get_or, flat_map, map, slice_get, unwrap_or, Option, Some, refl, sym, ap}
+use Rattle.std.proofs.lemmas.Option.{unwrap_or-slice_get}
+use Rattle.er_print.specs.Styles.{name_at}
 use Rattle.std.specs.List.{list_any}
 use Rattle.std.proofs.lemmas.Grind.{flat_map-append}
 use Rattle.std.proofs.lemmas.List.{append-nil, take_more}
@@ -9,6 +11,10 @@ use Rattle.er_report.specs.Lines.{line_view}
 use Rattle.er_report.specs.declared.report.Line.{Line}
 use Rattle.er_sites.specs.Threads.{line_threads, view_threads}
 use Rattle.indexmap.specs.IndexSet.{insert_all, insert_key}
+
+-- the name of a number
+pub name_found : (names : List (List ℕ)) (n : ℕ) (name : List ℕ) → slice_get names n ≡ Some name → name ≡ name_at names n
+name_found names n name is = sym (sym (unwrap_or-slice_get names n []) ∙ ap (λ (found : Option (List ℕ)). unwrap_or found []) is)
 
 -- the threads of one thing more
 pub insert_next : {X : Type 0} (f : X → List ℕ) (xs : List X) (k : ℕ) (d x : X) (old before after : List ℕ) → k < length xs → x ≡ get_or xs k d

@@ -120,12 +120,15 @@ story_text names thread kind (label.Uncovered lock) =
 story_text names thread kind label.Unordered = codes "nothing orders this before it: " ++ thread_in style.Short names thread ++ did_text kind ++ codes " it"
 
 -- a lock that the thread of a reason held, if these are held to write
-unfoldable pub kept_text : NameTable → List ℕ → ℕ → List ℕ
+abbrev pub kept_text : NameTable → List ℕ → ℕ → List ℕ
 kept_text names writes lock = codes "    holding " ++ lock_in style.Short names lock ++ mode_text (not (has writes lock)) ++ codes "\n"
 
--- the site of an access and what stands behind it; for the missing site this stands alone
-abbrev pub at_text : NameTable → ℕ → List ℕ → List ℕ → List ℕ
-at_text names site alone behind = cond (site == 0) alone (codes "    at " ++ site_in style.Short names site ++ behind)
+-- the site of an access, and that its thread held no lock if it held none; the missing site is left out
+abbrev pub at_text : NameTable → ℕ → Bool → List ℕ
+at_text names zero true = codes "    holding no lock\n"
+at_text names zero false = []
+at_text names (suc n) true = codes "    at " ++ site_in style.Short names (suc n) ++ codes ", holding no lock\n"
+at_text names (suc n) false = codes "    at " ++ site_in style.Short names (suc n) ++ codes "\n"
 
 -- a name behind this text and before that; one that isn't known is empty
 abbrev pub known_text : Style → List ℕ → List ℕ → List ℕ → List ℕ
@@ -134,7 +137,7 @@ known_text style before (byte ∷ name) behind = before ++ name_in style 72 (byt
 
 -- where a call that led to an access stands, and in which function
 abbrev pub call_text : PlaceTable → ℕ → List ℕ
-call_text table call = codes "    called at " ++ short 72 (call_name table call) ++ known_text style.Short (codes " in ") (call_function table call) [] ++ codes "\n"
+call_text table call = (codes "    called at " ++ short 72 (call_name table call)) ++ known_text style.Short (codes " in ") (call_function table call) [] ++ codes "\n"
 
 -- how many calls are left out
 abbrev pub more_calls : ℕ → List ℕ
@@ -149,16 +152,15 @@ called_text table calls = flat_map (call_text table) (take 8 calls) ++ more_call
 abbrev pub led_text : PlaceTable → Option Place → List ℕ
 led_text table place = known_text style.Short (codes "    in ") (function_of table place) (codes "\n") ++ called_text table (calls_of table place)
 
--- where an access stood, what led there, and these locks that its thread held
-abbrev pub stood_text : PlaceTable → Place → List ℕ → List ℕ
-stood_text table place [] = at_text table.names place.site (codes "    holding no lock\n") (codes ", holding no lock\n") ++ led_text table (Some place)
-stood_text table place (lock ∷ locks) =
-    at_text table.names place.site [] (codes "\n") ++ led_text table (Some place) ++ flat_map (kept_text table.names place.write_held) (lock ∷ locks)
+-- where an access stood, what led there, and the locks that its thread held
+abbrev pub stood_text : PlaceTable → Place → List ℕ
+stood_text table place =
+    at_text table.names place.site (length place.held == 0) ++ led_text table (Some place) ++ flat_map (kept_text table.names place.write_held) place.held
 
 -- if that is known
 abbrev pub stood_if : PlaceTable → Option Place → List ℕ
 stood_if table None = []
-stood_if table (Some place) = stood_text table place place.held
+stood_if table (Some place) = stood_text table place
 
 -- and if the access is not the race itself, which is on this line
 abbrev pub where_text : PlaceTable → ℕ → Because → List ℕ
@@ -222,14 +224,13 @@ variable_text style word variable = codes " " ++ name_in style 72 variable.name.
 
 -- where the block was allocated, if that is known
 abbrev pub from_text : Style → PlaceTable → Option ℕ → List ℕ
-from_text style table None = []
-from_text style table (Some place) = codes " allocated at " ++ name_in style 72 (call_name table place)
+from_text style table None = codes " bytes,"
+from_text style table (Some place) = codes " bytes allocated at " ++ name_in style 72 (call_name table place) ++ codes ","
 
 -- how far in which block a word begins
 unfoldable pub block_text : Style → PlaceTable → ℕ → Block → List ℕ
 block_text style table word block =
-    (codes " byte " ++ decimal (4 * word - block.extent.address) ++ codes " of a block of " ++ decimal block.extent.size ++ codes " bytes")
-    ++ from_text style table block.place ++ codes ","
+    (codes " byte " ++ decimal (4 * word - block.extent.address) ++ codes " of a block of " ++ decimal block.extent.size) ++ from_text style table block.place
 
 -- the variable, else the block, if one of them is known
 abbrev pub subject_by : Style → PlaceTable → ℕ → Option Variable → Option Block → List ℕ
@@ -292,16 +293,12 @@ abbrev pub example_of : NameTable → PlaceTable → Option Line → List ℕ
 example_of names table None = []
 example_of names table (Some line) = example_text names table (race_of (line_view line))
 
--- the text, if there are rows
-abbrev pub if_some : List SiteRow → List ℕ → List ℕ
-if_some [] text = []
-if_some (row ∷ rows) text = text
-
--- the table below the heads of its columns, an example of each of its rows, and an empty line
+-- the table below the heads of its columns, an example of each of its rows, and an empty line; without rows nothing
 abbrev pub rows_text : NameTable → PlaceTable → List Line → List SiteRow → List ℕ
-rows_text names table lines rows =
-    if_some rows (codes "words     kinds       threads   locks     site\n") ++ flat_map (row_text names) rows
-    ++ flat_map (λ (row : SiteRow). example_of names table (slice_get lines row.example)) rows ++ if_some rows (codes "\n")
+rows_text names table lines [] = []
+rows_text names table lines (row ∷ rows) =
+    codes "words     kinds       threads   locks     site\n" ++ flat_map (row_text names) (row ∷ rows)
+    ++ flat_map (λ (row : SiteRow). example_of names table (slice_get lines row.example)) (row ∷ rows) ++ codes "\n"
 
 -- the line of a refused step, and why it was refused
 abbrev pub refusal_text : LineView → List ℕ

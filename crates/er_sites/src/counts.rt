@@ -41,16 +41,10 @@ impl Counts {
         ensures few_reuses { OnOk result (length self.old.reuses.items ≤ 2 ^ 32 → length self.new.reuses.items ≤ 2 ^ 32) }
     {
         match line {
-            Line::Race {
-                kind: Kind::Read,
-                site,
-                ..
-            } => add_one(&mut self.reads, *site),
-            Line::Race {
-                kind: Kind::Write,
-                site,
-                ..
-            } => add_one(&mut self.writes, *site),
+            Line::Race { kind, site, .. } => match kind {
+                Kind::Read => add_one(&mut self.reads, *site),
+                Kind::Write => add_one(&mut self.writes, *site),
+            },
             Line::Reused { site, .. } if site.number() != 0 => add_one(&mut self.reuses, *site),
             _ => Ok(()),
         }
@@ -61,16 +55,10 @@ impl Counts {
         ensures { result ≡ count_like self.now line.now }
     {
         match line {
-            Line::Race {
-                kind: Kind::Read,
-                site,
-                ..
-            } => count_at(&self.reads, *site),
-            Line::Race {
-                kind: Kind::Write,
-                site,
-                ..
-            } => count_at(&self.writes, *site),
+            Line::Race { kind, site, .. } => match kind {
+                Kind::Read => count_at(&self.reads, *site),
+                Kind::Write => count_at(&self.writes, *site),
+            },
             Line::Reused { site, .. } if site.number() != 0 => count_at(&self.reuses, *site),
             _ => 0,
         }

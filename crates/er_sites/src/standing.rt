@@ -1,6 +1,6 @@
 //! Where the access of a reason stood, what its thread held, and the calls that led there.
 ghost use Rattle.std.specs.Prelude.{◌≡◌, ◌++◌, ◌≤◌, flat_map, length, option_copied, OnOk};
-ghost use Rattle.er_sites.specs.Text.{HasLockName, HasLockNames, HasPlaceNames, at_text, call_text, called_text, kept_text, known_text, led_text, mode_text, stood_text, where_text};
+ghost use Rattle.er_sites.specs.Text.{HasLockNames, HasPlaceNames, at_text, call_text, called_text, kept_text, known_text, led_text, mode_text, stood_text, where_text};
 
 use er_event::{LockId, Lockset, Site};
 use er_places::{Place, Places};
@@ -24,41 +24,20 @@ pub(crate) fn put_where(out: &mut Vec<u8>, places: &Places, line: u64, because: 
 
 fn put_place(out: &mut Vec<u8>, places: &Places, place: &Place) -> Put
     requires { HasPlaceNames places.now.names place.now }
-    ensures { OnOk result (out.new.items ≡ out.old.items ++ stood_text places.now place.now place.now.held) }
+    ensures { OnOk result (out.new.items ≡ out.old.items ++ stood_text places.now place.now) }
 {
-    let names = places.names();
-    match place.held.as_slice() {
-        [] => {
-            put_at(
-                out,
-                names,
-                place.site,
-                b"    holding no lock\n",
-                b", holding no lock\n",
-            )?;
-            put_led(out, places, Some(place))
-        }
-        locks => {
-            put_at(out, names, place.site, b"", b"\n")?;
-            put_led(out, places, Some(place))?;
-            put_kept_locks(out, names, &place.write_held, locks)
-        }
-    }
+    let (names, locks) = (places.names(), place.held.as_slice());
+    put_at(out, names, place.site, locks.is_empty())?;
+    put_led(out, places, Some(place))?;
+    put_kept_locks(out, names, &place.write_held, locks)
 }
 
 /// Puts the function that an access is in, and the calls that led there.
 pub(crate) fn put_led(out: &mut Vec<u8>, places: &Places, place: Option<&Place>) -> Put
     ensures { OnOk result (out.new.items ≡ out.old.items ++ led_text places.now (option_copied place.entry)) }
 {
-    let function = places.function_of(place);
-    put_known(
-        out,
-        Style::Short,
-        places.names(),
-        b"    in ",
-        function,
-        b"\n",
-    )?;
+    let (names, function) = (places.names(), places.function_of(place));
+    put_known(out, Style::Short, names, b"    in ", function, b"\n")?;
     put_called(out, places, places.calls_of(place))
 }
 
@@ -96,30 +75,35 @@ fn put_called(out: &mut Vec<u8>, places: &Places, calls: &[u32]) -> Put
 fn put_calls(out: &mut Vec<u8>, places: &Places, calls: &[u32]) -> Put
     ensures { OnOk result (out.new.items ≡ out.old.items ++ flat_map (call_text places.now) calls.now) }
 {
+    let names = places.names();
     for call in calls {
-        put_call(out, places, *call)?;
+        put!(out, Style::Short, names; Name(b"    called at ", places.call_name(*call)))?;
+        put_known(
+            out,
+            Style::Short,
+            names,
+            b" in ",
+            places.call_function(*call),
+            b"",
+        )?;
+        out.extend_from_slice(b"\n")?;
     }
     Ok(())
 }
 
-fn put_call(out: &mut Vec<u8>, places: &Places, call: u32) -> Put
-    ensures { OnOk result (out.new.items ≡ out.old.items ++ call_text places.now call) }
-{
-    let (names, function) = (places.names(), places.call_function(call));
-    put!(out, Style::Short, names; Name(b"    called at ", places.call_name(call)))?;
-    put_known(out, Style::Short, names, b" in ", function, b"")?;
-    out.extend_from_slice(b"\n")
-}
-
-// Puts the site of an access and what stands behind it, and of the missing site what stands alone.
-fn put_at(out: &mut Vec<u8>, names: &Names, site: Site, alone: &[u8], behind: &[u8]) -> Put
+// Puts the site of an access, and that its thread held no lock if it held none.
+fn put_at(out: &mut Vec<u8>, names: &Names, site: Site, holds_none: bool) -> Put
     requires { site ≤ length names.now.sites }
-    ensures { OnOk result (out.new.items ≡ out.old.items ++ at_text names.now site alone.now behind.now) }
+    ensures { OnOk result (out.new.items ≡ out.old.items ++ at_text names.now site holds_none) }
 {
-    if site.number() == 0 {
-        return out.extend_from_slice(alone);
+    match (site.number(), holds_none) {
+        (0, true) => out.extend_from_slice(b"    holding no lock\n"),
+        (0, false) => Ok(()),
+        (_, true) => {
+            put!(out, Style::Short, names; At(b"    at ", site), Text(b", holding no lock\n"))
+        }
+        (_, false) => put!(out, Style::Short, names; At(b"    at ", site), Text(b"\n")),
     }
-    put!(out, Style::Short, names; At(b"    at ", site), Text(behind))
 }
 
 fn put_kept_locks(out: &mut Vec<u8>, names: &Names, write_held: &Lockset, locks: &[LockId]) -> Put
@@ -127,18 +111,10 @@ fn put_kept_locks(out: &mut Vec<u8>, names: &Names, write_held: &Lockset, locks:
     ensures { OnOk result (out.new.items ≡ out.old.items ++ flat_map (kept_text names.now write_held.now) locks.now) }
 {
     for lock in locks {
-        put_kept(out, names, write_held, *lock)?;
+        let mode = mode_text(!write_held.contains(*lock));
+        put!(out, Style::Short, names; Lock(b"    holding ", *lock), Text(mode), Text(b"\n"))?;
     }
     Ok(())
-}
-
-#[tactic(auto, unfolding(crate::specs::Text::kept_text))]
-fn put_kept(out: &mut Vec<u8>, names: &Names, write_held: &Lockset, lock: LockId) -> Put
-    requires { HasLockName names.now lock }
-    ensures { OnOk result (out.new.items ≡ out.old.items ++ kept_text names.now write_held.now lock) }
-{
-    let mode = mode_text(!write_held.contains(lock));
-    put!(out, Style::Short, names; Lock(b"    holding ", lock), Text(mode), Text(b"\n"))
 }
 
 /// What is said of a lock, if it was held only to read.

@@ -1,14 +1,14 @@
 //! One race in sentences.
-ghost use Rattle.std.specs.Prelude.{◌≡◌, ◌++◌, ◌≤◌, flat_map, length, option_and_then, option_copied, IfSome, OnOk, Some};
+ghost use Rattle.std.specs.Prelude.{◌≡◌, ◌++◌, ◌≤◌, flat_map, length, option_and_then, option_copied, IfSome, OnOk};
 ghost use Rattle.std.specs.List.{list_any};
-ghost use Rattle.er_sites.specs.Text.{HasLockName, HasNames, HasPlaceNames, HasRaceNames, HasReasonNames, line_view, race_of, reason_place, access_story, example_text, head_text, held_text, holds_text, is_weak, is_weak_at, lacks_lock, may_meet, met, met_text, title_text, reason_text, reuse_story, reuse_text, so_text, story_text, is_without, block_text, from_text, plus_text, subject_text, variable_text};
+ghost use Rattle.er_sites.specs.Text.{HasNames, HasPlaceNames, HasRaceNames, HasReasonNames, line_view, race_of, reason_place, access_story, example_text, head_text, holds_text, is_weak, is_weak_at, lacks_lock, may_meet, met, met_text, title_text, reason_text, reuse_story, reuse_text, so_text, story_text, is_without, block_text, subject_text, variable_text};
 
 use crate::names::{did_text, put_pair};
 use crate::standing::{mode_text, put_led, put_where};
 use er_event::{Kind, LockId, PageRange, Site, Word};
 use er_places::{Block, Legend, Place, Places, Variable};
 use er_print::Piece::{Address, Lock, Name, Number, Site as At, Text, Thread};
-use er_print::{Put, Style, bytes_of, put, put_number};
+use er_print::{Put, Style, bytes_of, put};
 use er_report::{Because, Deed, Label, Line, Race};
 use er_trace::Names;
 
@@ -33,9 +33,27 @@ fn put_title(out: &mut Vec<u8>, legend: &Legend, race: &Race<'_>) -> Put
     requires { HasRaceNames legend.now.names.now race.now }
     ensures { OnOk result (out.new.items ≡ out.old.items ++ title_text legend.now.names.now legend.now.places.now race.now) }
 {
+    let (names, places) = (legend.names, legend.places);
     out.extend_from_slice(b"\n")?;
-    put_met(out, legend, race.site, met(race))?;
+    put_sites(
+        out,
+        names,
+        places.names(),
+        race.site,
+        place_met(places, race),
+    )?;
     out.extend_from_slice(b":\n")
+}
+
+// The place of the access that a race is with, if it is known.
+fn place_met<'a>(places: &'a Places, race: &Race<'_>) -> Option<&'a Place>
+    ensures place { option_copied result ≡ option_and_then (reason_place places.now) (met race.now) }
+    ensures named { IfSome (option_copied result) (HasPlaceNames places.now.names) }
+{
+    match met(race) {
+        Some(because) => places.of_reason(&because),
+        None => None,
+    }
 }
 
 // The last of the reasons whose access a race may be with.
@@ -73,25 +91,6 @@ fn may_meet(lacks: bool, race: &Race<'_>, because: &Because) -> bool
         because.line != race.line
     } else {
         because.thread != race.thread
-    }
-}
-
-fn put_met(out: &mut Vec<u8>, legend: &Legend, site: Site, met: Option<Because>) -> Put
-    requires { site ≤ length legend.now.names.now.sites }
-    ensures { OnOk result (out.new.items ≡ out.old.items ++ met_text legend.now.names.now legend.now.places.now.names site (option_and_then (reason_place legend.now.places.now) met)) }
-{
-    let places = legend.places;
-    match met {
-        Some(because) => {
-            put_sites(
-                out,
-                legend.names,
-                places.names(),
-                site,
-                places.of_reason(&because),
-            )
-        }
-        None => put_sites(out, legend.names, places.names(), site, None),
     }
 }
 
@@ -164,41 +163,26 @@ fn put_variable(
 ) -> Put
     ensures { OnOk result (out.new.items ≡ out.old.items ++ variable_text style word variable.now) }
 {
-    put!(out, style, names; Name(b" ", variable.name.as_slice()))?;
-    put_plus(out, variable.extent.offset_of(word.number()))?;
-    out.extend_from_slice(b",")
-}
-
-fn put_plus(out: &mut Vec<u8>, n: u64) -> Put
-    ensures { OnOk result (out.new.items ≡ out.old.items ++ plus_text n) }
-{
-    if n == 0 {
-        return Ok(());
+    let name = variable.name.as_slice();
+    match variable.extent.offset_of(word.number()) {
+        0 => put!(out, style, names; Name(b" ", name), Text(b",")),
+        offset => put!(out, style, names; Name(b" ", name), Number(b"+", offset), Text(b",")),
     }
-    out.extend_from_slice(b"+")?;
-    put_number(out, n)
 }
 
 #[tactic(auto, unfolding(crate::specs::Text::block_text))]
 fn put_block(out: &mut Vec<u8>, style: Style, places: &Places, word: Word, block: &Block) -> Put
     ensures { OnOk result (out.new.items ≡ out.old.items ++ block_text style places.now word block.now) }
 {
-    let offset = block.extent.offset_of(word.number());
+    let (offset, size) = (block.extent.offset_of(word.number()), block.extent.size);
     put!(out, style, places.names();
-        Number(b" byte ", offset), Number(b" of a block of ", block.extent.size), Text(b" bytes")
+        Number(b" byte ", offset), Number(b" of a block of ", size)
     )?;
-    put_from(out, style, places, block.place)?;
-    out.extend_from_slice(b",")?;
-    Ok(())
-}
-
-fn put_from(out: &mut Vec<u8>, style: Style, places: &Places, place: Option<u32>) -> Put
-    ensures { OnOk result (out.new.items ≡ out.old.items ++ from_text style places.now place) }
-{
-    match place {
-        Some(place) =>
-            put!(out, style, places.names(); Name(b" allocated at ", places.call_name(place))),
-        None => Ok(()),
+    match block.place {
+        Some(place) => put!(out, style, places.names();
+            Name(b" bytes allocated at ", places.call_name(place)), Text(b",")
+        ),
+        None => out.extend_from_slice(b" bytes,"),
     }
 }
 
@@ -211,26 +195,12 @@ fn put_locks(out: &mut Vec<u8>, names: &Names, race: &Race<'_>, own: Option<&Pla
         return put!(out, Style::Short, names; Thread(b"  ", race.thread), Text(b" held no lock\n"));
     }
     for lock in race.held {
-        put_held(out, names, race, own, *lock)?;
+        let mode = mode_text(is_weak(race, own, *lock));
+        put!(out, Style::Short, names;
+            Thread(b"  ", race.thread), Lock(b" held ", *lock), Text(mode), Text(b"\n")
+        )?;
     }
     Ok(())
-}
-
-fn put_held(
-    out: &mut Vec<u8>,
-    names: &Names,
-    race: &Race<'_>,
-    own: Option<&Place>,
-    lock: LockId,
-) -> Put
-    requires names { HasRaceNames names.now race.now }
-    requires lock { HasLockName names.now lock }
-    ensures { OnOk result (out.new.items ≡ out.old.items ++ held_text names.now race.now (option_copied own.entry) lock) }
-{
-    put!(out, Style::Short, names;
-        Thread(b"  ", race.thread), Lock(b" held ", lock),
-        Text(mode_text(is_weak(race, own, lock))), Text(b"\n")
-    )
 }
 
 // Whether a lock was held only to read: it wasn't held to write at the place of the race, or a reason says that it didn't protect the race.
@@ -348,10 +318,9 @@ fn put_so(out: &mut Vec<u8>, race: &Race<'_>) -> Put
     ensures { OnOk result (out.new.items ≡ out.old.items ++ so_text race.now.explained) }
 {
     match race.explained.first() {
-        None => Ok(()),
-        Some(because) if matches!(because.label, Label::Unordered) => Ok(()),
-        Some(_) => out.extend_from_slice(
+        Some(because) if !matches!(because.label, Label::Unordered) => out.extend_from_slice(
             b"  So no lock protected all accesses from the second thread's first one on\n",
         ),
+        _ => Ok(()),
     }
 }

@@ -94,14 +94,12 @@ fn find_sites(alloc: Global, lines: &[Line]) -> Result<Found, AllocError>
     ensures counts { IfOk result (λ found. AreCounts lines.now found.counts) }
     ensures examples { IfOk result (λ found. AreExamples lines.now found.examples.items) }
 {
-    let counts = count_races(alloc, lines)?;
     let (threads, locks) = count_distinct(alloc, lines)?;
-    let examples = find_examples(alloc, lines)?;
     Ok(Found {
-        counts,
+        counts: count_races(alloc, lines)?,
         threads,
         locks,
-        examples,
+        examples: find_examples(alloc, lines)?,
     })
 }
 

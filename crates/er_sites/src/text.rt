@@ -1,8 +1,8 @@
 //! The whole text.
 ghost use Rattle.std.specs.Prelude.{◌≡◌, ◌++◌, ◌≤◌, ◌==◌, ◌&&◌, All, count_by, find, flat_map, is_some, length, option_copied, slice_get, IfOk, IfSome, OnOk};
 ghost use Rattle.std.specs.List.{list_any};
-ghost use Rattle.er_sites.specs.Sites.{AreSitesOf, HaveNames, end_if, lines_or, nothing_in, other_rows, others_text, others_title, reuses_text, run_text, sites_text, title_of, told_threads};
-ghost use Rattle.er_sites.specs.Text.{HasNames, example_of, if_some, is_refused, is_reused, kinds_text, refused_text, row_text, rows_text};
+ghost use Rattle.er_sites.specs.Sites.{AreSitesOf, HaveNames, end_if, lines_or, nothing_in, other_rows, others_text, reuses_text, run_text, sites_text, title_of, told_threads};
+ghost use Rattle.er_sites.specs.Text.{HasNames, example_of, is_refused, is_reused, kinds_text, refused_text, row_text, rows_text};
 ghost use Rattle.er_sites.specs.Threads.{headed, threads_text};
 
 use crate::counts::count_races;
@@ -142,17 +142,11 @@ fn put_others(
     let Some(report) = report else {
         return Ok(());
     };
-    put_others_title(out, below, rows.is_empty())?;
-    put_rows(out, legend, &report.lines, rows)
-}
-
-fn put_others_title(out: &mut Vec<u8>, below: bool, none: bool) -> Put
-    ensures { OnOk result (out.new.items ≡ out.old.items ++ others_title below none) }
-{
-    if !below {
-        return Ok(());
+    if below {
+        let nothing = b": no further site\n\n";
+        put_title(out, b"no common lock", nothing, rows.is_empty())?;
     }
-    put_title(out, b"no common lock", b": no further site\n\n", none)
+    put_rows(out, legend, &report.lines, rows)
 }
 
 // What stands behind the heading of the run if no site is below it.
@@ -210,20 +204,13 @@ fn put_rows(out: &mut Vec<u8>, legend: &Legend, lines: &[Line], rows: &[SiteRow]
     requires rows { All (λ row. row.site ≤ length legend.now.names.now.sites) rows.now }
     ensures { OnOk result (out.new.items ≡ out.old.items ++ rows_text legend.now.names.now legend.now.places.now lines.now rows.now) }
 {
-    let heading = b"words     kinds       threads   locks     site\n";
-    put_if_some(out, rows, heading)?;
-    put_table(out, legend.names, rows)?;
-    put_examples(out, legend, lines, rows)?;
-    put_if_some(out, rows, b"\n")
-}
-
-fn put_if_some(out: &mut Vec<u8>, rows: &[SiteRow], text: &[u8]) -> Put
-    ensures { OnOk result (out.new.items ≡ out.old.items ++ if_some rows.now text.now) }
-{
     if rows.is_empty() {
         return Ok(());
     }
-    out.extend_from_slice(text)
+    out.extend_from_slice(b"words     kinds       threads   locks     site\n")?;
+    put_table(out, legend.names, rows)?;
+    put_examples(out, legend, lines, rows)?;
+    out.extend_from_slice(b"\n")
 }
 
 fn put_table(out: &mut Vec<u8>, names: &Names, rows: &[SiteRow]) -> Put
@@ -231,20 +218,13 @@ fn put_table(out: &mut Vec<u8>, names: &Names, rows: &[SiteRow]) -> Put
     ensures { OnOk result (out.new.items ≡ out.old.items ++ flat_map (row_text names.now) rows.now) }
 {
     for row in rows {
-        put_row(out, names, row)?;
+        put_column(out, row.races())?;
+        put_kinds(out, row.reads, row.writes, row.reuses)?;
+        put_column(out, row.threads)?;
+        put_column(out, row.locks)?;
+        put!(out, Style::Short, names; At(b"", row.site), Text(b"\n"))?;
     }
     Ok(())
-}
-
-fn put_row(out: &mut Vec<u8>, names: &Names, row: &SiteRow) -> Put
-    requires { row.now.site ≤ length names.now.sites }
-    ensures { OnOk result (out.new.items ≡ out.old.items ++ row_text names.now row.now) }
-{
-    put_column(out, row.races())?;
-    put_kinds(out, row.reads, row.writes, row.reuses)?;
-    put_column(out, row.threads)?;
-    put_column(out, row.locks)?;
-    put!(out, Style::Short, names; At(b"", row.site), Text(b"\n"))
 }
 
 // Puts what the races of a row do, and spaces up to the next column.
@@ -267,19 +247,11 @@ fn put_examples(out: &mut Vec<u8>, legend: &Legend, lines: &[Line], rows: &[Site
     ensures { OnOk result (out.new.items ≡ out.old.items ++ flat_map (λ row. example_of legend.now.names.now legend.now.places.now (slice_get lines.now row.example)) rows.now) }
 {
     for row in rows {
-        put_example_at(out, legend, lines, row.example)?;
+        if let Some(line) = lines.get(row.example) {
+            put_example(out, legend, line)?;
+        }
     }
     Ok(())
-}
-
-fn put_example_at(out: &mut Vec<u8>, legend: &Legend, lines: &[Line], place: usize) -> Put
-    requires { All (HasNames legend.now.names.now) lines.now }
-    ensures { OnOk result (out.new.items ≡ out.old.items ++ example_of legend.now.names.now legend.now.places.now (slice_get lines.now place)) }
-{
-    match lines.get(place) {
-        Some(line) => put_example(out, legend, line),
-        None => Ok(()),
-    }
 }
 
 fn first_refused(lines: &[Line]) -> Option<&Line>

@@ -24,18 +24,11 @@ pub(crate) fn add_examples(threads: &mut Threads, lines: &[Line], rows: &[SiteRo
     ensures { OnOk result (threads.new.keys ≡ insert_all nat_eq threads.old.keys (flat_map (example_threads lines.now) rows.now)) }
 {
     for row in rows {
-        add_example(threads, lines, row.example)?;
+        if let Some(line) = lines.get(row.example) {
+            add_line(threads, line)?;
+        }
     }
     Ok(())
-}
-
-fn add_example(threads: &mut Threads, lines: &[Line], place: usize) -> Put
-    ensures { OnOk result (threads.new.keys ≡ insert_all nat_eq threads.old.keys (row_threads (slice_get lines.now place))) }
-{
-    match lines.get(place) {
-        Some(line) => add_line(threads, line),
-        None => Ok(()),
-    }
 }
 
 /// Adds the threads of the reuses without a site.
@@ -107,27 +100,21 @@ fn put_start(out: &mut Vec<u8>, legend: &Legend, thread: ThreadId) -> Put
     ensures { OnOk result (out.new.items ≡ out.old.items ++ start_text legend.now.names.now legend.now.places.now thread) }
 {
     let name = legend.names.thread_name(thread).as_bytes();
-    match legend.places.start_of(name) {
-        Some(start) => put_started(out, legend, thread, start.name.as_slice(), start.place),
-        None => Ok(()),
-    }
-}
-
-fn put_started(
-    out: &mut Vec<u8>,
-    legend: &Legend,
-    thread: ThreadId,
-    name: &[u8],
-    place: Option<u32>,
-) -> Put
-    requires { thread < length legend.now.names.now.threads }
-    ensures { OnOk result (out.new.items ≡ out.old.items ++ started_text legend.now.names.now legend.now.places.now thread name.now place) }
-{
-    let Some(place) = place else {
+    let Some(start) = legend.places.start_of(name) else {
+        return Ok(());
+    };
+    let Some(place) = start.place else {
         return Ok(());
     };
     let (names, site) = (legend.names, legend.places.call_name(place));
     put!(out, Style::Short, names; Thread(b"  ", thread))?;
-    put_known(out, Style::Short, names, b" \"", name, b"\"")?;
+    put_known(
+        out,
+        Style::Short,
+        names,
+        b" \"",
+        start.name.as_slice(),
+        b"\"",
+    )?;
     put!(out, Style::Short, names; Name(b" was started at ", site), Text(b"\n"))
 }

@@ -1,16 +1,13 @@
 -- The heading, the sites and then the reuses, one after another.
-use Rattle.std.proofs.Common.{◌≡◌, ◌==◌, ◌++◌, ◌∙◌, ℕ, Bool, List, [], ◌∷◌, length, codes, ap, refl, arith}
+use Rattle.std.proofs.Common.{◌≡◌, ◌++◌, ◌∙◌, ℕ, Bool, List, codes, ap}
 use Rattle.std.proofs.lemmas.Result.{on_ok_weaker}
 use Rattle.er_print.proofs.DigitLemmas.{put_three}
 use Rattle.er_report.specs.declared.report.Line.{Line}
+use Rattle.er_sites.proofs.SiteLemmas.{none_is}
 use Rattle.er_sites.specs.Sites.{are_none, nothing_in, title_of}
 use Rattle.er_sites.specs.Text.{rows_text}
 use Rattle.er_sites.specs.declared.row.SiteRow.{SiteRow}
 use Rattle.er_sites.proofs.text.put_run.Goals as goal
-
-none_is : (rows : List SiteRow) → (length rows == 0) ≡ are_none rows
-none_is [] = refl
-none_is (row ∷ rows) = grind arith
 
 pub returns : goal.returns
 returns c =
