@@ -116,18 +116,18 @@ race_front names race (deed.Reuse range) =
     ++ codes "\",\"bytes\":" ++ decimal (bytes_between range.lo range.hi)
     ++ named_site style.Json names (codes ",\"site\":") race.site ++ codes ",\"held\":" ++ locks_in style.Json names race.held ++ codes ",\"reasons\":["
 
--- where memory was taken
+-- where the block was allocated
 abbrev pub taken_at : PlaceTable → Option ℕ → List ℕ
-taken_at table None = codes "null"
-taken_at table (Some place) = string_text (call_name table place)
+taken_at table None = codes ",\"site\":null}"
+taken_at table (Some place) = codes ",\"site\":" ++ string_text (call_name table place) ++ codes "}"
 
 -- the variable that a word is in, else the block that it was in, and how far in the word begins, if one of them is known
 abbrev pub subject_by : PlaceTable → ℕ → Option Variable → Option Block → List ℕ
 subject_by table word (Some variable) block =
     codes ",\"variable\":{\"name\":" ++ string_text variable.name.items ++ codes ",\"offset\":" ++ decimal (4 * word - variable.extent.address) ++ codes "}"
 subject_by table word None (Some block) =
-    codes ",\"block\":{\"size\":" ++ decimal block.extent.size ++ codes ",\"offset\":" ++ decimal (4 * word - block.extent.address) ++ codes ",\"site\":"
-    ++ taken_at table block.place ++ codes "}"
+    codes ",\"block\":{\"size\":" ++ decimal block.extent.size ++ codes ",\"offset\":" ++ decimal (4 * word - block.extent.address)
+    ++ taken_at table block.place
 subject_by table word None None = []
 
 -- a reuse has none
@@ -153,16 +153,12 @@ refused_text names number step refusal =
     codes "{\"line\":" ++ decimal number ++ codes ",\"thread\":" ++ thread_in style.Json names step.thread ++ codes ",\"event\":\"" ++ event_verb step.event
     ++ codes "\",\"lock\":" ++ event_lock names step.event ++ codes ",\"why\":\"" ++ text_of refusal ++ codes "\"}"
 
--- a state of several threads, with its candidate set
-abbrev pub candidates_member : NameTable → List ℕ → List ℕ → List ℕ
-candidates_member names word locks = word ++ codes "\",\"owner\":null,\"candidates\":" ++ locks_in style.Json names locks ++ codes "}"
-
--- the state of a word
+-- the state of a word; that of several threads has a candidate set
 unfoldable pub state_member : NameTable → WordState → List ℕ
 state_member names Virgin = codes "virgin\",\"owner\":null,\"candidates\":null}"
 state_member names (Exclusive thread) = codes "exclusive\",\"owner\":" ++ thread_in style.Json names thread ++ codes ",\"candidates\":null}"
-state_member names (Shared locks) = candidates_member names (codes "shared") locks
-state_member names (SharedModified locks) = candidates_member names (codes "shared-modified") locks
+state_member names (Shared locks) = codes "shared\",\"owner\":null,\"candidates\":" ++ locks_in style.Json names locks ++ codes "}"
+state_member names (SharedModified locks) = codes "shared-modified\",\"owner\":null,\"candidates\":" ++ locks_in style.Json names locks ++ codes "}"
 
 -- the object of a line
 abbrev pub row_text : NameTable → PlaceTable → LineView → List ℕ

@@ -56,17 +56,15 @@ unfoldable pub function_text : List ℕ → List ℕ → List ℕ → List ℕ
 function_text before [] behind = []
 function_text before (byte ∷ name) behind = before ++ codes "{\"fullyQualifiedName\":" ++ string_text (byte ∷ name) ++ codes ",\"kind\":\"function\"}" ++ behind
 
--- a site that doesn't end with a line is a name
-unfoldable pub name_member : List ℕ → List ℕ
-name_member site = codes "{\"logicalLocations\":[{\"fullyQualifiedName\":" ++ string_text site ++ codes "}"
-
--- and of another the file ends at the colon
+-- the file and the line of a site that ends with a line: the file ends at the colon
 unfoldable pub file_member : List ℕ → ℕ → List ℕ
 file_member site n =
     codes "{\"physicalLocation\":{\"artifactLocation\":{\"uri\":\"" ++ flat_map uri_byte (take n site) ++ codes "\"},\"region\":{\"startLine\":" ++ drop (n + 1) site ++ codes "}}"
 
+-- another site is a name
 abbrev pub place_by : List ℕ → List ℕ → Option ℕ → List ℕ
-place_by site function None = name_member site ++ function_text (codes ",") function [] ++ codes "]"
+place_by site function None =
+    codes "{\"logicalLocations\":[{\"fullyQualifiedName\":" ++ string_text site ++ codes "}" ++ function_text (codes ",") function [] ++ codes "]"
 place_by site function (Some n) = file_member site n ++ function_text (codes ",\"logicalLocations\":[") function (codes "]")
 
 -- a location with this site and this function, which is left open
@@ -86,14 +84,14 @@ sentence_words names because =
 abbrev pub mode_words : List ℕ → ℕ → List ℕ
 mode_words writes lock = cond (has writes lock) [] (codes " (to read)")
 
--- a lock behind this sign
-unfoldable pub lock_words : NameTable → List ℕ → List ℕ → ℕ → List ℕ
-lock_words names writes sign lock = sign ++ lock_in style.InString names lock ++ mode_words writes lock
+-- a lock behind a space
+abbrev pub lock_words : NameTable → List ℕ → ℕ → List ℕ
+lock_words names writes lock = codes " " ++ lock_in style.InString names lock ++ mode_words writes lock
 
 -- the locks that a thread held, of which these to write
 abbrev pub locks_words : NameTable → List ℕ → List ℕ → List ℕ
 locks_words names writes [] = codes " no lock"
-locks_words names writes (lock ∷ locks) = lock_words names writes (codes " ") lock ++ flat_map (lock_words names writes (codes ", ")) locks
+locks_words names writes (lock ∷ locks) = values_text (lock_words names writes) (lock ∷ locks)
 
 -- if that is known
 unfoldable pub holding_words : NameTable → Option Place → List ℕ
@@ -101,7 +99,7 @@ holding_words names None = []
 holding_words names (Some place) = codes ", holding" ++ locks_words names place.write_held place.held
 
 -- where an access in this function stood: the missing site is left out
-unfoldable pub opening_of : NameTable → List ℕ → ℕ → List ℕ
+abbrev pub opening_of : NameTable → List ℕ → ℕ → List ℕ
 opening_of names function zero = codes "{"
 opening_of names function (suc n) = open_location (name_at names.sites n) function ++ codes ","
 

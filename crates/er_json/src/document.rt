@@ -1,7 +1,7 @@
 //! The whole text: a document for each report.
-ghost use Rattle.std.specs.Prelude.{◌≡◌, ◌++◌, ◌<◌, ◌&&◌, All, false, flat_map, length, map, IfOk, IfSome, OnOk};
-ghost use Rattle.er_json.specs.Document.{HasNames, HaveNames, counts_member, document_if, document_text, json_reports, line_view, list_member, lists_text, rows_text, sign_if, started_row, stop_member, thread_row, threads_member, told, totals_member};
-ghost use Rattle.er_json.specs.Inner.Sections.{has_none, is_in, next_text, rows_in, separator_text};
+ghost use Rattle.std.specs.Prelude.{◌≡◌, ◌++◌, ◌<◌, All, false, flat_map, length, map, IfOk, IfSome, OnOk};
+ghost use Rattle.er_json.specs.Document.{HasNames, HaveNames, counts_member, document_if, document_text, json_reports, line_view, list_member, lists_text, rows_text, sign_if, stop_member, thread_row, threads_member, told, totals_member};
+ghost use Rattle.er_json.specs.Inner.Sections.{is_in, rows_in, separator_text};
 
 use crate::rows::{put_name, put_row};
 use er_event::{NoRoom, ThreadId};
@@ -11,7 +11,7 @@ use er_print::{Built, Put, Style, comma_before, put, put_lost, put_number};
 use er_report::{Line, Report, Reports};
 use er_sites::threads_of;
 use er_trace::Names;
-use std::alloc::{AllocError, Global};
+use std::alloc::Global;
 
 // What the documents begin with: only that by happens-before names its analysis.
 const LOCKSET_HEADING: &[u8] = b"{\"format\":1,\n\"races\":[";
@@ -92,29 +92,13 @@ fn put_rows(out: &mut Vec<u8>, legend: &Legend, lines: &[Line], of: Section) -> 
 {
     let mut is_first = true;
     for line in lines {
-        is_first = put_line_in(out, legend, line, of, is_first)?;
+        if is_in(of, line) {
+            put_separator(out, is_first)?;
+            put_row(out, legend, line)?;
+            is_first = false;
+        }
     }
     Ok(())
-}
-
-// Puts the object of a line, if the list has one, and returns whether the next one is the first.
-fn put_line_in(
-    out: &mut Vec<u8>,
-    legend: &Legend,
-    line: &Line,
-    of: Section,
-    is_first: bool,
-) -> Result<bool, AllocError>
-    requires { HasNames legend.now.names.now line.now }
-    ensures text { OnOk result (out.new.items ≡ out.old.items ++ next_text is_first (rows_in of legend.now.names.now legend.now.places.now (line_view line.now))) }
-    ensures first { IfOk result (λ still. still ≡ (is_first && has_none (rows_in of legend.now.names.now legend.now.places.now (line_view line.now)))) }
-{
-    if !is_in(of, line) {
-        return Ok(is_first);
-    }
-    put_separator(out, is_first)?;
-    put_row(out, legend, line)?;
-    Ok(false)
 }
 
 fn is_in(of: Section, line: &Line) -> bool
@@ -192,28 +176,15 @@ fn put_thread_row(out: &mut Vec<u8>, legend: &Legend, thread: ThreadId) -> Put
     ensures { OnOk result (out.new.items ≡ out.old.items ++ thread_row legend.now.names.now legend.now.places.now thread) }
 {
     let name = legend.names.thread_name(thread).as_bytes();
-    match legend.places.start_of(name) {
-        Some(start) => put_started(out, legend, thread, start.name.as_slice(), start.place),
-        None => Ok(()),
-    }
-}
-
-fn put_started(
-    out: &mut Vec<u8>,
-    legend: &Legend,
-    thread: ThreadId,
-    name: &[u8],
-    place: Option<u32>,
-) -> Put
-    requires { thread < length legend.now.names.now.threads }
-    ensures { OnOk result (out.new.items ≡ out.old.items ++ started_row legend.now.names.now legend.now.places.now thread name.now place) }
-{
-    let Some(place) = place else {
+    let Some(start) = legend.places.start_of(name) else {
+        return Ok(());
+    };
+    let Some(place) = start.place else {
         return Ok(());
     };
     let (names, site) = (legend.names, legend.places.call_name(place));
     put!(out, Style::Json, names; Thread(b",\n{\"thread\":", thread), Text(b",\"name\":"))?;
-    put_name(out, name)?;
+    put_name(out, start.name.as_slice())?;
     put!(out, Style::Json, names; Name(b",\"site\":", site), Text(b"}"))
 }
 

@@ -1,11 +1,11 @@
 //! Where in the program accesses stand, what their threads held, and the reasons of a result.
-ghost use Rattle.std.specs.Prelude.{◌≡◌, ◌++◌, ◌<◌, ◌≤◌, codes, flat_map, length, option_copied, All, IfSome, OnOk};
+ghost use Rattle.std.specs.Prelude.{◌≡◌, ◌++◌, ◌<◌, flat_map, length, option_copied, All, IfSome, OnOk};
 ghost use Rattle.std.specs.List.{list_all};
 ghost use Rattle.er_json.specs.Places.{colon_below, file_end, is_digit, is_line};
-ghost use Rattle.er_json.specs.Sarif.{HasLockName, HasLockNames, HasPlaceNames, HasReasonNames, file_member, function_text, holding_words, location_member, lock_words, locks_words, mode_words, name_member, open_location, opening_of, opening_text, reason_place, reason_text, sentence_words, values_text};
+ghost use Rattle.er_json.specs.Sarif.{HasLockNames, HasPlaceNames, HasReasonNames, file_member, function_text, holding_words, location_member, locks_words, mode_words, open_location, opening_text, reason_place, reason_text, sentence_words, values_text};
 ghost use Rattle.er_json.specs.Uris.{digit_byte, is_path_byte, uri_byte};
 
-use er_event::{LockId, Lockset, Site};
+use er_event::{LockId, Lockset};
 use er_places::{Legend, Place, Places};
 use er_print::Piece::{Label, Lock, Number, Text, Thread, Verb};
 use er_print::{Put, Style, comma_before, put, put_string};
@@ -34,22 +34,14 @@ pub(crate) fn open_location(out: &mut Vec<u8>, site: &[u8], function: &[u8]) -> 
             put_function(out, b",\"logicalLocations\":[", function, b"]")
         }
         None => {
-            put_site_name(out, site)?;
+            out.extend_from_slice(b"{\"logicalLocations\":[{\"fullyQualifiedName\":")?;
+            put_string(out, site)?;
+            out.extend_from_slice(b"}")?;
             put_function(out, b",", function, b"")?;
             out.extend_from_slice(b"]")?;
             Ok(())
         }
     }
-}
-
-#[tactic(auto, unfolding(crate::specs::Sarif::name_member))]
-fn put_site_name(out: &mut Vec<u8>, site: &[u8]) -> Put
-    ensures { OnOk result (out.new.items ≡ out.old.items ++ name_member site.now) }
-{
-    out.extend_from_slice(b"{\"logicalLocations\":[{\"fullyQualifiedName\":")?;
-    put_string(out, site)?;
-    out.extend_from_slice(b"}")?;
-    Ok(())
 }
 
 // Puts a function between these texts, if it is known.
@@ -125,24 +117,14 @@ fn put_opening(out: &mut Vec<u8>, places: &Places, place: Option<&Place>) -> Put
     ensures { OnOk result (out.new.items ≡ out.old.items ++ opening_text places.now (option_copied place.entry)) }
 {
     match place {
-        Some(place) => {
-            let function = places.function_of(Some(place));
-            put_opening_at(out, places.names(), function, place.site)
+        Some(place) if place.site.number() != 0 => {
+            let names = places.names();
+            let site = names.site_name(place.site).as_bytes();
+            open_location(out, site, places.function_of(Some(place)))?;
+            out.extend_from_slice(b",")
         }
-        None => out.extend_from_slice(b"{"),
+        _ => out.extend_from_slice(b"{"),
     }
-}
-
-#[tactic(auto, unfolding(crate::specs::Sarif::opening_of))]
-fn put_opening_at(out: &mut Vec<u8>, names: &Names, function: &[u8], site: Site) -> Put
-    requires { site ≤ length names.now.sites }
-    ensures { OnOk result (out.new.items ≡ out.old.items ++ opening_of names.now function.now site) }
-{
-    if site.number() == 0 {
-        return out.extend_from_slice(b"{");
-    }
-    open_location(out, names.site_name(site).as_bytes(), function)?;
-    out.extend_from_slice(b",")
 }
 
 // Puts what the thread of a reason held, if that is known.
@@ -162,33 +144,15 @@ fn put_locks(out: &mut Vec<u8>, names: &Names, writes: &Lockset, locks: &[LockId
     requires { HasLockNames names.now locks.now }
     ensures { OnOk result (out.new.items ≡ out.old.items ++ locks_words names.now writes.now locks.now) }
 {
-    match locks {
-        [] => out.extend_from_slice(b" no lock"),
-        [first, rest @ ..] => {
-            put_lock(out, names, writes, b" ", *first)?;
-            put_more_locks(out, names, writes, rest)
-        }
+    if locks.is_empty() {
+        return out.extend_from_slice(b" no lock");
     }
-}
-
-// Puts each lock behind a comma.
-fn put_more_locks(out: &mut Vec<u8>, names: &Names, writes: &Lockset, locks: &[LockId]) -> Put
-    requires { HasLockNames names.now locks.now }
-    ensures { OnOk result (out.new.items ≡ out.old.items ++ flat_map (lock_words names.now writes.now (codes ", ")) locks.now) }
-{
-    for lock in locks {
-        put_lock(out, names, writes, b", ", *lock)?;
+    for (place, lock) in locks.iter().enumerate() {
+        let mode = mode_words(writes, *lock);
+        out.extend_from_slice(comma_before(place))?;
+        put!(out, Style::InString, names; Lock(b" ", *lock), Text(mode))?;
     }
     Ok(())
-}
-
-#[tactic(auto, unfolding(crate::specs::Sarif::lock_words))]
-fn put_lock(out: &mut Vec<u8>, names: &Names, writes: &Lockset, sign: &[u8], lock: LockId) -> Put
-    requires { HasLockName names.now lock }
-    ensures { OnOk result (out.new.items ≡ out.old.items ++ lock_words names.now writes.now sign.now lock) }
-{
-    let mode = mode_words(writes, lock);
-    put!(out, Style::InString, names; Text(sign), Lock(b"", lock), Text(mode))
 }
 
 fn mode_words(writes: &Lockset, lock: LockId) -> &'static [u8]
@@ -246,19 +210,13 @@ fn put_path(out: &mut Vec<u8>, file: &[u8]) -> Put
     ensures { OnOk result (out.new.items ≡ out.old.items ++ flat_map uri_byte file.now) }
 {
     for byte in file {
-        put_byte(out, *byte)?;
+        if is_path_byte(*byte) {
+            out.push(*byte)?;
+        } else {
+            out.extend_from_slice(&[b'%', digit_byte(*byte / 16), digit_byte(*byte % 16)])?;
+        }
     }
     Ok(())
-}
-
-fn put_byte(out: &mut Vec<u8>, byte: u8) -> Put
-    ensures { OnOk result (out.new.items ≡ out.old.items ++ uri_byte byte) }
-{
-    if is_path_byte(byte) {
-        out.push(byte)?;
-        return Ok(());
-    }
-    out.extend_from_slice(&[b'%', digit_byte(byte / 16), digit_byte(byte % 16)])
 }
 
 // Whether the byte stands for itself in the path of a URI that has no scheme.

@@ -2,7 +2,7 @@
 ghost use Rattle.std.specs.Prelude.{◌≡◌, ◌++◌, ◌<◌, ◌||◌, All, filter, flat_map, length, option_copied, None, Some, IfOk, OnOk};
 ghost use Rattle.std.specs.List.{list_any};
 ghost use Rattle.er_places.specs.Names.{call_function};
-ghost use Rattle.er_json.specs.Document.{HasEventNames, HasLabelName, HasLockNames, HasNames, HasPlaceNames, HasRaceNames, HasReasonNames, HasStateNames, call_text, calls_member, candidates_member, event_lock, is_held_to_read, label_member, line_view, place_if, place_member, race_front, reason_place, reason_text, reasons_end, refused_text, row_text, state_member, values_text, function_item, functions_member, is_known, name_value, subject_by, subject_member, taken_at};
+ghost use Rattle.er_json.specs.Document.{HasEventNames, HasLabelName, HasNames, HasPlaceNames, HasRaceNames, HasReasonNames, HasStateNames, call_text, calls_member, event_lock, is_held_to_read, label_member, line_view, place_if, place_member, race_front, reason_place, reason_text, reasons_end, refused_text, row_text, state_member, values_text, function_item, functions_member, is_known, name_value, subject_by, subject_member};
 
 use er_event::{Event, LockId, Lockset, Refusal, Step, Word, WordState};
 use er_places::{Block, Legend, Place, Places};
@@ -187,16 +187,10 @@ fn put_call_functions(out: &mut Vec<u8>, places: &Places, calls: &[u32]) -> Put
     ensures { OnOk result (out.new.items ≡ out.old.items ++ flat_map (function_item places.now) calls.now) }
 {
     for call in calls {
-        put_call_function(out, places, *call)?;
+        out.extend_from_slice(b",")?;
+        put_name(out, places.call_function(*call))?;
     }
     Ok(())
-}
-
-fn put_call_function(out: &mut Vec<u8>, places: &Places, call: u32) -> Put
-    ensures { OnOk result (out.new.items ≡ out.old.items ++ function_item places.now call) }
-{
-    out.extend_from_slice(b",")?;
-    put_name(out, places.call_function(call))
 }
 
 /// Puts a name as a value, null if it isn't known.
@@ -232,20 +226,16 @@ fn put_subject(out: &mut Vec<u8>, places: &Places, line: u64, deed: Deed) -> Put
 fn put_block(out: &mut Vec<u8>, places: &Places, word: Word, block: &Block) -> Put
     ensures { OnOk result (out.new.items ≡ out.old.items ++ subject_by places.now word None (Some block.now)) }
 {
-    put!(out, Style::Json, places.names();
-        Number(b",\"block\":{\"size\":", block.extent.size),
-        Number(b",\"offset\":", block.extent.offset_of(word.number())), Text(b",\"site\":")
-    )?;
-    put_taken(out, places, block.place)?;
-    out.extend_from_slice(b"}")
-}
-
-fn put_taken(out: &mut Vec<u8>, places: &Places, place: Option<u32>) -> Put
-    ensures { OnOk result (out.new.items ≡ out.old.items ++ taken_at places.now place) }
-{
-    match place {
-        Some(place) => put_string(out, places.call_name(place)),
-        None => out.extend_from_slice(b"null"),
+    let (offset, size) = (block.extent.offset_of(word.number()), block.extent.size);
+    match block.place {
+        Some(place) => put!(out, Style::Json, places.names();
+            Number(b",\"block\":{\"size\":", size), Number(b",\"offset\":", offset),
+            Name(b",\"site\":", places.call_name(place)), Text(b"}")
+        ),
+        None => put!(out, Style::Json, places.names();
+            Number(b",\"block\":{\"size\":", size), Number(b",\"offset\":", offset),
+            Text(b",\"site\":null}")
+        ),
     }
 }
 
@@ -320,18 +310,12 @@ fn put_state(out: &mut Vec<u8>, names: &Names, state: &WordState) -> Put
         WordState::Exclusive(thread) => put!(out, Style::Json, names;
             Thread(b"exclusive\",\"owner\":", *thread), Text(b",\"candidates\":null}")
         ),
-        WordState::Shared(locks) => put_candidates(out, names, b"shared", locks.as_slice()),
-        WordState::SharedModified(locks) => {
-            put_candidates(out, names, b"shared-modified", locks.as_slice())
-        }
+        WordState::Shared(locks) => put!(out, Style::Json, names;
+            Locks(b"shared\",\"owner\":null,\"candidates\":", locks.as_slice()), Text(b"}")
+        ),
+        WordState::SharedModified(locks) => put!(out, Style::Json, names;
+            Locks(b"shared-modified\",\"owner\":null,\"candidates\":", locks.as_slice()),
+            Text(b"}")
+        ),
     }
-}
-
-fn put_candidates<'a>(out: &mut Vec<u8>, names: &Names, word: &'a [u8], locks: &'a [LockId]) -> Put
-    requires { HasLockNames names.now locks.now }
-    ensures { OnOk result (out.new.items ≡ out.old.items ++ candidates_member names.now word.now locks.now) }
-{
-    put!(out, Style::Json, names;
-        Text(word), Locks(b"\",\"owner\":null,\"candidates\":", locks), Text(b"}")
-    )
 }

@@ -55,21 +55,15 @@ fn put_stack(out: &mut Vec<u8>, places: &Places, place: Option<&Place>) -> Put
     Ok(())
 }
 
+// Puts the frame of each call behind a comma.
 fn put_calls(out: &mut Vec<u8>, places: &Places, calls: &[u32]) -> Put
     ensures { OnOk result (out.new.items ≡ out.old.items ++ flat_map (call_frame places.now) calls.now) }
 {
     for call in calls {
-        put_call(out, places, *call)?;
+        out.extend_from_slice(b",")?;
+        put_frame(out, places.call_name(*call), places.call_function(*call))?;
     }
     Ok(())
-}
-
-// Puts the frame of a call behind a comma.
-fn put_call(out: &mut Vec<u8>, places: &Places, call: u32) -> Put
-    ensures { OnOk result (out.new.items ≡ out.old.items ++ call_frame places.now call) }
-{
-    out.extend_from_slice(b",")?;
-    put_frame(out, places.call_name(call), places.call_function(call))
 }
 
 #[tactic(auto, unfolding(crate::specs::Sarif::frame_text))]

@@ -1,5 +1,5 @@
 //! A result for each rule of suppressions that takes races.
-ghost use Rattle.std.specs.Prelude.{◌≡◌, ◌++◌, ◌&&◌, ◌==◌, ℕ, List, length, slice_get, IfOk, OnOk};
+ghost use Rattle.std.specs.Prelude.{◌≡◌, ◌++◌, ◌&&◌, ◌==◌, ℕ, List, length, IfOk, OnOk};
 ghost use Rattle.er_json.specs.Inner.Sections.{has_none, next_text, rows_text};
 ghost use Rattle.er_rules.specs.Rules.{target_of, targets_of};
 ghost use Rattle.er_json.specs.Sarif.{suppressed_below, suppressed_of, suppressed_text, suppression_text, taken_text, target_location};
@@ -25,16 +25,10 @@ pub(crate) fn put_suppressed(
 {
     let mut still_first = is_first;
     for (place, rule) in rules.rules.iter().enumerate() {
-        let count = count_at(rule_counts, place);
+        let count = rule_counts.get(place).copied();
         still_first = put_next(out, of, place as u64 + 1, count, rule, still_first)?;
     }
     Ok(())
-}
-
-fn count_at(counts: &[u64], place: usize) -> Option<u64>
-    ensures { result ≡ slice_get counts.now place }
-{
-    counts.get(place).copied()
 }
 
 // Puts the result of a rule if it takes a race, and returns whether the next one is the first.

@@ -8,6 +8,7 @@ use Rattle.er_rules.specs.Rules.{Target, target_of, targets_of}
 use Rattle.er_rules.specs.declared.rules.Rule.{Rule}
 use Rattle.er_json.proofs.SuppressedLemmas.{suppressed_more, suppressed_next, text_goes_on}
 use Rattle.er_json.specs.Sarif.{suppressed_below, suppressed_of}
+use Rattle.er_sites.proofs.SiteLemmas.{got}
 use Rattle.er_json.proofs.suppressed.put_suppressed.Goals as goal
 
 pub loop-place-init : goal.loop-place-init
@@ -30,8 +31,9 @@ loop-place-preserved c =
     let next : suppressed_below c.args.of counts (targets_of c.args.rules.now) (k + 1) ≡ before ++ more = suppressed_next c.args.of counts rules k rule within item in
     let behind : (rows : List (List ℕ)) → (rows ++ before) ++ more ≡ rows ++ suppressed_below c.args.of counts (targets_of c.args.rules.now) (k + 1) =
     λ rows. append_assoc rows before more ∙ ap (λ (all : List (List ℕ)). rows ++ all) (sym next) in
-    let first = rw c.count_at-count.ensures at c.in_ok-still_first.ensures.first in
-    let put = rw c.count_at-count.ensures at c.in_ok-still_first.ensures.text in
+    let count : c.copied-count.result ≡ slice_get counts k = c.copied-count.ensures ∙ got counts k c.get.result c.get.ensures.lookup in
+    let first = rw count at c.in_ok-still_first.ensures.first in
+    let put = rw count at c.in_ok-still_first.ensures.text in
     record {
       first = λ rows is. first ∙ ap (λ (b : Bool). b && has_none more) (c.loop-place.invariant.first rows is) ∙ sym (none_more (rows ++ before) more) ∙ ap has_none (behind rows);
       text = λ old rows is so_far. text_goes_on (rows ++ before) more old _ _ _ (suppressed_more c.args.of (k + 1) (slice_get counts k) (target_of rule) (rows ++ before)) (c.loop-place.invariant.first rows is) (c.loop-place.invariant.text old rows is so_far) put
