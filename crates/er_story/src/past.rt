@@ -45,13 +45,7 @@ fn shared_by(kind: Kind, candidates: Lockset) -> WordState
 fn same_state(one: &WordState, other: &WordState) -> bool
     ensures { result ≡ same_state one.now other.now }
 {
-    match (one, other) {
-        (WordState::Virgin, WordState::Virgin) => true,
-        (WordState::Exclusive(owner), WordState::Exclusive(thread)) => owner == thread,
-        (WordState::Shared(left), WordState::Shared(right)) => left == right,
-        (WordState::SharedModified(left), WordState::SharedModified(right)) => left == right,
-        _ => false,
-    }
+    one == other
 }
 
 pub(crate) fn reports(before: &WordState, after: &WordState) -> bool
@@ -122,12 +116,10 @@ impl Past {
         requires { self.old.accesses < 2 ^ 63 }
         ensures { OnOk result (self.new ≡ past_after self.old word line (held_by locks.now step.now.thread) step.now.thread step.now.event) }
     {
-        let thread = step.thread;
         match step.event {
-            Event::Access(kind, accessed, site) => {
-                if accessed == word && !locks.is_ignoring(thread) {
-                    self.access(alloc, locks, line, thread, kind, site)?;
-                }
+            Event::Access(kind, accessed, site)
+                if accessed == word && !locks.is_ignoring(step.thread) => {
+                self.access(alloc, locks, line, step.thread, kind, site)?;
             }
             Event::Reuse(range) if range.contains(word) => *self = Past::new(alloc),
             _ => {}

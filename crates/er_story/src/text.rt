@@ -2,7 +2,7 @@
 ghost use Rattle.std.specs.Prelude.{◌≡◌, ◌++◌, All, false, flat_map, IfOk, OnOk};
 ghost use Rattle.er_device.specs.Device.{inner_of, has_failed, taken_of};
 ghost use Rattle.er_print.specs.Written.{FailsWriting, WritesReport};
-ghost use Rattle.er_report.specs.Names.{HasEventNames, HasLockName, HasLockNames, HasSiteName};
+ghost use Rattle.er_report.specs.Names.{HasEventNames, HasLockNames, HasSiteName};
 ghost use Rattle.er_story.specs.Names.{HasStoryNames, HasTaleNames, HasTurnNames, HasWordNames};
 ghost use Rattle.er_story.specs.Text.{change_text, deed_text, held_text, holding_text, mode_text, step_text, story_text, turn_text, word_text, answer_text, emptied_text, no_race_text, quiet_text};
 
@@ -12,7 +12,7 @@ use crate::story::{Story, Turn, WordStory};
 use er_device::Device;
 use er_event::{Event, LockId, Lockset, Refusal, Reply, WordState};
 use er_print::Piece::{Address, Event as Asked, Lock, Number, Site, State, Text, Thread, Verb};
-use er_print::{Put, Style, WriteFault, put_all, write_text};
+use er_print::{Put, Style, WriteFault, put, write_text};
 use er_trace::Names;
 use std::alloc::Global;
 use std::io::Write;
@@ -51,12 +51,9 @@ fn put_step(out: &mut Vec<u8>, names: &Names, story: &Story) -> Put
     requires { HasStoryNames names.now story.now }
     ensures { OnOk result (out.new.items ≡ out.old.items ++ step_text names.now story.now) }
 {
-    let pieces = [
-        Number(b"line ", story.line),
-        Thread(b": ", story.step.thread),
-        Text(b" "),
-    ];
-    put_all(out, Style::Plain, names, &pieces)?;
+    put!(out, Style::Plain, names;
+        Number(b"line ", story.line), Thread(b": ", story.step.thread), Text(b" ")
+    )?;
     put_deed(out, names, story.step.event)?;
     put_holding(out, names, &story.write_held, story.held.as_slice())?;
     out.extend_from_slice(b"\n")
@@ -69,12 +66,11 @@ fn put_deed(out: &mut Vec<u8>, names: &Names, event: Event) -> Put
     ensures { OnOk result (out.new.items ≡ out.old.items ++ deed_text names.now event) }
 {
     match event {
-        Event::Access(kind, word, site) => {
-            let pieces = [Verb(b"", kind), Address(b" ", word), Site(b" at ", site)];
-            put_all(out, Style::Plain, names, &pieces)
-        }
-        Event::Show(word) => put_all(out, Style::Plain, names, &[Address(b"show ", word)]),
-        _ => put_all(out, Style::Plain, names, &[Asked(b"", &event)]),
+        Event::Access(kind, word, site) => put!(out, Style::Plain, names;
+            Verb(b"", kind), Address(b" ", word), Site(b" at ", site)
+        ),
+        Event::Show(word) => put!(out, Style::Plain, names; Address(b"show ", word)),
+        _ => put!(out, Style::Plain, names; Asked(b"", &event)),
     }
 }
 
@@ -87,18 +83,10 @@ fn put_holding(out: &mut Vec<u8>, names: &Names, write_held: &Lockset, held: &[L
     }
     out.extend_from_slice(b", holding")?;
     for lock in held {
-        put_held(out, names, write_held, *lock)?;
+        let mode = mode_text(write_held.contains(*lock));
+        put!(out, Style::Plain, names; Lock(b" ", *lock), Text(mode))?;
     }
     Ok(())
-}
-
-fn put_held(out: &mut Vec<u8>, names: &Names, write_held: &Lockset, lock: LockId) -> Put
-    requires { HasLockName names.now lock }
-    ensures { OnOk result (out.new.items ≡ out.old.items ++ held_text names.now write_held.now lock) }
-{
-    let mode = mode_text(write_held.contains(lock));
-    let pieces = [Lock(b" ", lock), Text(mode)];
-    put_all(out, Style::Plain, names, &pieces)
 }
 
 fn mode_text(writes: bool) -> &'static [u8]
@@ -128,14 +116,11 @@ fn put_change(out: &mut Vec<u8>, names: &Names, word: &WordStory) -> Put
     requires { HasTaleNames names.now word.now }
     ensures { OnOk result (out.new.items ≡ out.old.items ++ change_text names.now word.now) }
 {
-    let pieces = [
-        State(b"before: ", &word.before),
-        State(b"\nafter: ", &word.after),
+    put!(out, Style::Plain, names;
+        State(b"before: ", &word.before), State(b"\nafter: ", &word.after),
         Text(emptied_text(empties(&word.before, &word.after))),
-        Number(b"\nearlier accesses: ", word.accesses),
-        Text(b"\n"),
-    ];
-    put_all(out, Style::Plain, names, &pieces)
+        Number(b"\nearlier accesses: ", word.accesses), Text(b"\n")
+    )
 }
 
 fn put_turns(out: &mut Vec<u8>, names: &Names, turns: &[Turn]) -> Put
@@ -152,21 +137,14 @@ fn put_turn(out: &mut Vec<u8>, names: &Names, turn: &Turn) -> Put
     requires { HasTurnNames names.now turn.now }
     ensures { OnOk result (out.new.items ≡ out.old.items ++ turn_text names.now turn.now) }
 {
-    let act = [
-        Number(b"  access ", turn.number),
-        Number(b": line ", turn.line),
-        Thread(b", ", turn.thread),
-        Verb(b" ", turn.kind),
-        Site(b" at ", turn.site),
-    ];
-    put_all(out, Style::Plain, names, &act)?;
+    put!(out, Style::Plain, names;
+        Number(b"  access ", turn.number), Number(b": line ", turn.line),
+        Thread(b", ", turn.thread), Verb(b" ", turn.kind), Site(b" at ", turn.site)
+    )?;
     put_holding(out, names, &turn.write_held, turn.held.as_slice())?;
-    let outcome = [
-        State(b": ", &turn.state),
-        Text(emptied_text(turn.emptied)),
-        Text(b"\n"),
-    ];
-    put_all(out, Style::Plain, names, &outcome)
+    put!(out, Style::Plain, names;
+        State(b": ", &turn.state), Text(emptied_text(turn.emptied)), Text(b"\n")
+    )
 }
 
 // Puts what a step is answered, and why.
