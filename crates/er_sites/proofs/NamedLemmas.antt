@@ -1,5 +1,5 @@
 -- The threads that a text names have names.
-use Rattle.std.proofs.Common.{◌≡◌, ◌<◌, ◌∙◌, ℕ, zero, suc, All, List, [], ◌∷◌, ◌++◌, length, flat_map, map, slice_get, unwrap_or, Option, None, Some, refl, sym, ap, subst}
+use Rattle.std.proofs.Common.{◌≡◌, ◌<◌, ◌∙◌, ℕ, zero, suc, All, List, [], ◌++◌, length, flat_map, map, slice_get, unwrap_or, Option, None, Some, refl, sym, ap, subst}
 use Rattle.std.proofs.lemmas.Option.{slice_get_within, unwrap_or-slice_get}
 use Rattle.std.proofs.lemmas.List.Elements.{All-append, All-cons, All-map, All-nil}
 use Rattle.er_report.specs.Lines.{RaceView, line_view, race_of}

@@ -1,6 +1,5 @@
 -- The threads that races name, each once, and where they were started.
 use Rattle.std.specs.Prelude.{ℕ, zero, List, [], ◌∷◌, ◌++◌, flat_map, map, nat_eq, slice_get, Option, Some, None, codes}
-use Rattle.er_event.specs.declared.steps.Kind.{Kind}
 use Rattle.er_places.specs.Names.{start_of}
 use Rattle.er_places.specs.Places.{PlaceTable, call_name}
 use Rattle.er_places.specs.declared.facts.Start.{Start}

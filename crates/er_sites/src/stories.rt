@@ -33,15 +33,10 @@ fn put_title(out: &mut Vec<u8>, legend: &Legend, race: &Race<'_>) -> Put
     requires { HasRaceNames legend.now.names.now race.now }
     ensures { OnOk result (out.new.items ≡ out.old.items ++ title_text legend.now.names.now legend.now.places.now race.now) }
 {
-    let (names, places) = (legend.names, legend.places);
+    let places = legend.places;
+    let met = place_met(places, race);
     out.extend_from_slice(b"\n")?;
-    put_sites(
-        out,
-        names,
-        places.names(),
-        race.site,
-        place_met(places, race),
-    )?;
+    put_sites(out, legend.names, places.names(), race.site, met)?;
     out.extend_from_slice(b":\n")
 }
 
@@ -273,20 +268,14 @@ fn put_reasons(out: &mut Vec<u8>, legend: &Legend, race: &Race<'_>) -> Put
     requires { HasRaceNames legend.now.names.now race.now }
     ensures { OnOk result (out.new.items ≡ out.old.items ++ flat_map (reason_text legend.now.names.now legend.now.places.now race.now.line) race.now.explained) }
 {
+    let names = legend.names;
     for because in race.explained {
-        put_reason(out, legend, race.line, because)?;
+        out.extend_from_slice(b"  ")?;
+        put_story(out, names, because)?;
+        put!(out, Style::Short, names; Number(b" (line ", because.line), Text(b")\n"))?;
+        put_where(out, legend.places, race.line, because)?;
     }
     Ok(())
-}
-
-fn put_reason(out: &mut Vec<u8>, legend: &Legend, line: u64, because: &Because) -> Put
-    requires { HasReasonNames legend.now.names.now because.now }
-    ensures { OnOk result (out.new.items ≡ out.old.items ++ reason_text legend.now.names.now legend.now.places.now line because.now) }
-{
-    out.extend_from_slice(b"  ")?;
-    put_story(out, legend.names, because)?;
-    put!(out, Style::Short, legend.names; Number(b" (line ", because.line), Text(b")\n"))?;
-    put_where(out, legend.places, line, because)
 }
 
 fn put_story(out: &mut Vec<u8>, names: &Names, because: &Because) -> Put

@@ -1,5 +1,5 @@
 -- How far in the block the word begins, and where the block was allocated.
-use Rattle.std.proofs.Common.{◌≡◌, ◌++◌, ◌∙◌, ◌*◌, ◌-◌, ℕ, List, codes, decimal, ap}
+use Rattle.std.proofs.Common.{◌++◌, ◌∙◌, ◌*◌, ◌-◌, ℕ, codes, decimal, ap}
 use Rattle.std.proofs.lemmas.Result.{on_ok_weaker}
 use Rattle.er_sites.proofs.PutLemmas.{appended}
 use Rattle.er_sites.proofs.RowLemmas.{put_two}

@@ -1,5 +1,5 @@
 -- The threads of the three lists have names, and each is put once.
-use Rattle.std.proofs.Common.{◌≡◌, ◌<◌, ◌∙◌, ◌++◌, ℕ, All, List, [], length, flat_map, codes, sym, ap, subst}
+use Rattle.std.proofs.Common.{◌<◌, ◌∙◌, ◌++◌, ℕ, All, List, [], length, flat_map, codes, sym, ap, subst}
 use Rattle.std.proofs.lemmas.Result.{on_ok_weaker}
 use Rattle.er_sites.proofs.NamedLemmas.{threads_named}
 use Rattle.er_sites.proofs.ThreadLemmas.{insert_three}

@@ -1,5 +1,5 @@
 -- All lines were added, and their threads have names.
-use Rattle.std.proofs.Common.{◌≡◌, ◌∙◌, ◌<◌, ℕ, All, List, length, flat_map, sym, subst, ap}
+use Rattle.std.proofs.Common.{◌∙◌, ◌<◌, ℕ, All, List, length, flat_map, sym, subst, ap}
 use Rattle.std.proofs.lemmas.List.{take_all}
 use Rattle.er_report.specs.declared.report.Line.{Line}
 use Rattle.er_sites.proofs.NamedLemmas.{lines_named_once}
