@@ -77,15 +77,9 @@ fn put_calls(out: &mut Vec<u8>, places: &Places, calls: &[u32]) -> Put
 {
     let names = places.names();
     for call in calls {
+        let function = places.call_function(*call);
         put!(out, Style::Short, names; Name(b"    called at ", places.call_name(*call)))?;
-        put_known(
-            out,
-            Style::Short,
-            names,
-            b" in ",
-            places.call_function(*call),
-            b"",
-        )?;
+        put_known(out, Style::Short, names, b" in ", function, b"")?;
         out.extend_from_slice(b"\n")?;
     }
     Ok(())

@@ -107,14 +107,8 @@ fn put_start(out: &mut Vec<u8>, legend: &Legend, thread: ThreadId) -> Put
         return Ok(());
     };
     let (names, site) = (legend.names, legend.places.call_name(place));
+    let called = start.name.as_slice();
     put!(out, Style::Short, names; Thread(b"  ", thread))?;
-    put_known(
-        out,
-        Style::Short,
-        names,
-        b" \"",
-        start.name.as_slice(),
-        b"\"",
-    )?;
+    put_known(out, Style::Short, names, b" \"", called, b"\"")?;
     put!(out, Style::Short, names; Name(b" was started at ", site), Text(b"\n"))
 }

@@ -19,11 +19,11 @@ returns c =
     let names : NameTable = c.args.legend.now.names.now in
     let table : PlaceTable = c.args.legend.now.places.now in
     let thread : ℕ = c.args.thread in
-    let name : List ℕ = c.as_slice.result.now in
+    let name : List ℕ = c.as_slice-called.result.now in
     on_ok_weaker c.put-2.result
     (λ put. put_three old _ _ _ _ _ _ c.in_ok-put.ensures.joined c.in_ok-put_known.ensures put
     ∙ ap (λ (site : List ℕ). old ++ ((codes "  " ++ thread_in style.Short names thread) ++ known_text style.Short (codes " \"") name (codes "\"") ++ (codes " was started at " ++ short 72 site ++ codes "\n"))) c.call_name-site.ensures
-    ∙ ap (λ (name : List ℕ). old ++ started_text names table thread name (Some c.in-Some-place.place)) c.as_slice.ensures.value
+    ∙ ap (λ (name : List ℕ). old ++ started_text names table thread name (Some c.in-Some-place.place)) c.as_slice-called.ensures.value
     ∙ ap (λ (place : Option ℕ). old ++ started_text names table thread c.in-Some.start.now.name.items place) (sym c.in-Some-place.is)
     ∙ ap (λ (found : Option Start). old ++ began_text names table thread found) (c.in-Some.ensures ∙ ap (start_of table) (c.as_bytes-name.ensures.value ∙ name_found names.threads thread _ c.thread_name.ensures)))
     c.put-2.ensures.joined
