@@ -4,7 +4,7 @@ use Rattle.std.proofs.lemmas.List.{append-nil}
 use Rattle.er_json.proofs.PutLemmas.{put_two}
 use Rattle.er_json.proofs.RowLemmas.{rows_next, text_next}
 use Rattle.er_json.specs.Document.{row_text, rows_text}
-use Rattle.er_json.specs.Inner.Sections.{has_none, is_in, next_text, rows_in}
+use Rattle.er_json.specs.Inner.Sections.{has_none, next_text, rows_in}
 use Rattle.er_places.specs.Places.{PlaceTable}
 use Rattle.er_report.specs.Lines.{LineView, line_view}
 use Rattle.er_report.specs.declared.report.Line.{Line}

@@ -1,5 +1,5 @@
 -- The three parts, one behind another, of a thread whose start is known.
-use Rattle.std.proofs.Common.{◌≡◌, ◌∙◌, ◌++◌, ℕ, List, Option, Some, codes, ap, sym}
+use Rattle.std.proofs.Common.{◌∙◌, ◌++◌, ℕ, List, Option, Some, codes, ap, sym}
 use Rattle.std.proofs.lemmas.Result.{on_ok_weaker}
 use Rattle.er_json.specs.Document.{began_row, name_value, started_row}
 use Rattle.er_places.specs.Names.{start_of}
