@@ -4,9 +4,9 @@ ghost use Rattle.std.specs.Prelude.{◌≡◌, ◌≤◌, ◌+◌, ◌++◌, ℕ
 ghost use Rattle.er_settle.specs.Seats.{calls_by};
 ghost use Rattle.er_settle.specs.Faults.{AreDistinct, JournalsRise, Not};
 ghost use Rattle.er_settle.specs.Inner.SeatChecks.{IsIndex, AreLegalJournals};
-ghost use Rattle.er_settle.specs.Inner.JournalOrder.{OrderRises, IsOrder, IsLeast, IsSoonest, IsNext, IsDisorder, sooner_of};
+ghost use Rattle.er_settle.specs.Inner.JournalOrder.{OrderRises, IsOrder, IsLeast, IsNext, IsDisorder, sooner_of};
 ghost use Rattle.er_settle.specs.Inner.EntryMatches.{AllGiven, AllAgree};
-ghost use Rattle.er_settle.specs.Inner.CallOrder.{turns_by, next_turn, ticketed_turns, entry_turns, AreTaken, AreByNumber};
+ghost use Rattle.er_settle.specs.Inner.CallOrder.{turns_by, next_turn, ticketed_turns, entry_turns, AreTaken};
 ghost use Rattle.er_settle.specs.Runs.{calls_of, IsInOrder};
 ghost use Rattle.er_journal.specs.declared.entries.Entry.{Entry as EntryShown};
 
@@ -154,9 +154,14 @@ pub(crate) fn merge_calls<'a>(
     ensures told { IfOk result (λ turns. ticketed_turns turns.items ≡ entry_turns order.now) }
     ensures order { IfOk result (λ turns. IsInOrder turns.items) }
 {
-    let places = places_by_thread(alloc, index, seats)?;
-    let Taken { next, turns } = take_ticketed(alloc, index, seats, order)?;
-    take_rest(seats, order, places.as_slice(), next.as_slice(), turns)
+    let Taken { next, mut turns } = take_ticketed(alloc, index, seats, order)?;
+    let places: Vec<usize> = index.values().copied().collect(alloc)?;
+    for &place in &places {
+        let count = seats.len();
+        prove!(place < count);
+        take_turn(&mut turns, &seats[place], next[place])?;
+    }
+    Ok(turns)
 }
 
 // Takes each seat's calls up to its last one with a ticket.
@@ -186,30 +191,6 @@ fn take_ticketed<'a>(
     Ok(Taken { next, turns })
 }
 
-fn take_rest<'a>(
-    seats: &[SeatView<'a>],
-    order: &[PlacedEntry],
-    places: &[usize],
-    next: &[usize],
-    mut turns: Vec<Turn<'a>>,
-) -> Made<Vec<Turn<'a>>>
-    requires once { AreDistinct seats.now }
-    requires rise { OrderRises order.now }
-    requires agree { AllAgree seats.now order.now }
-    requires places { AreByNumber seats.now places.now }
-    requires taken { AreTaken seats.now order.now next.now turns.items }
-    ensures calls { IfOk result (λ all. (t : ℕ) → calls_of t all.items ≡ calls_by seats.now t) }
-    ensures told { IfOk result (λ all. ticketed_turns all.items ≡ entry_turns order.now) }
-    ensures order { IfOk result (λ all. IsInOrder all.items) }
-{
-    for &place in places {
-        let count = seats.len();
-        prove!(place < count);
-        take_turn(&mut turns, &seats[place], next[place])?;
-    }
-    Ok(turns)
-}
-
 // Takes a seat's calls from a place on, up to the next one that has a ticket, and that one. Returns the place behind it.
 fn take_turn<'a>(turns: &mut Vec<Turn<'a>>, seat: &SeatView<'a>, from: usize) -> Made<usize>
     requires { from ≤ length seat.now.calls }
@@ -226,16 +207,4 @@ fn take_turn<'a>(turns: &mut Vec<Turn<'a>>, seat: &SeatView<'a>, from: usize) ->
         }
     }
     Ok(calls.len())
-}
-
-fn places_by_thread(alloc: Global, index: &Index, seats: &[SeatView]) -> Made<Vec<usize>>
-    requires index { IsIndex seats.now index.now }
-    requires once { AreDistinct seats.now }
-    ensures { IfOk result (λ places. AreByNumber seats.now places.items) }
-{
-    let mut places = Vec::with_capacity(alloc, index.len())?;
-    for &place in index.values() {
-        places.push(place)?;
-    }
-    Ok(places)
 }

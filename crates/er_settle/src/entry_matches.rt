@@ -1,10 +1,8 @@
 //! Whether each call with a ticket has its entry, and each entry its call.
-ghost use Rattle.std.specs.Prelude.{◌≡◌, ◌<◌, ◌↔◌, List, IsTrue, length, ◌++◌, [], ◌∷◌, ℕ, slice_get, Some, IfOk, IfErr, OnOk, OnErr};
-ghost use Rattle.er_settle.specs.Faults.{ArePaired, AreDistinct, ListsRise, event_of, place_of, IsAlike};
-ghost use Rattle.er_settle.specs.Inner.JournalOrder.{IsOrder, EntryAt};
-ghost use Rattle.er_settle.specs.Inner.EntryMatches.{AreInTurn, AreGrouped, AllAgree, AllInPlace, ticketed_calls, ticketed_entries, AllGiven, IsUngiven};
+ghost use Rattle.std.specs.Prelude.{◌≡◌, ◌<◌, ◌↔◌, List, IsTrue, [], ◌∷◌, Some, IfOk, IfErr};
+ghost use Rattle.er_settle.specs.Faults.{AreDistinct, event_of, place_of, IsAlike};
+ghost use Rattle.er_settle.specs.Inner.EntryMatches.{AreGrouped, AllAgree, AllInPlace, ticketed_calls, ticketed_entries, AllGiven, IsUngiven};
 ghost use Rattle.er_journal.specs.declared.entries.Entry.{Entry};
-ghost use Rattle.er_settle.specs.Seats.{SeatList};
 ghost use Rattle.er_settle.specs.Inner.SeatChecks.{IsIndex};
 ghost use Rattle.er_held.specs.Held.{nothing_held};
 ghost use Rattle.er_journal.specs.Merges.{stamp_by, stamps_in};
@@ -34,31 +32,6 @@ impl<'a> Model for EntryGroup<'a> {
     ghost view = { λ h. h.entries.items };
 }
 
-impl<'a> EntryGroup<'a> {
-    /// No entries.
-    pub(crate) fn new(alloc: Global) -> EntryGroup<'a>
-        ensures { result ≡ [] }
-    {
-        EntryGroup {
-            entries: Vec::new(alloc),
-        }
-    }
-
-    pub(crate) fn as_slice(&self) -> &[PlacedEntry<'a>]
-        ensures { result.now ≡ self.now }
-    {
-        self.entries.as_slice()
-    }
-
-    pub(crate) fn add(&mut self, placed: PlacedEntry<'a>) -> Made<()>
-        ensures ok { OnOk result (self.new ≡ self.old ++ placed.entry ∷ []) }
-        ensures err { OnErr result (self.new ≡ self.old) }
-    {
-        self.entries.push(placed)?;
-        Ok(())
-    }
-}
-
 /// The entries of each seat's thread, in order. The fault is an entry whose thread has no seat.
 pub(crate) fn group_by_thread<'a>(
     alloc: Global,
@@ -78,7 +51,10 @@ pub(crate) fn group_by_thread<'a>(
         let Some(at) = index.get(&thread).copied() else {
             return Err(Unsettled::Entries);
         };
-        groups[at].add(placed.copy())?;
+        let group = &mut groups[at];
+        let Ok(()) = group.entries.push(placed.copy()) else {
+            return Err(Unsettled::Memory);
+        };
     }
     Ok(groups)
 }
@@ -88,7 +64,8 @@ fn empty_groups<'a>(alloc: Global, seats: &[SeatView]) -> Made<Vec<EntryGroup<'a
 {
     let mut groups = Vec::with_capacity(alloc, seats.len())?;
     for _seat in seats {
-        groups.push(EntryGroup::new(alloc))?;
+        let entries = Vec::new(alloc);
+        groups.push(EntryGroup { entries })?;
     }
     Ok(groups)
 }
@@ -142,7 +119,8 @@ pub(crate) fn all_matched<'a>(
     ensures { IsTrue result ↔ AllAgree seats.now order.now }
 {
     for (at, seat) in seats.iter().enumerate() {
-        if !is_matched(seat.calls(), groups[at].as_slice()) {
+        let group = &groups[at];
+        if !is_matched(seat.calls(), &group.entries) {
             return false;
         }
     }
@@ -179,7 +157,8 @@ pub(crate) fn all_answered(
     ensures { IfOk result (λ alike. IsTrue alike ↔ AllAlike seats.now order.now) }
 {
     for (at, seat) in seats.iter().enumerate() {
-        if !is_answered(&mut Held::new(alloc), seat, groups[at].as_slice())? {
+        let group = &groups[at];
+        if !is_answered(&mut Held::new(alloc), seat, &group.entries)? {
             return Ok(false);
         }
     }

@@ -1,9 +1,6 @@
 //! Whether the seats are the detector's, each once and all that were opened.
-ghost use Rattle.std.specs.Prelude.{◌≡◌, ◌<◌, ◌↔◌, ℕ, length, slice_get, Some, IfOk, IfErr, IsTrue};
-ghost use Rattle.std.specs.Ordering.{nat_cmp};
-ghost use Rattle.std.specs.BTreeMap.{get};
-ghost use Rattle.er_settle.specs.Seats.{SeatList};
-ghost use Rattle.er_settle.specs.Faults.{AreOfDetector, AreDistinct, AreComplete, Not, CallsRise, ListsRise};
+ghost use Rattle.std.specs.Prelude.{◌<◌, ◌↔◌, Some, IfOk, IfErr, IsTrue};
+ghost use Rattle.er_settle.specs.Faults.{AreOfDetector, AreDistinct, AreComplete, CallsRise, ListsRise};
 ghost use Rattle.er_settle.specs.Inner.SeatChecks.{IsIndex, IsTwice, IsAbove, AreSeatLists};
 
 use crate::{SeatView, Unsettled};

@@ -8,7 +8,7 @@ pub loop-seat-preserved : goal.loop-seat-preserved
 loop-seat-preserved c = (
   omega (arith, c.in_ok-push.ensures.len, c.loop-seat.invariant.0),
   one_empty_more c.loop-seat.groups.items c.push.new.self.items c.loop-seat._seat-index (omega arith) c.loop-seat.invariant.1
-      (rw c.new.ensures at c.in_ok-push.ensures.items),
+      (rw c.new-entries.ensures.items at c.in_ok-push.ensures.items),
 )
 
 pub returns : goal.returns
