@@ -62,8 +62,9 @@ impl VacantSeat {
             name,
             thread,
             held: Held::new(alloc),
-            recent: RecentLocks::new(alloc),
+            recent: None,
             calls,
+            alloc,
         }
     }
 }
@@ -75,8 +76,10 @@ pub struct Seat {
     name: u64,
     thread: ThreadId,
     held: Held,
-    recent: RecentLocks,
+    // The locks that the last stamp had.
+    recent: Option<HeldLocks>,
     calls: Vec<Call>,
+    alloc: Global,
 }
 
 impl Model for Seat {
@@ -265,7 +268,7 @@ impl Seat {
         ensures table_full { IsErrOf result NoRoom.TableFull → IsTrue (needs_set (journal_state shard.old.journal word) self.old.thread) }
     {
         self.calls.reserve(1 + calls_to_unwind(&self.held))?;
-        let locks = self.recent.locks(&self.held)?;
+        let locks = stamped_locks(self.alloc, &mut self.recent, &self.held)?;
         let stamp = Stamp::new(self.thread, word, kind, site, locks);
         let reply = shard.apply(rt, ticket, stamp)?;
         self.calls
@@ -307,37 +310,22 @@ fn calls_to_unwind(held: &Held) -> usize
     held.acquired() + usize::from(held.depth())
 }
 
-/// The locks that the last stamp had. Most accesses are made under the same locks as the one before.
-#[derive(Drop)]
-pub(crate) struct RecentLocks {
-    last: Option<HeldLocks>,
+// The locks that are held. They are copied only if the last stamp had others: most accesses are made under the same locks as the one before.
+#[inline]
+fn stamped_locks(
     alloc: Global,
-}
-
-impl RecentLocks {
-    /// None yet.
-    pub(crate) fn new(alloc: Global) -> RecentLocks {
-        RecentLocks { last: None, alloc }
-    }
-
-    /// The locks that are held, which are copied only if the last stamp had others. The only error is that there is no memory.
-    #[inline]
-    pub(crate) fn locks(&mut self, held: &Held) -> Result<HeldLocks, AllocError>
-        ensures { IfOk result (λ locks. locks ≡ record { held = held.now.held; write_held = held.now.write_held }) }
-    {
-        match &self.last {
-            Some(last) if last.are(held.held(), held.write_held()) => last.share(),
-            _ => self.copied(held),
+    recent: &mut Option<HeldLocks>,
+    held: &Held,
+) -> Result<HeldLocks, AllocError>
+    ensures { IfOk result (λ locks. locks ≡ record { held = held.now.held; write_held = held.now.write_held }) }
+{
+    match recent {
+        Some(last) if last.are(held.held(), held.write_held()) => last.share(),
+        _ => {
+            let locks = HeldLocks::new(alloc, held.held(), held.write_held())?;
+            let shared = locks.share()?;
+            *recent = Some(locks);
+            Ok(shared)
         }
-    }
-
-    // Copies of the locks that are held, from now on the last.
-    fn copied(&mut self, held: &Held) -> Result<HeldLocks, AllocError>
-        ensures { IfOk result (λ locks. locks ≡ record { held = held.now.held; write_held = held.now.write_held }) }
-    {
-        let locks = HeldLocks::new(self.alloc, held.held(), held.write_held())?;
-        let shared = locks.share()?;
-        self.last = Some(locks);
-        Ok(shared)
     }
 }
