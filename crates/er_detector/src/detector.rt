@@ -334,17 +334,11 @@ pub(crate) fn add_races(races: &mut Vec<Entry>, journal: &[Entry]) -> Result<(),
     ensures { OnOk result (races.new.items ≡ races.old.items ++ filter is_race journal.now) }
 {
     for entry in journal {
-        if is_race(entry) {
+        if let Reply::Race = entry.reply.reply() {
             races.push(copy_of(entry)?)?;
         }
     }
     Ok(())
-}
-
-fn is_race(entry: &Entry) -> bool
-    ensures { result ≡ is_race entry.now }
-{
-    matches!(entry.reply.reply(), Reply::Race)
 }
 
 fn copy_of(entry: &Entry) -> Result<Entry, AllocError>
