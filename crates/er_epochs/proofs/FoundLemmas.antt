@@ -9,7 +9,7 @@ use Rattle.er_order.specs.Following.{is_unordered}
 use Rattle.er_order.specs.Keeping.{IsNoted}
 use Rattle.er_order.proofs.Keeping.{any-found}
 use Rattle.er_epochs.specs.declared.reads.Tagged.{Tagged}
-use Rattle.er_epochs.specs.Epochs.{Stored, Accesses, Told, Alone, Listed, tag_found, tagged, access_in, pair_of, is_apart, some_apart, is_raced, latest_by, stored_by, reads_beside, tag_of_first, IsStoredBy}
+use Rattle.er_epochs.specs.Epochs.{Stored, Accesses, Told, Alone, Listed, tag_found, tagged, access_in, pair_of, is_apart, some_apart, is_raced, latest_by, stored_by, reads_beside, rivals_of, tag_of_first, IsStoredBy}
 use Rattle.er_epochs.specs.Words.{Said, stored_with}
 
 module _ {A : Type 0} (clock : ℕ → ℕ) where
@@ -105,6 +105,11 @@ module _ {A : Type 0} (clock : ℕ → ℕ) where
   -- a word that has no list says the same beside any
   pub alone_any : (word : Said A) (o : Option (Tagged A)) (a b : List (Tagged A)) → word.readers ≡ Alone o → stored_with word a ≡ stored_with word b
   alone_any word o a b alone = rw alone refl
+
+  -- of a word of which no race was reported, the accesses that are kept are looked at
+  pub untold_found : (word : Said A) (listed : List (Tagged A)) (kind : Kind) → word.told ≡ false
+      → tag_of_first clock (rivals_of (record { write = word.write; reads = reads_beside word.readers listed }) kind) ≡ tag_found clock (stored_with word listed) kind
+  untold_found word listed kind told = rw told refl
 
   -- a word of which no race was reported goes on by a write that makes no race
   pub quiet_written : (word : Said A) (listed : List (Tagged A)) (x : Tagged A) → word.told ≡ false → is_raced clock (stored_with word listed) writing ≡ false

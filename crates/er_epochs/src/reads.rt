@@ -238,19 +238,11 @@ fn put_over_last<A: Copy>(reads: &mut Vec<Tagged<A>>, clock: &ThreadClock<'_>, t
         return false;
     }
     let last = reads.len() - 1;
-    if !is_own(reads[last].epoch, clock) {
+    if reads[last].epoch != clock.epoch() {
         return false;
     }
     reads[last] = access_by(clock, tag);
     true
-}
-
-// Whether it is the clock's epoch.
-fn is_own(epoch: Epoch, clock: &ThreadClock<'_>) -> bool
-    ensures { IsTrue result → epoch ≡ (record { thread = clock.now.0; count = count_by clock.now clock.now.0 }) }
-{
-    let Epoch { thread, count } = clock.epoch();
-    epoch.thread == thread && epoch.count == count
 }
 
 // Puts the read in the place of those that the clock covers.

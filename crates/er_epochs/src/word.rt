@@ -5,7 +5,7 @@ ghost use Rattle.er_model.specs.Words.{is_writing};
 ghost use Rattle.er_order.specs.Following.{is_unordered};
 ghost use Rattle.er_clock.specs.Counts.{count_by};
 ghost use Rattle.er_epochs.specs.declared.reads.Tagged.{Tagged as Access};
-ghost use Rattle.er_epochs.specs.Epochs.{access_in, is_raced, reads_beside, readers_in, rivals_of, some_apart, stored_by, tag_found, tag_of_first, tagged, Readers, Told, IsStoredBy};
+ghost use Rattle.er_epochs.specs.Epochs.{access_in, is_raced, reads_beside, readers_in, some_apart, stored_by, tag_found, tag_of_first, tagged, Readers, Told, IsStoredBy};
 ghost use Rattle.er_epochs.specs.Words.{said, blank, stored_in, IsButForTags};
 
 use crate::reads::{Reads, Tagged, access_by};
@@ -86,12 +86,6 @@ impl<A: Copy> OrderWord<A> {
         self.read_count as usize
     }
 
-    /// A part of the word, for whoever only wants it read.
-    #[inline]
-    pub(crate) fn peek(self) -> u32 {
-        self.writer
-    }
-
     /// The word after a counted access that is no race and changes a tag at most: one was reported, or the word's last access is of this epoch and
     /// this kind. `None` says nothing.
     #[inline]
@@ -124,6 +118,7 @@ impl<A: Copy> OrderWord<A> {
     /// The word after a counted access by the thread whose clock this is, and the tag of the last access that it is a race with, if it is reported as
     /// one: it is the first of its era that some conflicting access doesn't happen before. `None`: that depends on the list of reads, or changes it.
     #[inline]
+    #[tactic(auto, using(crate::proofs::FoundLemmas::apart_in))]
     pub(crate) fn access(
         self,
         clock: &ThreadClock<'_>,
@@ -139,10 +134,10 @@ impl<A: Copy> OrderWord<A> {
         if self.writer == TOLD {
             return Some((self, None));
         }
-        if !self.is_write_ordered(clock) {
+        if !is_ordered(self.writer, self.write_count, clock) {
             return Some((self.told(), self.find(clock, kind, None)));
         }
-        let is_alone = self.is_read_ordered(clock);
+        let is_alone = is_ordered(self.reader, self.read_count, clock);
         match kind {
             Kind::Read if is_alone => Some((self.read(access_by(clock, tag)), None)),
             Kind::Read => None,
@@ -170,7 +165,7 @@ impl<A: Copy> OrderWord<A> {
         if self.writer == TOLD {
             return Ok((self, None));
         }
-        if !self.is_write_ordered(clock) {
+        if !is_ordered(self.writer, self.write_count, clock) {
             let rival = self.find(clock, kind, reads.find(clock));
             return Ok((self.told(), rival));
         }
@@ -193,16 +188,8 @@ impl<A: Copy> OrderWord<A> {
         ensures { (reads : List (Access A)) → listed ≡ tag_of_first (count_by clock.now) reads → result ≡ tag_found (count_by clock.now) (stored_in self reads) kind }
     {
         if self.writer == TOLD {
-            None
-        } else {
-            self.find_latest(clock, kind, listed)
+            return None;
         }
-    }
-
-    // The same, if no race was reported.
-    fn find_latest(self, clock: &ThreadClock<'_>, kind: Kind, listed: Option<A>) -> Option<A>
-        ensures { (reads : List (Access A)) → listed ≡ tag_of_first (count_by clock.now) reads → result ≡ tag_of_first (count_by clock.now) (rivals_of (record { write = (said self).write; reads = reads_beside (said self).readers reads }) kind) }
-    {
         // The reads are later than the write.
         match self.find_read(clock, kind, listed) {
             Some(tag) => Some(tag),
@@ -210,7 +197,7 @@ impl<A: Copy> OrderWord<A> {
         }
     }
 
-    // The same of the reads alone.
+    // The same of the reads alone, if no race was reported.
     fn find_read(self, clock: &ThreadClock<'_>, kind: Kind, listed: Option<A>) -> Option<A>
         ensures { (reads : List (Access A)) → listed ≡ tag_of_first (count_by clock.now) reads → result ≡ tag_of_first (count_by clock.now) (cond (is_writing kind) (reads_beside (said self).readers reads) []) }
     {
@@ -219,24 +206,6 @@ impl<A: Copy> OrderWord<A> {
             Kind::Write if self.reader == SEVERAL => listed,
             Kind::Write => unordered(self.reader, self.read_count, self.read_tag, clock),
         }
-    }
-
-    // Whether the last write happens before what the clock's thread does now. It is so if there is none.
-    #[inline]
-    #[tactic(auto, using(crate::proofs::FoundLemmas::apart_in))]
-    fn is_write_ordered(self, clock: &ThreadClock<'_>) -> bool
-        ensures { result ≡ not (some_apart (count_by clock.now) (access_in self.writer self.write_count self.write_tag)) }
-    {
-        is_ordered(self.writer, self.write_count, clock)
-    }
-
-    // The same of the one latest read.
-    #[inline]
-    #[tactic(auto, using(crate::proofs::FoundLemmas::apart_in))]
-    fn is_read_ordered(self, clock: &ThreadClock<'_>) -> bool
-        ensures { result ≡ not (some_apart (count_by clock.now) (access_in self.reader self.read_count self.read_tag)) }
-    {
-        is_ordered(self.reader, self.read_count, clock)
     }
 
     // The word, with this read alone since its last write.
@@ -303,11 +272,12 @@ impl<A: Copy> OrderWord<A> {
 
     // Whether no race was reported, and the last write, if there is one, happens before what the clock's thread does now.
     #[inline]
+    #[tactic(auto, using(crate::proofs::FoundLemmas::apart_in))]
     fn is_written_before(self, clock: &ThreadClock<'_>) -> bool
         ensures seen { IsTrue result → (said self).told ≡ false }
         ensures ordered { IsTrue result → some_apart (count_by clock.now) (said self).write ≡ false }
     {
-        self.writer != TOLD && self.is_write_ordered(clock)
+        self.writer != TOLD && is_ordered(self.writer, self.write_count, clock)
     }
 
     // Whether the last write is of this epoch.

@@ -29,7 +29,7 @@ pub struct OrderWords<A> {
     hints: Hints,
     lists: ReadLists<A>,
     // What `look_ahead` has read. Nobody asks for it.
-    ahead: u32,
+    ahead: usize,
     alloc: Global,
 }
 
@@ -209,10 +209,10 @@ impl<A: Copy> Block<A> {
 
     /// Reads the word at a place, for an access of it that comes soon.
     #[inline]
-    pub(crate) fn look_ahead(&self, place: usize) -> u32
+    pub(crate) fn look_ahead(&self, place: usize) -> usize
         requires { place < 32 }
     {
-        get(&self.words, place).peek()
+        get(&self.words, place).hint()
     }
 
     /// The lowest place from `lo` to `hi`, both included, of a word of which a write by the clock's thread would be reported, and the tag of the

@@ -6,7 +6,7 @@ use Rattle.er_epochs.specs.Words.{said}
 use Rattle.er_epochs.proofs.FoundLemmas.{alone_any}
 use Rattle.er_epochs.proofs.word.OrderWord.access.Goals as goal
 
-pub returns-then-not-is_write_ordered-clause-found : goal.returns-then-not-is_write_ordered-clause-found
-returns-then-not-is_write_ordered-clause-found g c listed =
+pub returns-then-not-is_ordered-clause-found : goal.returns-then-not-is_ordered-clause-found
+returns-then-not-is_ordered-clause-found g c listed =
     let alone : (said c.args.self).readers ≡ Alone (access_in c.args.self.reader c.args.self.read_count c.args.self.read_tag) = search (rules, tests) in
     c.find.ensures [] refl ∙ ap (λ stored. tag_found (count_by c.args.clock.now) stored c.args.kind) (alone_any (count_by c.args.clock.now) (said c.args.self) _ [] listed alone)
