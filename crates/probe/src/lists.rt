@@ -1,7 +1,7 @@
 //! Steps of a machine, and what a list of steps is answered by others and explained by.
 
 use crate::Host;
-use crate::work::{Fault, Found, Made, Work, World, lock_of, number_of, table_of};
+use crate::work::{Fault, Found, Made, Work, World, lock_of, made, number_of, table_of};
 use crate::writing::{put_answers, put_explanation, put_reply};
 use er_check::check_explanation;
 use er_event::{Refusal, Step};
@@ -11,7 +11,6 @@ use er_journal::Outcome;
 use er_load::{LoadFault, Workload, run_workload};
 use er_parallel::{ReplayConfig, ReplayFault, replay_parallel};
 use er_replay::{Machine, run};
-use er_table::LocksetTable;
 use std::alloc::{AllocError, Global};
 use std::fmt::Write;
 use std::sync::Wait;
@@ -31,16 +30,9 @@ pub(crate) fn step<R: Wait>(rt: &R, world: &mut World, work: &mut Work) -> Made 
 /// `run SETS`: the answers of a new machine, over a table of so many sets, up to where it stops.
 pub(crate) fn replayed<R: Host>(rt: &R, steps: &[Step], work: &mut Work) -> Made {
     let table = table_of(rt.alloc(), work.count()?)?;
-    let made = replayed_over(rt, &table, steps, work);
-    drop(table);
-    made
-}
-
-fn replayed_over<R: Host>(rt: &R, table: &LocksetTable, steps: &[Step], work: &mut Work) -> Made {
-    let mut machine = Machine::new(rt.alloc(), table)?;
+    let mut machine = Machine::new(rt.alloc(), &table)?;
     let outcome = run(rt, rt.alloc(), &mut machine, steps);
-    drop(machine);
-    Ok(put_outcome(&mut work.answer, outcome)?)
+    made(put_outcome(&mut work.answer, outcome))
 }
 
 fn put_outcome(out: &mut String, outcome: Outcome) -> Result<(), AllocError> {
@@ -59,7 +51,7 @@ pub(crate) fn replayed_in_parallel<R: Host>(rt: &R, steps: &[Step], work: &mut W
         return Err(Fault::BadRow);
     }
     match replay_parallel(rt, rt.alloc(), config, steps, workers, &OpenGate) {
-        Ok(outcome) => Ok(put_outcome(&mut work.answer, outcome)?),
+        Ok(outcome) => made(put_outcome(&mut work.answer, outcome)),
         Err(ReplayFault::Memory) => Err(AllocError.into()),
         Err(ReplayFault::TableFull) => Err(Refusal::TableFull.into()),
         Err(ReplayFault::WorkerNotStarted) => work.say("worker not started"),
@@ -70,7 +62,7 @@ pub(crate) fn replayed_in_parallel<R: Host>(rt: &R, steps: &[Step], work: &mut W
 /// `explain K`: why step K is a race.
 pub(crate) fn explained(alloc: Global, steps: &[Step], work: &mut Work) -> Made {
     let found = explain(alloc, steps, work.number()?)?;
-    Ok(put_explanation(&mut work.answer, found.as_ref())?)
+    made(put_explanation(&mut work.answer, found.as_ref()))
 }
 
 /// `check K FIRST JOIN WRITE LOCK@PLACE ..`: whether this explains step K.
@@ -88,7 +80,7 @@ pub(crate) fn check(alloc: Global, steps: &[Step], work: &mut Work) -> Made {
 
 fn uncovered_of(alloc: Global, work: &mut Work) -> Found<Vec<Uncovered>> {
     let mut uncovered = Vec::new(alloc);
-    for _ in work.left {
+    for _ in work.left.split_whitespace() {
         let (lock, at) = work.next()?.split_once('@').ok_or(Fault::BadRow)?;
         let (lock, at) = (lock_of(lock)?, number_of(at)?);
         uncovered.push(Uncovered { lock, at })?;
@@ -105,8 +97,7 @@ pub(crate) fn workload<R: Host>(rt: &R, work: &mut Work) -> Made {
     match run_workload(rt, rt.alloc(), workload.ok_or(Fault::BadRow)?, &OpenGate) {
         Ok(run) => {
             let (steps, races) = (run.steps.len(), run.races());
-            drop(run);
-            Ok(write!(work.answer, "steps {steps}, races {races}")?)
+            made(write!(work.answer, "steps {steps}, races {races}"))
         }
         Err(LoadFault::Refused(why)) => Err(why.into()),
         Err(LoadFault::Unsettled(why)) => work.say(why.text()),

@@ -1,8 +1,6 @@
 //! Calls at detectors: of seats, at their shards, and of a detector and seats that are settled.
-ghost use Rattle.std.specs.Prelude.{◌<◌};
-
 use crate::Host;
-use crate::work::{Detectors, Fault, Found, Made, Work, World, count_of};
+use crate::work::{Detectors, Fault, Found, Made, Work, World, count_of, made};
 use crate::writing::{put_reply, put_run, put_seat};
 use er_detector::{Config, Detector, settle};
 use er_event::{Event, Kind, LockId, Lockset, Mode, NoRoom, Refusal, Reply, Site, ThreadId, Word};
@@ -44,12 +42,12 @@ pub(crate) fn call<R: Wait>(rt: &R, world: &mut World, work: &mut Work) -> Made 
 
 fn call_by<R: Wait>(rt: &R, detectors: &Detectors, seat: &mut Seat, work: &mut Work) -> Made {
     if work.end().is_ok() {
-        return Ok(put_seat(&mut work.answer, seat)?);
+        return made(put_seat(&mut work.answer, seat));
     }
     if work.take("reuse").is_ok() {
         return reuse(rt, detectors, seat, work);
     }
-    let made = match work.event()? {
+    let called = match work.event()? {
         Event::Acquire(lock, mode) => seat.acquire(lock, mode),
         Event::Release(lock, mode) => seat.release(lock, mode),
         Event::IgnoreOn => seat.ignore_on(),
@@ -61,7 +59,7 @@ fn call_by<R: Wait>(rt: &R, detectors: &Detectors, seat: &mut Seat, work: &mut W
         }
         _ => return Err(Fault::BadRow),
     };
-    made?;
+    called?;
     work.say("done")
 }
 
@@ -86,14 +84,12 @@ fn access<R: Wait>(
 ) -> Found<Reply> {
     if work.take("in").is_err() {
         let detector = detectors.at(side_of(work)?)?;
-        let reply = detector.access(rt, seat, word, kind, site);
-        return reply.map_err(Fault::Refused);
+        return Ok(detector.access(rt, seat, word, kind, site)?);
     }
     let place = work.shard()?;
     let detector = detectors.at(place.0)?;
     let mut shard = detectors.shard(rt, place)?;
     let reply = detector.access_in(rt, &mut shard, seat, word, kind, site);
-    drop(shard);
     reply.map_err(Fault::Refused)
 }
 
@@ -114,7 +110,10 @@ pub(crate) fn enter<R: Host>(rt: &R, detectors: &Detectors, work: &mut Work) -> 
     let thread = work.thread()?;
     let what = what_of(rt.alloc(), thread, work)?;
     let mut shard = detectors.shard(rt, place)?;
-    let reply = apply(rt, &mut shard, ticket, thread, what);
+    let reply = match what {
+        What::Access(stamp) => shard.apply(rt, ticket, stamp),
+        What::Reset(range) => shard.reset(ticket, thread, range).map(|_| Reply::Done),
+    };
     drop(shard);
     Ok(put_reply(&mut work.answer, reply.map_err(NoRoom::refusal)?)?)
 }
@@ -127,19 +126,6 @@ fn what_of(alloc: Global, thread: ThreadId, work: &mut Work) -> Found<What> {
     let (kind, word) = (work.kind()?, work.word()?);
     let locks = held_of(alloc, work)?;
     Ok(What::Access(Stamp::new(thread, word, kind, Site::MISSING, locks)))
-}
-
-fn apply<R: Wait>(
-    rt: &R,
-    shard: &mut Shard,
-    ticket: u64,
-    thread: ThreadId,
-    what: What,
-) -> Result<Reply, NoRoom> {
-    match what {
-        What::Access(stamp) => shard.apply(rt, ticket, stamp),
-        What::Reset(range) => shard.reset(ticket, thread, range).map(|_| Reply::Done),
-    }
 }
 
 // `holding LOCK ..`: the locks that a thread holds, in which `LOCKr` is held in read mode alone.
@@ -158,7 +144,7 @@ fn read_held(
     held: &mut Lockset,
     write_held: &mut Lockset,
 ) -> Found<HeldLocks> {
-    for _ in work.left {
+    for _ in work.left.split_whitespace() {
         let word = work.next()?;
         let lock = LockId::new(count_of(word.strip_suffix("r").unwrap_or(word))?);
         held.insert(lock)?;
@@ -184,59 +170,38 @@ pub(crate) fn swap_shards<R: Wait>(rt: &R, detectors: &Detectors, work: &mut Wor
 /// `settle SIDE K ..`: a detector and these seats, which are then no longer there. All are there if there is no memory for the seats.
 pub(crate) fn settled(alloc: Global, world: &mut World, work: &mut Work) -> Made {
     let side = work.side()?;
-    let mut seats = Vec::with_capacity(alloc, work.left.len())?;
-    for _ in work.left {
+    let mut seats = Vec::with_capacity(alloc, work.left.split_whitespace().count())?;
+    for _ in work.left.split_whitespace() {
         let seat = world.seats.get_mut(work.count()? as usize);
         seats.push(seat.and_then(Option::take).ok_or(Fault::BadRow)?)?;
     }
     let detector = world.detectors.list.get_mut(side);
     let detector = detector.and_then(Option::take).ok_or(Fault::BadRow)?;
     match settle(alloc, detector, seats) {
-        Ok(run) => {
-            let put = put_run(&mut work.answer, &run);
-            drop(run);
-            Ok(put?)
-        }
+        Ok(run) => made(put_run(&mut work.answer, &run)),
         Err(fault) => work.say(fault.text()),
     }
 }
 
-/// The pages that threads call.
-#[derive(Clone, Copy)]
-enum Shape {
-    /// Each thread keeps to a page of its own.
-    Own,
-    /// All threads go over 64 pages, sixteen calls at a page, and seldom meet at one.
-    Spread,
-    /// All threads call one page.
-    One,
-}
+// The pages that threads call: how many further the call of the next thread is, and that of a thread once it has made sixteen at a page.
+type Shape = (u64, u64);
 
-impl Shape {
-    // The page of a thread's call.
-    fn page(self, thread: u64, call: u64) -> u64
-        ensures { result < 64 }
-    {
-        match self {
-            Shape::Own => thread % 4,
-            Shape::Spread => (call / 16 + thread % 4 * 16) % 64,
-            Shape::One => 0,
-        }
-    }
-
-    // The word of a thread's call: after as many calls as a page has words they come again.
-    fn word(self, thread: u64, call: u64) -> Word {
-        Word::new(self.page(thread, call) * Word::PER_PAGE + call % Word::PER_PAGE)
-    }
+// The word of a thread's call. There are 64 pages, and after as many calls as a page has words its words come again.
+fn word_of((by_thread, by_call): Shape, thread: u64, call: u64) -> Word {
+    let page = (thread % 4)
+        .wrapping_mul(by_thread)
+        .wrapping_add((call / 16).wrapping_mul(by_call))
+        % 64;
+    Word::new(page * Word::PER_PAGE + call % Word::PER_PAGE)
 }
 
 /// `rate SHAPE THREADS CALLS`: makes all calls on their threads, and writes how many they are and how many races they report. Each thread holds
 /// one lock, under which all words were written before. The microseconds are those from before the first thread to after the last.
 pub(crate) fn rate<R: Host>(rt: &R, detector: &Detector, work: &mut Work) -> Made {
     let shape = match work.next()? {
-        "own" => Shape::Own,
-        "spread" => Shape::Spread,
-        "one" => Shape::One,
+        "own" => (1, 0),
+        "spread" => (16, 1),
+        "one" => (0, 0),
         _ => return Err(Fault::BadRow),
     };
     let (threads, calls) = (work.count()?, work.count()?);
@@ -271,7 +236,7 @@ fn write_all<R: Wait>(rt: &R, detector: &Detector, shape: Shape) -> Result<(), R
     let mut seat = open_with_lock(detector)?;
     for thread in 0..4 {
         for call in 0..Word::PER_PAGE {
-            let word = shape.word(thread, call);
+            let word = word_of(shape, thread, call);
             detector.access(rt, &mut seat, word, Kind::Write, Site::MISSING)?;
         }
     }
@@ -290,7 +255,7 @@ fn make_all<R: Wait>(
     let mut races: u32 = 0;
     for call in 0..u64::from(calls) {
         let kind = [Kind::Read, Kind::Write][(call % 2) as usize];
-        let word = shape.word(thread, call);
+        let word = word_of(shape, thread, call);
         let reply = detector.access(rt, &mut seat, word, kind, Site::MISSING)?;
         races = races.saturating_add(u32::from(matches!(reply, Reply::Race)));
     }

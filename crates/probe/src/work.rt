@@ -34,6 +34,11 @@ pub(crate) type Found<T> = Result<T, Fault>;
 /// What a call comes to that answers nothing.
 pub(crate) type Made = Found<()>;
 
+/// What writing its answer comes to.
+pub(crate) fn made(put: Result<(), AllocError>) -> Made {
+    Ok(put?)
+}
+
 impl From<Refusal> for Fault {
     fn from(why: Refusal) -> Fault {
         Fault::Refused(why)
@@ -67,9 +72,9 @@ const ROOM: usize = 1 << 16;
 /// The words of a call, and the texts of its row.
 #[derive(Drop)]
 pub(crate) struct Work<'r> {
-    words: &'r [&'r str],
+    words: &'r str,
     /// Those that aren't read yet.
-    pub(crate) left: &'r [&'r str],
+    pub(crate) left: &'r str,
     // How often the row was made before, and how much its locks and its addresses are raised.
     nth: u64,
     by: u64,
@@ -90,8 +95,8 @@ pub(crate) struct Work<'r> {
 impl<'r> Work<'r> {
     pub(crate) fn new(alloc: Global) -> Result<Work<'r>, AllocError> {
         Ok(Work {
-            words: &[],
-            left: &[],
+            words: "",
+            left: "",
             nth: 0,
             by: 0,
             from: 0,
@@ -105,8 +110,8 @@ impl<'r> Work<'r> {
     }
 
     /// Begins with a row: how often it is made, and how much that raises it each time. `times COUNT STEP` says so before its other words.
-    pub(crate) fn begin(&mut self, words: &'r [&'r str]) -> Found<(u32, u64)> {
-        self.left = words;
+    pub(crate) fn begin(&mut self, row: &'r str) -> Found<(u32, u64)> {
+        self.left = row;
         let times = match self.take("times") {
             Ok(()) => (self.count()?, self.number()?),
             Err(_) => (1, 0),
@@ -170,11 +175,10 @@ impl<'r> Work<'r> {
     }
 
     pub(crate) fn next(&mut self) -> Found<&'r str> {
-        let [first, left @ ..] = self.left else {
-            return Err(Fault::BadRow);
-        };
-        self.left = left;
-        Ok(first)
+        let left = self.left.trim_start();
+        let (first, left) = left.split_once(' ').unwrap_or((left, ""));
+        self.left = left.trim_start();
+        (!first.is_empty()).then_some(first).ok_or(Fault::BadRow)
     }
 
     pub(crate) fn end(&self) -> Made {
@@ -183,13 +187,12 @@ impl<'r> Work<'r> {
 
     /// This word. Nothing is read where it is another.
     pub(crate) fn take(&mut self, word: &str) -> Made {
-        match self.left {
-            [first, left @ ..] if *first == word => {
-                self.left = left;
-                Ok(())
-            }
-            _ => Err(Fault::BadRow),
+        let here = self.left;
+        if self.next()? == word {
+            return Ok(());
         }
+        self.left = here;
+        Err(Fault::BadRow)
     }
 
     /// A number: decimal, or hexadecimal behind `0x`.

@@ -17,8 +17,9 @@ fn put_lock(out: &mut String, lock: LockId) -> Put {
     }
 }
 
-// The locks, rising, or `none`.
-fn put_locks(out: &mut String, locks: &Lockset) -> Put {
+// The locks behind this text, rising, or `none`.
+fn put_locks(out: &mut String, before: &str, locks: &Lockset) -> Put {
+    out.push_str(before)?;
     if locks.is_empty() {
         out.push_str("none")?;
     }
@@ -33,14 +34,8 @@ pub(crate) fn put_known(out: &mut String, state: &WordState) -> Put {
     match state {
         WordState::Virgin => out.push_str("virgin"),
         WordState::Exclusive(thread) => write!(out, "exclusive {}", thread.number()),
-        WordState::Shared(locks) => {
-            out.push_str("shared ")?;
-            put_locks(out, locks)
-        }
-        WordState::SharedModified(locks) => {
-            out.push_str("shared-modified ")?;
-            put_locks(out, locks)
-        }
+        WordState::Shared(locks) => put_locks(out, "shared ", locks),
+        WordState::SharedModified(locks) => put_locks(out, "shared-modified ", locks),
     }
 }
 
@@ -80,9 +75,7 @@ fn view(reply: &Reply) -> Answer<'_> {
 }
 
 pub(crate) fn put_reply(out: &mut String, reply: Reply) -> Put {
-    let put = put_view(out, view(&reply));
-    drop(reply);
-    put
+    put_view(out, view(&reply))
 }
 
 fn kind_text(kind: Kind) -> &'static str {
@@ -129,10 +122,9 @@ fn put_range(out: &mut String, verb: &str, range: &PageRange) -> Put {
 /// What a seat is, and what it holds.
 pub(crate) fn put_seat(out: &mut String, seat: &Seat) -> Put {
     let (thread, name, calls) = (seat.thread().number(), seat.name(), seat.calls().len());
-    write!(out, "thread {thread} of {name}, calls {calls}, held ")?;
-    put_locks(out, seat.held())?;
-    out.push_str(", to write ")?;
-    put_locks(out, seat.write_held())?;
+    write!(out, "thread {thread} of {name}, calls {calls}")?;
+    put_locks(out, ", held ", seat.held())?;
+    put_locks(out, ", to write ", seat.write_held())?;
     write!(out, ", level {}", seat.level().number())?;
     out.push_str(if seat.ignoring() { ", ignoring" } else { "" })
 }
@@ -163,10 +155,9 @@ fn put_entry(out: &mut String, entry: &Entry) -> Put {
 fn put_stamp(out: &mut String, stamp: &Stamp) -> Put {
     let (thread, kind) = (stamp.thread().number(), kind_text(stamp.kind()));
     let address = stamp.word().address();
-    write!(out, "by {thread} {kind} {address:#x} holding ")?;
-    put_locks(out, stamp.held())?;
-    out.push_str(" to write ")?;
-    put_locks(out, stamp.write_held())
+    write!(out, "by {thread} {kind} {address:#x}")?;
+    put_locks(out, " holding ", stamp.held())?;
+    put_locks(out, " to write ", stamp.write_held())
 }
 
 /// A settled run.
