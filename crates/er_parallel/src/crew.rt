@@ -151,10 +151,7 @@ fn start<'t, R: Threads + Wait + Sync>(
                     }
                 }
             }
-            match join_all(rt, alloc, handles) {
-                Ok(all) => Ok(all),
-                Err(AllocError) => Err(ReplayFault::Memory),
-            }
+            Ok(join_all(rt, alloc, handles)?)
         },
     )
 }
@@ -175,11 +172,7 @@ fn join_all<'t, R: Threads>(
             lacking = true;
         }
     }
-    if lacking {
-        drop(all);
-        return Err(AllocError);
-    }
-    Ok(all)
+    if lacking { Err(AllocError) } else { Ok(all) }
 }
 
 // Adds a worker that was made, and says whether it is there.
@@ -189,12 +182,7 @@ fn add<'t>(all: &mut Vec<Worker<'t>>, made: Result<Worker<'t>, AllocError>) -> b
     ensures count { IsTrue result → length all.new.items ≡ length all.old.items + 1 }
 {
     match made {
-        Ok(worker) => {
-            let pushed = all.push(worker);
-            let added = pushed.is_ok();
-            drop(pushed);
-            added
-        }
+        Ok(worker) => all.push(worker).is_ok(),
         Err(_) => false,
     }
 }
@@ -252,9 +240,7 @@ fn merge(alloc: Global, workers: &mut [Worker<'_>]) -> Result<Vec<Unusual>, Repl
     }
     let mut items = Vec::new(alloc);
     while let Some(item) = take_least(workers) {
-        if let Err(refused) = items.push(item) {
-            drop(refused);
-            drop(items);
+        if items.push(item).is_err() {
             return Err(ReplayFault::Memory);
         }
     }

@@ -45,16 +45,12 @@ pub fn replay_parallel<G: Gate, R: Threads + Wait + Sync>(
 {
     let table = LocksetTable::keyed(alloc, config.max_sets, config.keys)?;
     let mut crew = Crew::new(rt, alloc, &table, config, workers)?;
-    let answered = crew.take_gated(rt, steps, false, gate);
+    let unusual = crew.take_gated(rt, steps, false, gate)?;
     drop(crew);
-    drop(table);
-    match answered {
-        Ok(unusual) => Ok(Outcome {
-            answers: gather(alloc, steps, unusual)?,
-            stopped: None,
-        }),
-        Err(fault) => Err(fault),
-    }
+    Ok(Outcome {
+        answers: gather(alloc, steps, unusual)?,
+        stopped: None,
+    })
 }
 
 // The answers to all steps of a list, of which these aren't the usual ones.
@@ -62,10 +58,7 @@ fn gather(alloc: Global, steps: &[Step], unusual: Vec<Unusual>) -> Result<Answer
     requires { AreUnusual [] steps.now unusual.items }
     ensures { IfOk result (λ given. given ≡ answers steps.now) }
 {
-    let Ok(mut given) = usual_answers(alloc, steps) else {
-        drop(unusual);
-        return Err(AllocError);
-    };
+    let mut given = usual_answers(alloc, steps)?;
     for item in unusual {
         let Unusual { at, answer, .. } = item;
         given.set(at, answer)?;

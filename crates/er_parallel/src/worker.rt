@@ -11,7 +11,7 @@ ghost use Rattle.er_event.specs.declared.steps.WordState.{WordState as WordState
 ghost use Rattle.er_replay.specs.Standing.{found_no_room, holding, in_full, Stands};
 ghost use Rattle.er_replay.specs.Wants.{is_access};
 
-use er_event::{Event, Lockset, NoRoom, PageRange, Refusal, Reply, Step, ThreadId};
+use er_event::{Event, Lockset, NoRoom, Refusal, Reply, Step, ThreadId};
 use er_keys::HashKeys;
 use er_replay::{Brief, Machine, no_room};
 use er_table::LocksetTable;
@@ -90,10 +90,8 @@ impl<'t> Worker<'t> {
         ensures { (past : List Steps) → HasFollowed share.shards share.workers share.worker past self.old.machine → HasTaken past steps.now share self.new }
     {
         self.found.clear();
-        self.fault = match answer_all(rt, alloc, steps, share, &mut self.machine, &mut self.found) {
-            Ok(()) => None,
-            Err(fault) => Some(fault),
-        };
+        let answered = answer_all(rt, alloc, steps, share, &mut self.machine, &mut self.found);
+        self.fault = answered.err();
     }
 }
 
@@ -115,8 +113,7 @@ fn answer_all<R: Wait>(
     while at < steps.len() {
         let step = &steps[at];
         if let Err(cause) = go_on(rt, alloc, steps, share, at, step, machine, found) {
-            let Step { event, .. } = *step;
-            let shard = shard_for(share.shards, event);
+            let shard = shard_for(share.shards, step.event);
             return Err(WorkFault { shard, cause });
         }
         at = next_busy(steps, share, at + 1);
@@ -150,8 +147,7 @@ fn is_idle(share: Share, step: &Step) -> bool
     ensures idle { IsTrue result → IsIdle share step.now.event }
     ensures busy { IsFalse result → IsBusy share step.now.event }
 {
-    let Step { event, .. } = *step;
-    is_access(step) && worker_for(share.shards, share.workers, event) != share.worker
+    is_access(step) && worker_for(share.shards, share.workers, step.event) != share.worker
 }
 
 // Takes the next step of a batch, and keeps its answer unless it is another worker's step, or a plain one.
@@ -171,8 +167,7 @@ fn go_on<R: Wait>(
     ensures far { (past : List Steps) → HasCome at past steps.now share found.old.items machine.old → OnOk result (HasCome (at + 1) past steps.now share found.new.items machine.new) }
     ensures full { (past : List Steps) → HasCome at past steps.now share found.old.items machine.old → IsErrOf result NoRoom.TableFull → AsksForSet (past ++ steps.now) }
 {
-    let Step { event, .. } = *step;
-    if worker_for(share.shards, share.workers, event) != share.worker {
+    if worker_for(share.shards, share.workers, step.event) != share.worker {
         machine.pass(*step)?;
         return Ok(());
     }
@@ -197,13 +192,12 @@ fn answer_own<R: Wait>(
     ensures far { (past : List Steps) → HasCome at past steps.now share found.old.items machine.old → OnOk result (HasCome (at + 1) past steps.now share found.new.items machine.new) }
     ensures full { (past : List Steps) → HasCome at past steps.now share found.old.items machine.old → IsErrOf result NoRoom.TableFull → AsksForSet (past ++ steps.now) }
 {
-    let Step { thread, .. } = *step;
     let (brief, changed) = machine.take(rt, *step);
     if is_passed_over(step, brief, share.noting, changed) {
         return Ok(());
     }
     let answer = machine.in_full(step, brief);
-    keep(alloc, machine, thread, at, answer, found)
+    keep(alloc, machine, step.thread, at, answer, found)
 }
 
 // Keeps the answer to the step at this position, with the thread's locks if it is a race, unless the step found no room.
@@ -223,24 +217,12 @@ fn keep(
     if let Some(cause) = no_room(&answer) {
         return Err(cause);
     }
-    let held = locks_at_race(alloc, machine, thread, &answer)?;
+    let held = match answer {
+        Ok(Reply::Race) => machine.held(thread).held().copy()?,
+        _ => Lockset::new(alloc),
+    };
     found.push_back(Unusual { at, answer, held })?;
     Ok(())
-}
-
-// The locks that the thread holds, if the answer is a race.
-fn locks_at_race(
-    alloc: Global,
-    machine: &Machine<'_>,
-    thread: ThreadId,
-    answer: &Result<Reply, Refusal>,
-) -> Result<Lockset, AllocError>
-    ensures { answer.now ≡ Ok Reply.Race → IfOk result (λ locks. locks ≡ (holding machine.now thread).held) }
-{
-    match answer {
-        Ok(Reply::Race) => machine.held(thread).held().copy(),
-        _ => Ok(Lockset::new(alloc)),
-    }
 }
 
 /// The usual answer to a step.
@@ -274,8 +256,7 @@ fn is_passed_over(step: &Step, answer: Result<Brief, Refusal>, noting: bool, cha
 fn is_access(step: &Step) -> bool
     ensures { result ≡ is_access step.now.event }
 {
-    let Step { event, .. } = *step;
-    matches!(event, Event::Access(..))
+    matches!(step.event, Event::Access(..))
 }
 
 // The shard of an event's words. An event on no word goes with shard 0.
@@ -287,10 +268,7 @@ fn shard_for(shards: u32, event: Event) -> u32
 {
     match event {
         Event::Access(_, word, _) | Event::Show(word) => remainder(word.page(), shards),
-        Event::Reuse(range) => {
-            let PageRange { lo, .. } = range;
-            remainder(lo.page(), shards)
-        }
+        Event::Reuse(range) => remainder(range.lo.page(), shards),
         _ => 0,
     }
 }

@@ -82,11 +82,11 @@ impl Threads {
             Some(index) => {
                 note_unless(&mut self.places, hint, key, index);
                 let held = &mut self.held[index];
-                change(held, event)
+                held.change(event)
             }
             None => {
                 let mut held = Held::new(self.alloc);
-                change(&mut held, event)?;
+                held.change(event)?;
                 self.places.note(key, self.held.len());
                 self.held.insert(key, held)?;
                 Ok(())
@@ -101,15 +101,4 @@ fn note_unless(places: &mut Hints, hint: usize, key: u64, index: usize) {
     if index != hint {
         places.note(key, index);
     }
-}
-
-// What an event makes of its thread's holdings.
-fn change(held: &mut Held, event: Event) -> Result<(), Refusal>
-    ensures accepted { OnOk result (refused_by held.old event ≡ None) }
-    ensures ok { OnOk result (held.new ≡ changed_by held.old event) }
-    ensures err { OnErr result (held.new ≡ held.old) }
-    ensures refused { (why : Refusal) → refused_by held.old event ≡ Some why → result ≡ Err why }
-    ensures memory { refused_by held.old event ≡ None → IfErr result (λ why. IsTrue (wants_memory event && is_no_memory why)) }
-{
-    held.change(event)
 }

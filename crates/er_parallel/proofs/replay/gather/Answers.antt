@@ -6,7 +6,7 @@ use Rattle.er_parallel.proofs.GatheringLemmas.{item-within, right-all, right-nex
 use Rattle.er_parallel.proofs.replay.gather.Goals as goal
 
 pub loop-item-init : goal.loop-item-init
-loop-item-init c = rw c.in-Ok.ensures
+loop-item-init c = rw c.in_ok-given.ensures
     (subst (λ (items : List Unusual). AreRightBut c.args.steps.now (usual_answers c.args.steps.now) items) (sym c.into_iter-item-iterator.ensures.into_iter_gives.0) (right-usual c.args.steps.now c.args.unusual.items c.requires))
 
 pub set-requires : goal.set-requires

@@ -1,11 +1,11 @@
-use Rattle.std.proofs.Common.{◌≡◌, ℕ, nat_eq, cond, Some, IsTrue, slice_get, ap, ◌∙◌, sym}
+use Rattle.std.proofs.Common.{◌≡◌, ℕ, nat_eq, cond, Err, Some, IsTrue, slice_get, ap, ◌∙◌, sym}
 use Rattle.er_event.specs.Lockset.{has}
 use Rattle.std.specs.Map.{lookup}
 use Rattle.indexmap.specs.IndexMap.{keys, values, with_value_at}
 use Rattle.er_held.specs.ThreadLocks.{holding_among}
 use Rattle.er_held.specs.Held.{nothing_held}
 use Rattle.er_model.specs.Holdings.{Holdings}
-use Rattle.er_replay.proofs.ThreadsLemmas.{err_from, err_is, holding_rewritten}
+use Rattle.er_replay.proofs.ThreadsLemmas.{err_from, err_is, holding_rewritten, no_memory}
 use Rattle.er_replay.proofs.threads.Threads.change.Goals as goal
 use Rattle.er_held.proofs.MapLemmas.{holding_found, holding_absent, holding_written}
 use Rattle.er_keys.proofs.MapLemmas.{entry_found, entry_put}
@@ -33,7 +33,8 @@ pub returns-in-Some-clause-refused : goal.returns-in-Some-clause-refused
 returns-in-Some-clause-refused c = rw (← found (goal.at.returns-in-Some-clause-refused c).In-Some c.index_mut-held.result.now c.index_mut-held.ensures.value) c.change.ensures.refused
 
 pub returns-in-Some-clause-memory : goal.returns-in-Some-clause-memory
-returns-in-Some-clause-memory c = rw (← found (goal.at.returns-in-Some-clause-memory c).In-Some c.index_mut-held.result.now c.index_mut-held.ensures.value) c.change.ensures.memory
+returns-in-Some-clause-memory c = rw (← found (goal.at.returns-in-Some-clause-memory c).In-Some c.index_mut-held.result.now c.index_mut-held.ensures.value)
+    (λ so. no_memory c.args.event c.change.result c.requires (c.change.ensures.memory so) (c.change.ensures.free so))
 
 pub returns-in-Some-clause-ok : goal.returns-in-Some-clause-ok
 returns-in-Some-clause-ok c =
@@ -41,7 +42,7 @@ returns-in-Some-clause-ok c =
     let was = c.index_mut-held.result.now in
     let is = c.index_mut-held.ensures.value in
     rw (← found some was is, ← c.self.view_is)
-    (on_ok c.change.result _ _ c.change.ensures.ok (λ new t. rw (← new) (holding_written c.self.inside.held.entries _ c.args.thread c.change.new.held (put some was is c.change.new.held) t)))
+    (on_ok c.change.result _ _ c.change.ensures.ok (λ new t. rw (← new) (holding_written c.self.inside.held.entries _ c.args.thread c.change.new.self (put some was is c.change.new.self) t)))
 
 pub returns-in-Some-clause-err : goal.returns-in-Some-clause-err
 returns-in-Some-clause-err c =
@@ -66,7 +67,7 @@ returns-in_ok-insert-in-None-clause-ok c =
     let none = absent (goal.at.returns-in_ok-insert-in-None-clause-ok c).In-None in
     let key = c.from-key.ensures ∙ c.number.ensures.value in
     rw (← none, ← c.self.view_is, ← c.new-held.ensures, ← c.in_ok-change-in-None.ensures.ok)
-    (holding_written c.self.inside.held.entries _ c.args.thread c.change-in-None.new.held (rw key at c.in_ok-insert-in-None.ensures.updates.0))
+    (holding_written c.self.inside.held.entries _ c.args.thread c.change-in-None.new.self (rw key at c.in_ok-insert-in-None.ensures.updates.0))
 
 pub returns-in_err-change-in-None-clause-refused : goal.returns-in_err-change-in-None-clause-refused
 returns-in_err-change-in-None-clause-refused c =
@@ -78,7 +79,9 @@ returns-in_err-change-in-None-clause-refused c =
 pub returns-in_err-change-in-None-clause-memory : goal.returns-in_err-change-in-None-clause-memory
 returns-in_err-change-in-None-clause-memory c =
     let none = absent (goal.at.returns-in_err-change-in-None-clause-memory c).In-None in
-    rw (← none, ← c.new-held.ensures) (λ so. err_from c.from_residual.result _ _ c.from_residual.ensures.1 (λ why is. rw is (c.in_err-change-in-None.ensures.memory so)))
+    rw (← none, ← c.new-held.ensures) (λ so.
+    let lacks = no_memory {A = Unit {0}} c.args.event (Err c.in_err-change-in-None.field-0.0) c.requires (c.in_err-change-in-None.ensures.memory so) (c.in_err-change-in-None.ensures.free so) in
+    err_from c.from_residual.result _ _ c.from_residual.ensures.1 (λ why is. rw is lacks))
 
 pub returns-in_err-insert-in-None-clause-refused : goal.returns-in_err-insert-in-None-clause-refused
 returns-in_err-insert-in-None-clause-refused c =
