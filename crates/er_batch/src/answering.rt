@@ -73,32 +73,7 @@ fn says_nothing(explains: bool, event: Event, answer: Result<Brief, Refusal>, ch
     }
 }
 
-// Adds the next step to the report. A step that the report has no line for is only counted.
-fn add_answer(
-    builder: &mut ReportBuilder<'_>,
-    names: &Names,
-    line: u64,
-    site: Site,
-    step: &Step,
-    answer: &Result<Reply, Refusal>,
-    held: &Lockset,
-) -> Result<(), AllocError>
-    requires room { builder.old.report.steps + 1 < 2 ^ 64 }
-    requires site { HasSiteName names.now step.now.event }
-    requires at { site ≤ length names.now.sites }
-    ensures rules { OnOk result (builder.new.rules ≡ builder.old.rules) }
-    ensures steps { OnOk result (builder.new.report.steps ≡ builder.old.report.steps + 1) }
-    ensures built { (r : Recording) (k : ℕ) → IsBuilt builder.old r k → IsStepAt r k names.now line site step.now answer.now held.now → OnOk result (IsBuilt builder.new r (k + 1)) }
-    ensures kept { OnOk result (builder.new.kept ≡ builder.old.kept) }
-{
-    if is_plain(answer) {
-        builder.add_plain(1);
-        return Ok(());
-    }
-    builder.add(names, line, site, step, view_of(answer), held)
-}
-
-/// Adds `plain` steps at once that the report has no line for, and then one that has a line.
+/// Adds `plain` steps at once that the report has no line for, and then the next step, which is only counted if it has no line either.
 pub(crate) fn add_behind(
     builder: &mut ReportBuilder<'_>,
     plain: u64,
@@ -118,9 +93,12 @@ pub(crate) fn add_behind(
     ensures reported { (r : Recording) (n : ℕ) → Lags builder.old r n plain → IsStepAt r n names.now line site step.now answer.now held.now → OnOk result (IsReported builder.new r (n + 1)) }
 {
     builder.add_plain(plain);
-    add_answer(builder, names, line, site, step, answer, held)?;
-    builder.explain(line, step)?;
-    Ok(())
+    if is_plain(answer) {
+        builder.add_plain(1);
+        return builder.explain(line, step);
+    }
+    builder.add(names, line, site, step, view_of(answer), held)?;
+    builder.explain(line, step)
 }
 
 // Answers each step and adds it to the report, up to the first that finds no room. Steps without a line are counted, and added before the

@@ -81,22 +81,9 @@ impl<'t, 'r> CrewAnalyst<'t, 'r> {
         ensures whole { IfOk result (λ report. report.stop ≡ None) }
         ensures fault { (asked : Asked) (r : Recording) → HasCrewRun self.entry asked r → IfErr result (λ why. MayFail r.steps why) }
     {
-        let CrewAnalyst {
-            alloc: _,
-            crew,
-            items,
-            builder,
-        } = self;
-        drop(items);
-        match crew {
-            Ok(crew) => {
-                drop(crew);
-                Ok(builder.finish_explained(None))
-            }
-            Err(why) => {
-                drop(builder);
-                Err(why)
-            }
+        match self.crew {
+            Ok(_) => Ok(self.builder.finish_explained(None)),
+            Err(why) => Err(why),
         }
     }
 }

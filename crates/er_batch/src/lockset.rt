@@ -46,13 +46,7 @@ impl<'t, 'r> LocksetAnalyst<'t, 'r> {
         ensures stands { (asked : Asked) → asked.rules ≡ targets_of suppressions.now → asked.explain ≡ explain → IfOk result (λ analyst. HasRunFor analyst asked no_steps) }
     {
         let machine = Machine::keyed(alloc, table, keys)?;
-        let builder = match ReportBuilder::explaining_keyed(alloc, suppressions, explain, keys) {
-            Ok(builder) => builder,
-            Err(refused) => {
-                drop(machine);
-                return Err(refused);
-            }
-        };
+        let builder = ReportBuilder::explaining_keyed(alloc, suppressions, explain, keys)?;
         Ok(LocksetAnalyst {
             machine,
             builder,
@@ -73,13 +67,7 @@ impl<'t, 'r> LocksetAnalyst<'t, 'r> {
         ensures named { (asked : Asked) (r : Recording) → HasRunFor self.entry asked r → All (HasNames r.names) result.lines.items }
         ensures stop { result.stop ≡ self.entry.stop }
     {
-        let LocksetAnalyst {
-            machine,
-            builder,
-            stop,
-        } = self;
-        drop(machine);
-        builder.finish_explained(stop)
+        self.builder.finish_explained(self.stop)
     }
 }
 

@@ -211,25 +211,13 @@ pub fn analyse<R: Threads + Wait + Sync, D: Read, V: Watch, A: Analyst + Drop>(
     let mut pass = Pass::new(alloc, options, readers, analyst)?;
     match pass.run(rt, reader, watcher) {
         Ok(()) => {
-            let Pass {
-                lines,
-                trace,
-                analyst,
-                steps,
-                numbers,
-                sites,
-            } = pass;
-            let ending = lines.ending();
-            drop((lines, steps, numbers, sites));
+            let ending = pass.lines.ending();
             Ok(Analysed {
-                analyst,
-                trace,
+                analyst: pass.analyst,
+                trace: pass.trace,
                 ending,
             })
         }
-        Err(why) => {
-            drop(pass);
-            Err(why)
-        }
+        Err(why) => Err(why),
     }
 }
