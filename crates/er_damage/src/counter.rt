@@ -48,10 +48,7 @@ impl Counter {
             self.counts.push(1)?;
             return Ok(());
         }
-        let Some(more) = self.counts[place].checked_add(1) else {
-            return Err(AllocError);
-        };
-        self.counts[place] = more;
+        self.counts[place] = self.counts[place].checked_add(1).ok_or(AllocError)?;
         Ok(())
     }
 
