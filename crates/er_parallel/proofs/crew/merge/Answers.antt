@@ -13,7 +13,7 @@ loop-item-smaller c = taken-count c.loop-item.workers c.in-Some-take_least.item 
 pub loop-item-preserved : goal.loop-item-preserved
 loop-item-preserved c = record {
   machines = taken-machines c.loop-item.workers c.in-Some-take_least.item c.take_least.new.workers c.in-Some-take_least.ensures ∙ c.loop-item.invariant.machines;
-  merged = λ apart. 
+  merged = λ apart.
       let done = pushed c.push.result c.loop-item.items.items c.push.new.self.items (c.loop-item.items.items ++ c.in-Some-take_least.item ∷ []) c.push.ensures.items (sym c.is_err.ensures.value ∙ c.if-is_err.false) in
       rw done
       (merged-more c.args.workers.now c.loop-item.workers c.take_least.new.workers c.loop-item.items.items c.in-Some-take_least.item c.in-Some-take_least.ensures (c.loop-item.invariant.merged apart));
