@@ -137,13 +137,7 @@ fn analysts_of<'t, 'r>(
         → IfOk result (λ all. AllStand all.first.first all.first.second all.second.inspector asked no_steps) }
 {
     let lockset = lockset_if(alloc, table, suppressions, options, analysis)?;
-    let ordering = match ordering_if(alloc, suppressions, options, analysis) {
-        Ok(ordering) => ordering,
-        Err(refused) => {
-            drop(lockset);
-            return Err(refused);
-        }
-    };
+    let ordering = ordering_if(alloc, suppressions, options, analysis)?;
     Ok(Pair {
         first: Pair {
             first: lockset,
