@@ -46,8 +46,7 @@ enum Again<'a> {
     Kept(&'a [u8]),
 }
 
-/// Writes the notes, then the damage, and then the fault, whose status it returns. What helps people follows if it is asked for, as far as it is
-/// known. If a write fails, the rest is left out.
+/// Writes the notes, then the damage, and then the fault with what helps people. If a write fails, the rest is left out.
 pub(crate) fn report_cut<R: Files + AllocGlobal, E: Write>(
     rt: &R,
     replay: &Replay<'_>,
@@ -64,13 +63,7 @@ pub(crate) fn report_cut<R: Files + AllocGlobal, E: Write>(
     if let Some(damage) = cut.damage {
         report_fault(rt.alloc(), Fault::Damaged(damage), errors);
     }
-    let status = report_fault(rt.alloc(), cut.fault, errors);
-    if replay.hints
-        && let Some(trouble) = trouble_of(rt, replay, cut.fault)
-    {
-        advise(rt, trouble, replay.byte_limit, errors);
-    }
-    status
+    report_replay_fault(rt, replay, cut.fault, errors)
 }
 
 /// A replay that comes to no report for this reason.
@@ -259,6 +252,25 @@ fn cut_at(alloc: Global, hints: bool, first: TextFault, second: Result<Ended, Fa
         damage,
         fault,
     }
+}
+
+// Writes the line of a fault, and returns its status. What helps people follows if it is asked for, as far as it is known.
+fn report_replay_fault<R: Files + AllocGlobal, E: Write>(
+    rt: &R,
+    replay: &Replay<'_>,
+    fault: Fault,
+    errors: &mut Device<E>,
+) -> u8
+    ensures status { result ≡ fault_status fault }
+    ensures line { replay.now.hints ≡ false → GetsLine (E.contents (inner_of errors.old)) (E.contents (inner_of errors.new)) (fault_line fault) (has_failed errors.new) }
+{
+    let status = report_fault(rt.alloc(), fault, errors);
+    if replay.hints
+        && let Some(trouble) = trouble_of(rt, replay, fault)
+    {
+        advise(rt, trouble, replay.byte_limit, errors);
+    }
+    status
 }
 
 // What a fault has to do with a file whose path is known, if it has.
