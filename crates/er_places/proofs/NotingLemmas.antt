@@ -1,5 +1,5 @@
 -- The wanted lines that are met one by one, as they are made.
-use Rattle.std.proofs.Common.{◌≡◌, ◌∙◌, ℕ, suc, nat_eq, nat_le, ◌+◌, ◌<◌, ◌≤◌, ◌&&◌, ◌||◌, Bool, true, false, cond, List, [], ◌∷◌, Some, None, length, get_or, drop, slice_get, length-drop, refl, ap, sym, arith}
+use Rattle.std.proofs.Common.{◌≡◌, ◌∙◌, ℕ, suc, nat_eq, nat_le, ◌+◌, ◌<◌, ◌≤◌, ◌&&◌, ◌||◌, not, Bool, true, false, cond, List, [], ◌∷◌, Some, None, length, get_or, drop, slice_get, length-drop, refl, ap, sym, arith}
 use Rattle.std.proofs.Math.Seq.{drop-cons}
 use Rattle.std.proofs.lemmas.Bool.Decides.{nat_tests}
 use Rattle.std.proofs.lemmas.List.{drop_all, get_or-drop, get_or_default}
@@ -21,22 +21,45 @@ made_is : (made : Bool) (w line : ℕ) → Some line ≡ cond made (Some w) None
 made_is true w line is = cc
 made_is false w line is = cc
 
+-- of the lines behind the first so many, a line that is met is none
+beyond : (here rest made : Bool) → (here ≡ true → made ≡ true) → (rest && not made) ≡ ((here || rest) && not made)
+beyond true true made is = refl
+beyond true false made is = rw (is refl) refl
+beyond false rest made is = refl
+
+-- the wanted line that is met, and those behind it
+met_front : (wanted : List ℕ) (met w lines : ℕ) → met < length wanted → Some w ≡ if_made lines (slice_get wanted met) → drop met wanted ≡ w ∷ drop (met + 1) wanted
+met_front wanted met w lines less is =
+    let x = get_or wanted met 0 in
+    let there : slice_get wanted met ≡ Some x = slice_get_read wanted (length wanted) met x refl less (get_or_default wanted met 0 x less) in
+    let same : x ≡ w = made_is (nat_le x lines) x w (is ∙ ap (if_made lines) there) in
+    let next : met + 1 ≡ suc met = omega arith in
+    drop-cons wanted met 0 less ∙ ap (λ (y : ℕ). y ∷ drop (suc met) wanted) same ∙ ap (λ (k : ℕ). w ∷ drop k wanted) (sym next)
+
+-- the wanted lines behind the first so many are left
+pub left_more : (wanted : List ℕ) (met w lines line : ℕ) → met < length wanted → w ≤ lines → Some w ≡ if_made lines (slice_get wanted met)
+    → (list_any (nat_eq line) (drop (met + 1) wanted) && not (nat_le line lines)) ≡ (list_any (nat_eq line) (drop met wanted) && not (nat_le line lines))
+left_more wanted met w lines line less made is =
+    let is_made : nat_eq line w ≡ true → nat_le line lines ≡ true = λ yes. grind (arith, nat_tests) in
+    beyond (nat_eq line w) (list_any (nat_eq line) (drop (met + 1) wanted)) (nat_le line lines) is_made
+    ∙ ap (λ (xs : List ℕ). list_any (nat_eq line) xs && not (nat_le line lines)) (sym (met_front wanted met w lines less is))
+
+-- if no line that is left is among the first so many, all that are left come behind them
+pub all_beyond : (rest made : Bool) → (rest && made) ≡ false → rest ≡ (rest && not made)
+all_beyond true true none = absurd (cc)
+all_beyond true false none = refl
+all_beyond false made none = refl
+
 -- the wanted line that is met leaves to be kept what was to be kept
 pub met_more : (wanted : List ℕ) (met w lines line : ℕ) (old new : ℕ → List ℕ) (way : List ℕ) → met < length wanted → w ≤ lines → Some w ≡ if_made lines (slice_get wanted met)
     → new w ≡ way → ((l : ℕ) → nat_eq w l ≡ false → new l ≡ old l)
     → cond (list_any (nat_eq line) (drop (met + 1) wanted) && nat_le line lines) way (new line) ≡ cond (list_any (nat_eq line) (drop met wanted) && nat_le line lines) way (old line)
 met_more wanted met w lines line old new way less made is noted other =
-    let x = get_or wanted met 0 in
-    let there : slice_get wanted met ≡ Some x = slice_get_read wanted (length wanted) met x refl less (get_or_default wanted met 0 x less) in
-    let same : x ≡ w = made_is (nat_le x lines) x w (is ∙ ap (if_made lines) there) in
-    let next : met + 1 ≡ suc met = omega arith in
-    let front : drop met wanted ≡ w ∷ drop (suc met) wanted = drop-cons wanted met 0 less ∙ ap (λ (y : ℕ). y ∷ drop (suc met) wanted) same in
     let is_here : nat_eq line w ≡ true → line ≡ w = λ yes. grind (arith, nat_tests) in
     let is_made : nat_eq line w ≡ true → nat_le line lines ≡ true = λ yes. grind (arith, nat_tests) in
     let is_other : nat_eq line w ≡ false → nat_eq w line ≡ false = λ no. grind (arith, nat_tests) in
-    let step = kept (nat_eq line w) (list_any (nat_eq line) (drop (suc met) wanted)) (nat_le line lines) way (old line) (new line) is_made (λ yes. ap new (is_here yes) ∙ noted) (λ no. other line (is_other no)) in
-    ap (λ (k : ℕ). cond (list_any (nat_eq line) (drop k wanted) && nat_le line lines) way (new line)) next ∙ step
-    ∙ ap (λ (xs : List ℕ). cond (list_any (nat_eq line) xs && nat_le line lines) way (old line)) (sym front)
+    kept (nat_eq line w) (list_any (nat_eq line) (drop (met + 1) wanted)) (nat_le line lines) way (old line) (new line) is_made (λ yes. ap new (is_here yes) ∙ noted) (λ no. other line (is_other no))
+    ∙ ap (λ (xs : List ℕ). cond (list_any (nat_eq line) xs && nat_le line lines) way (old line)) (sym (met_front wanted met w lines less is))
 
 either : (here rest made : Bool) → (here ≡ true → made ≡ false) → (rest && made) ≡ false → ((here || rest) && made) ≡ false
 either true rest made first others = first refl

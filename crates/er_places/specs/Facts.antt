@@ -1,5 +1,5 @@
 -- What is noted of a binary trace beside its text.
-use Rattle.std.specs.Prelude.{◌≡◌, ◌<◌, ◌==◌, ℕ, cond, count_by, drop, length, min, nat_eq, ◌+◌, ◌-◌, ◌/◌, ◌^◌, ◌&&◌, nat_le, not, Bool, false, List, [], option_map, vec_items, unwrap_or, if◌then◌else◌}
+use Rattle.std.specs.Prelude.{◌≡◌, ◌<◌, ◌==◌, ℕ, cond, count_by, drop, length, min, nat_eq, ◌+◌, ◌-◌, ◌/◌, ◌^◌, ◌&&◌, nat_le, not, Bool, List, [], option_map, vec_items, unwrap_or, if◌then◌else◌}
 use Rattle.std.specs.Global.{Vec}
 use Rattle.std.specs.BTreeMap.{is_at}
 use Rattle.std.specs.List.{list_any}
@@ -62,17 +62,17 @@ function_in facts place = unwrap_or (option_map vec_items (lookup (is_at (nat_cm
 abbrev pub lines_behind : ℕ → List ℕ → ℕ
 lines_behind lines text = min (lines + count_by (λ byte. byte == 10) text) (2 ^ 64 - 1)
 
--- a line is among the first, and is one of the wanted ones that were not met
-abbrev pub is_due : Facts → ℕ → ℕ → Bool
-is_due f lines line = list_any (nat_eq line) (drop f.met (lines_asked f)) && nat_le line lines
+-- a line is one of the wanted ones that were not met yet
+abbrev pub is_left : Facts → ℕ → Bool
+is_left f line = list_any (nat_eq line) (drop f.met (lines_asked f))
 
--- what is kept for a line once these are met: the calls that led to the node, or what was kept before
+-- what is kept for a line once those among the first are met: the calls that led to the node, or what was kept before
 abbrev pub way_behind : Facts → ℕ → State → ℕ → List ℕ
-way_behind f lines state line = if is_due f lines line then way_to state.nodes state.node else way_on (table_of f) line
+way_behind f lines state line = if is_left f line && nat_le line lines then way_to state.nodes state.node else way_on (table_of f) line
 
--- what a record with this text changed: its lines are counted, and the wanted ones among them are met
+-- what a record with this text changed: its lines are counted, and the wanted ones among them are met, and no other
 pub record HasNoted (before : Facts) (text : List ℕ) (state : State) (after : Facts) : Type 0 where
   pub lines : before.met < length (lines_asked before) → after.lines ≡ lines_behind before.lines text
   pub ways : (line : ℕ) → way_on (table_of after) line ≡ way_behind before after.lines state line
-  pub met : (line : ℕ) → is_due after after.lines line ≡ false
+  pub left : (line : ℕ) → is_left after line ≡ (is_left before line && not (nat_le line after.lines))
   pub wanted : after.wanted ≡ before.wanted

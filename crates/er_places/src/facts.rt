@@ -313,7 +313,8 @@ impl Listener for Facts {
     ghost use Rattle.er_places.specs.Facts.{HasNoted, is_told, lines_asked};
 
     fn hear(&mut self, bytes: &[u8], text: &[u8], state: &State)
-        ensures { is_told self.new ≡ true → IsSorted nat_cmp (lines_asked self.old) → HasNoted self.old text.now state.now self.new }
+        ensures noted { is_told self.new ≡ true → IsSorted nat_cmp (lines_asked self.old) → HasNoted self.old text.now state.now self.new }
+        ensures refused { is_told self.old ≡ false → is_told self.new ≡ false }
     {
         if !self.failed {
             self.failed = self.note_record(bytes, text, state).is_err();
