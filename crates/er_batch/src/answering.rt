@@ -7,7 +7,7 @@ ghost use Rattle.er_event.specs.declared.steps.Step.{Step as Steps};
 ghost use Rattle.er_event.specs.declared.steps.WordState.{WordState as WordStates};
 ghost use Rattle.er_replay.specs.Standing.{found_no_room, in_full};
 ghost use Rattle.er_replay.specs.Wants.{is_access};
-ghost use Rattle.er_report.specs.Builder.{IsBuilt, IsReported, IsStepAt, is_plain};
+ghost use Rattle.er_report.specs.Builder.{IsReported, IsStepAt, is_plain};
 ghost use Rattle.er_report.specs.Names.{HasSiteName};
 ghost use Rattle.er_text.specs.Batches.{joined};
 ghost use Rattle.er_text.specs.Named.{KeepsNames};
