@@ -9,3 +9,17 @@
 mod sets;
 #[cfg(test)]
 mod together;
+
+#[cfg(test)]
+use std::process::Abort;
+#[cfg(test)]
+use std::sync::Wait;
+#[cfg(test)]
+use std::thread::Threads;
+
+/// What tests run on.
+#[cfg(test)]
+pub(crate) trait Host: Threads + Wait + Abort + AllocGlobal + Sync {}
+
+#[cfg(test)]
+impl<R: Threads + Wait + Abort + AllocGlobal + Sync> Host for R {}

@@ -1,6 +1,7 @@
 //! Sets of locks that are stored once: by two threads at once, which wait for each other first, and in a book that is asked with the vector of
 //! its sets and with another. And reports of more steps than 32 bits number: a text of so many would be too long for a test.
-use crate::together::{Host, meeting_gate};
+use crate::Host;
+use crate::together::meeting_gate;
 use boxcar::Vec;
 use er_batch::answer_batch;
 use er_device::Device;

@@ -1,5 +1,6 @@
 //! Two threads at once: at a gate, at one detector, as workers of a workload and of a parallel replay; and a call beside a shard whose lock is held.
 //! Threads wait for each other first, so that mostly neither is done before the other begins; the answers are the same in whatever order they come.
+use crate::Host;
 use crate::sets::table_of_hundred;
 use er_detector::{Config, Detector, settle};
 use er_event::{Event, Kind, LockId, Mode, Refusal, Site, Step, ThreadId, Word, WordRange};
@@ -9,22 +10,31 @@ use er_load::{Workload, run_workload};
 use er_parallel::{ReplayConfig, replay_parallel};
 use er_seat::Seat;
 use er_table::LocksetTable;
-use std::process::Abort;
-use std::sync::Wait;
 use std::sync::atomic::{AtomicU32, Ordering};
 use std::test::*;
 use std::thread;
-use std::thread::Threads;
-
-/// What tests run on.
-pub(crate) trait Host: Threads + Wait + Abort + AllocGlobal + Sync {}
-
-impl<R: Threads + Wait + Abort + AllocGlobal + Sync> Host for R {}
 
 /// A gate at which pieces 0 and 1 wait for each other, however long one of them has to wait for a processor. If they never are at work at once, the
 /// test has no end, and fails by its limit of time.
 pub(crate) fn meeting_gate() -> PairGate {
     PairGate::with_looks(0, 1, u64::MAX)
+}
+
+// A busy machine may run one thread behind the other, so a gate at which they didn't meet says nothing, and another is tried.
+fn meet<R: Host>(rt: &R) -> bool {
+    for _ in 0..u32::MAX {
+        let gate = PairGate::new(0, 1);
+        thread::join(rt, || gate.enter(0), || gate.enter(1));
+        if gate.met() {
+            return true;
+        }
+    }
+    false
+}
+
+#[test]
+fn a_pair_meets(rt: HostRuntime) {
+    assert!(rt; meet(&rt));
 }
 
 // A piece that leaves before the other comes didn't see it.
@@ -114,9 +124,9 @@ fn reuse_all<R: Host>(rt: &R, detector: &Detector, gate: &PairGate, mut seat: Se
     seat
 }
 
-// The seats of two threads that reused the page. On a busy machine one may be done before the other begins.
+// The seats of two threads that reused the page at once.
 fn reuse_together<R: Host>(rt: &R, detector: &Detector) -> Vec<Seat> {
-    let gate = PairGate::new(0, 1);
+    let gate = meeting_gate();
     let mut seats = Vec::new(rt.alloc());
     for _ in 0..2u32 {
         let seat = detector.open_seat().expect(rt, "a seat");
@@ -157,13 +167,15 @@ fn steps_of<R: Host>(rt: &R, count: u32) -> Vec<Step> {
 }
 
 // How many races and how many answers: of some workers to the steps, in so many shards.
+type Counts = (usize, usize);
+
 fn replayed<G: Gate, R: Host>(
     rt: &R,
     shards: u32,
     workers: u32,
     steps: &[Step],
     gate: &G,
-) -> (usize, usize) {
+) -> Counts {
     let config = ReplayConfig::new(shards, 16).expect(rt, "a configuration");
     let outcome = replay_parallel(rt, rt.alloc(), config, steps, workers.clamp(1, 16), gate);
     let answers = outcome.expect(rt, "an outcome").answers;
