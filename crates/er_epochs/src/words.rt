@@ -207,7 +207,7 @@ impl<A: Copy> Block<A> {
         Ok(rival)
     }
 
-    /// Reads the word at a place, for an access of it that comes soon.
+    /// Reads some part of the word at a place, for an access of it that comes soon.
     #[inline]
     pub(crate) fn look_ahead(&self, place: usize) -> usize
         requires { place < 32 }

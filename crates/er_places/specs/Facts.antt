@@ -31,11 +31,11 @@ table_of f = record { ways = f.ways.entries; blocks = f.blocks.entries; variable
 abbrev pub known_places : List (List ℕ) → FactTable
 known_places names = record { ways = []; blocks = []; variables = []; threads = []; functions = []; places = names }
 
--- whether it is told: no memory was refused
+-- whether what was noted is told: no memory was refused
 abbrev pub is_told : Facts → Bool
 is_told f = not f.failed
 
--- what is told of it, with the names of places
+-- what is told of what was noted, with the names of places
 abbrev pub told : Facts → List (List ℕ) → FactTable
 told f names = cond (is_told f) (record (table_of f) { places = names }) (known_places names)
 
@@ -62,15 +62,19 @@ function_in facts place = unwrap_or (option_map vec_items (lookup (is_at (nat_cm
 abbrev pub lines_behind : ℕ → List ℕ → ℕ
 lines_behind lines text = min (lines + count_by (λ byte. byte == 10) text) (2 ^ 64 - 1)
 
+-- no line was read yet, and nothing was noted
+abbrev pub IsFresh : Facts → Type 0
+IsFresh f = (f.met ≡ 0) × (f.lines ≡ 1) × (table_of f ≡ known_places [])
+
 -- a line is one of the wanted ones that were not met yet
 abbrev pub is_left : Facts → ℕ → Bool
 is_left f line = list_any (nat_eq line) (drop f.met (lines_asked f))
 
--- what is kept for a line once those among the first are met: the calls that led to the node, or what was kept before
+-- what is kept for a line once the wanted ones up to line `lines` are met: the calls that led to the node, or what was kept before
 abbrev pub way_behind : Facts → ℕ → State → ℕ → List ℕ
 way_behind f lines state line = if is_left f line && nat_le line lines then way_to state.nodes state.node else way_on (table_of f) line
 
--- what a record with this text changed: its lines are counted, and the wanted ones among them are met, and no other
+-- what a record with this text changed: if a wanted line is left, its lines are counted, and the wanted ones that came are met, and no other
 pub record HasNoted (before : Facts) (text : List ℕ) (state : State) (after : Facts) : Type 0 where
   pub lines : before.met < length (lines_asked before) → after.lines ≡ lines_behind before.lines text
   pub ways : (line : ℕ) → way_on (table_of after) line ≡ way_behind before after.lines state line

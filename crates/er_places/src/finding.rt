@@ -1,7 +1,7 @@
 //! A second look at a trace text, batch by batch.
 ghost use Rattle.std.specs.Prelude.{IsSorted, ◌≡◌, ◌<◌, ◌≤◌, ◌+◌, ◌^◌, ◌++◌, ◌||◌, ℕ, List, Option, All, false, true, length, IfSome, IfOk, IfErr, OnOk};
 ghost use Rattle.std.specs.Ordering.{nat_cmp};
-ghost use Rattle.er_places.specs.Facts.{lines_asked, words_asked};
+ghost use Rattle.er_places.specs.Facts.{IsFresh, lines_asked, words_asked};
 ghost use Rattle.er_device.specs.Device.{inner_of, has_failed, taken_of};
 ghost use Rattle.er_places.specs.Inner.Following.{HasCome, HasEnded, are_asked, is_wanted};
 ghost use Rattle.er_places.specs.Places.{ArePlaces, IsFaultOf};
@@ -98,6 +98,7 @@ pub fn facts_of_reports(
     ensures asked { IfOk result (λ facts. (line : ℕ) → is_wanted (lines_asked facts) line ≡ are_asked reports.now line) }
     ensures rising { IfOk result (λ facts. IsSorted nat_cmp (lines_asked facts)) }
     ensures words { IfOk result (λ facts. IsSorted nat_cmp (words_asked facts)) }
+    ensures fresh { IfOk result IsFresh }
 {
     let wanted = Wanted::of_reports(alloc, keys, reports)?;
     let lines = to_rising(alloc, &wanted.lines)?;

@@ -123,19 +123,21 @@ fn twelve_digits(bytes: &[u8]) -> Option<u64>
 {
     let block = u8x16::from_slice(bytes);
     let numerals = block - u8x16::splat(b'0');
-    // The cases of a letter differ in one bit.
+    // A small letter is its capital with the bit 0x20.
     let letters = (block | u8x16::splat(0x20)) - u8x16::splat(b'a');
     let are_digits = numerals.simd_lt(u8x16::splat(10)) | letters.simd_lt(u8x16::splat(6));
+    // The lowest twelve bits are those of the first twelve bytes.
     if are_digits.to_bitmask() % 4096 != 4095 {
         return None;
     }
+    // Of a digit below ten the number as a letter is larger, and of a letter the number as a numeral.
     let digits = numerals.simd_min(letters + u8x16::splat(10));
-    // The high byte of each product has two digits, the first above the second.
+    // A product is a pair, and the same pair 12 bits higher. So its high byte has both digits, the first above the second.
     let pairs = (u16x8::from_le_bytes(digits) * u16x8::splat(0x1001)) >> 8;
     Some(u64::from_be_bytes(pairs.cast::<u8>().to_array()) >> 16)
 }
 
-/// The same of fewer than 16 bytes: no site follows the address.
+/// The same where fewer than 16 bytes are left, as in a line without a site.
 #[inline(never)]
 fn twelve_last_digits(bytes: &[u8]) -> Option<u64>
     requires { 12 ≤ length bytes.now }

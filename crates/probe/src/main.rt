@@ -46,7 +46,7 @@ fn main(rt: HostRuntime) -> ExitCode {
     ExitCode::from(3)
 }
 
-// Goes over all rows. The line is that of the row at work. Of these three functions each owns one thing, which is short to prove.
+// Goes over all rows. The line is that of the row at work. Each of these functions owns little, which is short to prove.
 fn probe<R: Host>(rt: &R, line: &mut usize) -> Made {
     let text = io::read_to_string(rt.alloc(), rt.reader())?;
     let mut rows = text.lines();

@@ -183,7 +183,7 @@ pub(crate) fn settled(alloc: Global, world: &mut World, work: &mut Work) -> Made
     }
 }
 
-// The pages that threads call: how many further the call of the next thread is, and that of a thread once it has made sixteen at a page.
+// How calls go over pages: how many pages further the next thread begins, and how many pages further a thread goes on after sixteen calls.
 type Shape = (u64, u64);
 
 // The word of a thread's call. There are 64 pages, and after as many calls as a page has words its words come again.

@@ -34,7 +34,7 @@ pub(crate) type Found<T> = Result<T, Fault>;
 /// What a call comes to that answers nothing.
 pub(crate) type Made = Found<()>;
 
-/// What writing its answer comes to.
+/// What a call comes to whose answer was put so.
 pub(crate) fn made(put: Result<(), AllocError>) -> Made {
     Ok(put?)
 }
