@@ -28,7 +28,7 @@ PROGRAMS = SOURCES / "stacks"
 # Of those that are linked together with another file, which.
 PARTS = {"thrown": "through.c"}
 # Programs that say more than which stacks there are.
-ALONE = ("crowd.c", "deep.c", "freed.c", "interrupted.c", "many.c", "named.cpp")
+ALONE = ("crowd.c", "deep.c", "freed.c", "interrupted.c", "local.c", "many.c", "named.cpp")
 # Those that --order has more to say of.
 ORDERED = ("events", "once")
 LEFT_OUT = "calls-left-out"
@@ -65,8 +65,6 @@ KINDS = {trace4.LOCK: "lock", trace4.UNLOCK: "unlock", trace4.READ_LOCK: "rlock"
     trace4.SIGNAL: "signal", trace4.AWAIT: "await", trace4.REUSE: "reuse"}
 
 
-# The kind of a fact of a block, which has 16 bytes.
-BLOCK_FACT = 29
 # A block of memory that the program got, and how many events come before.
 GotBlock = collections.namedtuple("GotBlock", "events address size node")
 
@@ -79,7 +77,7 @@ class Trace(trace4.Trace):
         super().__init__(data)
 
     def read_fact(self, kind, content):
-        if kind == BLOCK_FACT and len(content) == 16:
+        if kind == trace4.MEMORY_FACTS and len(content) == 16:
             address, size, node = (int.from_bytes(part, "little") for part in (content[:6], content[6:12], content[12:]))
             self.check(size and address + size <= trace4.ADDRESS_END and node < len(self.nodes))
             self.got_blocks.append(GotBlock(len(self.events), address, size, node))
@@ -163,9 +161,10 @@ def own_memory(findings, trace, source, program):
     """Of the blocks that are got for a thread the C library's own are told, where the program created it, and none that the recorder asked for. The
     other one is given back."""
     marks, first = lines_of(source), trace.events[0].thread
-    got = {tuple(outside(trace, block.node, source, marks)) for block in trace.got_blocks}
+    placed = [block for block in trace.got_blocks if block.node]
+    got = {tuple(outside(trace, block.node, source, marks)) for block in placed}
     given = [(event.thread == first, outside(trace, event.node, source, marks)[:1]) for event in trace.events if event.kind == trace4.REUSE]
-    is_right = got == expected(source, "BLOCK") and len(trace.got_blocks) == 2 and given == [(True, ["frees"])]
+    is_right = got == expected(source, "BLOCK") and len(placed) == 2 and given == [(True, ["frees"])]
     findings.check(f"the blocks of {program.name}", is_right, f"{got} {given}")
 
 
@@ -279,6 +278,20 @@ def freed(folder, findings, compiler, level):
         findings.check(f"the use of freed memory in {program.name}, {words[-1]}", told == [("race", site, ""), ("unordered", site, "")], f"{done} {told}")
 
 
+def local(folder, findings, compiler, level):
+    """A variable on a thread's stack is in no block that was there before: the stack is a block without a place."""
+    source, program, recording, found = recorded(folder, findings, "local.c", compiler, level)
+    trace, marks = recording.traces[0], lines_of(source)
+    findings.check(f"the calls of {program.name}", not recording.fault() and found == expected(source), f"{recording.fault()} {found}")
+    was = next((block for block in trace.got_blocks if block.size == 16 << 20), None)
+    for number, event in enumerate(trace.events):
+        names = outside(trace, event.node, source, marks) if event.kind == "access" else []
+        if names[:1] in (["begins"], ["races"]):
+            block = trace.block_before(number, event.address)
+            is_there = was and was.address <= event.address < was.address + was.size
+            findings.check(f"the stack in {program.name}, {names[0]}", is_there and block and block.size < was.size and not block.node, f"{was} {event} {block}")
+
+
 def without_debug(folder, findings, program, functions):
     """Without debug information the symbols have the same names, but for functions that were inlined. Debug information is found in a file beside the
     program's, though the program has no link to it."""
@@ -327,7 +340,7 @@ def tests(record):
         folder = pathlib.Path(name)
         ways = [(compiler, level) for compiler in ("gcc", "clang") for level in LEVELS]
         done = [pool.submit(says_what_it_does, folder, findings, source, *way) for source in sources for way in ways]
-        done += [pool.submit(test, folder, findings, *way) for test in (crowd, deep, freed, interrupted, named) for way in ways]
+        done += [pool.submit(test, folder, findings, *way) for test in (crowd, deep, freed, interrupted, local, named) for way in ways]
         done += [pool.submit(regions, folder, findings, level) for level in LEVELS]
         done += [pool.submit(blocks_of_allocator, folder, findings), pool.submit(many, folder, findings), pool.submit(refused, folder, findings, "--stacks", "a text has no stacks")]
         for one in done:

@@ -63,7 +63,7 @@ static int find_stack(pthread_attr_t *found)
     return result;
 }
 
-/* A new thread may have the stack of an old one. `place` is that of the call that created it, in these calls. */
+/* A new thread may have the stack of an old one, or lie where the program had a block. `place` is that of the call that created it, in these calls. */
 static void begin_thread(uint32_t calls, uint64_t place)
 {
     pthread_attr_t found;
@@ -76,6 +76,8 @@ static void begin_thread(uint32_t calls, uint64_t place)
         if (KEEPS_STACKS)
             stack_begin(stack.begin, stack.size);
         emit_reuse(stack.begin, stack.size);
+        if (KEEPS_STACKS && is_memory(stack.begin, stack.size))
+            emit(EVENT_TAKEN, (uint32_t)stack.size, packed(stack.begin, stack.size), 0);
     }
     pthread_attr_destroy(&found);
     if (ends != (pthread_key_t)-1)
