@@ -28,7 +28,7 @@ PROGRAMS = SOURCES / "stacks"
 # Of those that are linked together with another file, which.
 PARTS = {"thrown": "through.c"}
 # Programs that say more than which stacks there are.
-ALONE = ("crowd.c", "deep.c", "freed.c", "interrupted.c", "local.c", "many.c", "named.cpp")
+ALONE = ("crowd.c", "deep.c", "freed.c", "interrupted.c", "local.c", "many.c", "named.cpp", "taken.c")
 # Those that --order has more to say of.
 ORDERED = ("events", "once")
 LEFT_OUT = "calls-left-out"
@@ -324,6 +324,17 @@ def many(folder, findings):
     findings.check("more stacks than there is room for", "record: 32 events lack their innermost calls: " in done.stderr and ", 0 lost\n" in done.stderr, done.stderr)
 
 
+def taken(folder, findings):
+    """A block that can't be recorded is no lost event: those that are recorded and those that are lost are together as many as without a limit. (One block
+    may count, if the writer stops just then.)"""
+    program = build(folder, findings, PROGRAMS / "taken.c", "gcc", "-O1")
+    limits = ("0", "20000", "70000")
+    told = [command([RUN, "-o", folder / "taken.trace", "--limit", limit, "--stacks", program]).stderr for limit in limits]
+    counts = [tuple(map(int, match)) for text in told for match in re.findall(r"^record: (\d+) events recorded, (\d+) lost", text, re.M)]
+    is_right = len(counts) == 3 and counts[0][1] == 0 and all(lost and 0 <= recorded + lost - counts[0][0] <= 1 for recorded, lost in counts[1:])
+    findings.check("the lost events of a program that gets memory", is_right, f"{counts} {told}")
+
+
 def refused(folder, findings, option, says):
     """A text can't have what the option asks for, and nothing is recorded."""
     for words in ([option, "--trace", "3"], ["--trace", "3", option]):
@@ -342,7 +353,7 @@ def tests(record):
         done = [pool.submit(says_what_it_does, folder, findings, source, *way) for source in sources for way in ways]
         done += [pool.submit(test, folder, findings, *way) for test in (crowd, deep, freed, interrupted, local, named) for way in ways]
         done += [pool.submit(regions, folder, findings, level) for level in LEVELS]
-        done += [pool.submit(blocks_of_allocator, folder, findings), pool.submit(many, folder, findings), pool.submit(refused, folder, findings, "--stacks", "a text has no stacks")]
+        done += [pool.submit(blocks_of_allocator, folder, findings), pool.submit(many, folder, findings), pool.submit(taken, folder, findings), pool.submit(refused, folder, findings, "--stacks", "a text has no stacks")]
         for one in done:
             one.result()
 

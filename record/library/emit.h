@@ -230,6 +230,14 @@ static inline void emit_free(const volatile void *block, uint64_t size, uint64_t
     emit(EVENT_FREE, (uint32_t)size, packed(block, size), place);
 }
 
+/* A block that a call at this place gives to the program, or a new thread's stack. It is no event of the trace: once the writer takes no more events, none
+ * is lost with it. (A thread may count one at the moment at which the writer stops.) */
+static inline void emit_taken(const volatile void *block, uint64_t size, uint64_t place)
+{
+    if (block && is_recording() && !self.is_beginning && is_memory(block, size) && !atomic_load_explicit(&attached->ring->stop, memory_order_relaxed))
+        emit(EVENT_TAKEN, (uint32_t)size, packed(block, size), place);
+}
+
 static inline void emit_reuse(const volatile void *address, uint64_t size)
 {
     emit_memory(address, size, 0);

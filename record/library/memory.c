@@ -72,7 +72,7 @@ void give_own(void *block) { get_allocator()->free(block); }
 
 /* ---- Memory that is given out ---- */
 
-/* An allocator may take memory of its own when it is asked for a size first: tcmalloc does. */
+/* An allocator may take memory of its own when it is asked for a size for the first time: tcmalloc does. */
 static __attribute__((noinline)) void note_foreign(void *block)
 {
     static __thread bool is_asking __attribute__((tls_model("initial-exec")));
@@ -82,12 +82,6 @@ static __attribute__((noinline)) void note_foreign(void *block)
     size_t size = allocator.size_of(block);
     is_asking = false;
     emit_hand_over(block, size);
-}
-
-static inline void emit_taken(const void *block, size_t size, uint64_t place)
-{
-    if (block && is_recording() && !self.is_beginning && is_memory(block, size))
-        emit(EVENT_TAKEN, (uint32_t)size, packed(block, size), place);
 }
 
 /* If no free is seen, the memory of a block may be part of another one later, and nobody would know of that. */

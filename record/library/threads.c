@@ -76,8 +76,8 @@ static void begin_thread(uint32_t calls, uint64_t place)
         if (KEEPS_STACKS)
             stack_begin(stack.begin, stack.size);
         emit_reuse(stack.begin, stack.size);
-        if (KEEPS_STACKS && is_memory(stack.begin, stack.size))
-            emit(EVENT_TAKEN, (uint32_t)stack.size, packed(stack.begin, stack.size), 0);
+        if (KEEPS_STACKS)
+            emit_taken(stack.begin, stack.size, 0);
     }
     pthread_attr_destroy(&found);
     if (ends != (pthread_key_t)-1)
