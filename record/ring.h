@@ -62,7 +62,7 @@ enum event_kind {
     EVENT_STORED,     /* first: atomic, stored by an operation that doesn't release, in a thread that has released by a fence, or if the ring asks for flow */
     EVENT_LET_GO,     /* first: object that a holder lets go, size: enum object_kind: it signals and awaits it, if anybody has signalled it before */
     EVENT_LOADED,     /* first: atomic, loaded by an operation that doesn't acquire, size: LOADS_FOR_FENCES, LOADS_FOR_FLOW or both */
-    EVENT_TAKEN,      /* as EVENT_REUSE, of memory that a call gives to the program: a fact of the trace. Recorded only with --stacks */
+    EVENT_TAKEN,      /* as EVENT_REUSE, of memory that a call gives to the program, or of a new thread's stack, which has no place: a fact of the trace. Recorded only with --stacks */
     EVENT_THREAD_END, /* the thread runs no more of the program's code, and its pthread_t may become another's */
 };
 
@@ -202,8 +202,8 @@ static inline uint32_t ring_round(uint64_t ticket)
     return (uint32_t)(ticket >> RING_BITS) + 1;
 }
 
-/* Slots stand in the order of their tickets, which the writer reads faster than any other. Two of them share a cache line: threads that draw one after the
- * other lose no more by that than by two lines that they have to fetch. */
+/* Slots stand in the order of their tickets, which the writer reads faster than any other. Two slots share a cache line. Measured, two threads that write to
+ * one line lose no more than by fetching a line each. */
 static inline uint32_t ring_place(uint64_t ticket)
 {
     return (uint32_t)ticket & RING_MASK;

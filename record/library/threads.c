@@ -63,7 +63,8 @@ static int find_stack(pthread_attr_t *found)
     return result;
 }
 
-/* A new thread may have the stack of an old one, or lie where the program had a block. `place` is that of the call that created it, in these calls. */
+/* The stack of a new thread may be that of an old one, or lie where the program had a block. So its memory gets a new use, and it is a block without a place.
+ * `place` is that of the call that created the thread, in these calls. */
 static void begin_thread(uint32_t calls, uint64_t place)
 {
     pthread_attr_t found;

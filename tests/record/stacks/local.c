@@ -1,4 +1,4 @@
-/* A thread's variable lies on its stack, which lies where the program had a block and gave it back. The report says nothing of that block.
+/* A thread's variable lies on its stack, which lies where the program had a block and gave it back. The stack is a block without a place.
  *
  * STACK begins
  * STACK races
@@ -27,14 +27,22 @@ static void *use(void *nothing)
     return nothing;
 }
 
+/* The stacks of the threads are small enough for the hole that the block leaves. */
+UNWATCHED static void get_and_give_back(void)
+{
+    char *volatile block = malloc(16 << 20);
+    free(block);
+}
+
 int main(void)
 {
     pthread_t owner, user;
-    char *volatile block = malloc(16 << 20);
-    free(block);
-    if (pthread_create(&owner, NULL, own, NULL) != 0 || pthread_create(&user, NULL, use, NULL) != 0)
+    pthread_attr_t how;
+    pthread_attr_init(&how);
+    pthread_attr_setstacksize(&how, 1 << 20);
+    get_and_give_back();
+    if (pthread_create(&owner, &how, own, NULL) != 0 || pthread_create(&user, &how, use, NULL) != 0)
         exit(99);
     pthread_join(owner, NULL); /* @joins */
-    pthread_join(user, NULL); /* @joins */
-    return 0;
+    return pthread_join(user, NULL) == 0 ? 0 : shared; /* @joins */
 }
