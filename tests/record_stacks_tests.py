@@ -231,9 +231,9 @@ def named(folder, findings, compiler, level):
     functions = {(name_of(place, source, marks), name) for place, name in functions_of(trace, source).items()}
     wrong = {pair for pair in functions ^ expected(source, "FUNCTION") if pair[0] in marks.values()}
     findings.check(f"the functions of {program.name}", not wrong, f"{wrong} {trace.damage}")
-    for ordered in (trace, Recording(folder, program, "--order").traces[0]):
-        wrong = blocks_of(ordered, source) ^ expected(source, "BLOCK") | given_of(ordered, source) ^ expected(source, "GIVEN")
-        findings.check(f"the blocks of {program.name}", not wrong and not list(in_brackets(ordered)), f"{sorted(wrong)}")
+    for way, found in (("", trace), (" with --order", Recording(folder, program, "--order").traces[0])):
+        wrong = blocks_of(found, source) ^ expected(source, "BLOCK") | given_of(found, source) ^ expected(source, "GIVEN")
+        findings.check(f"the blocks of {program.name}{way}", not wrong and not list(in_brackets(found)), f"{sorted(wrong)}")
     without_debug(folder, findings, program, {pair for pair in functions if pair[0] in marks.values()})
 
 

@@ -170,7 +170,7 @@ static inline uint32_t node_at(uint64_t place)
     return place ? node_of(place, caller_of_event) : 0;
 }
 
-/* The same of memory, where the call around an event serves for a place that is none. */
+/* The same for events of memory: if the place is not known, the node is that of the call around the event. */
 static inline uint32_t node_or_caller(uint64_t place)
 {
     return place ? node_of(place, caller_of_event) : caller_of_event;

@@ -1,5 +1,5 @@
-/* A thread uses memory that another one has freed, and that one then gets the same bytes again. What it does with them races with the use, by both
- * analyses. BLOCK says how many bytes a block has, and the marks of the call that got it and of the calls around that.
+/* The first thread gets memory and frees it, the second one still uses it, and then the first one gets the same bytes again and writes to them. By both
+ * analyses that write races with the use. BLOCK says how many bytes a block has, and the marks of the call that got it and of the calls around that.
  *
  * STACK begins owns
  * STACK uses
