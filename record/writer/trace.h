@@ -53,7 +53,8 @@ static inline void trace_access(struct thread *thread, bool is_write, uint64_t a
 
 /* The trace has the place only if it is in instrumented code, and else that of the call around it, if it is known. */
 void trace_reuse(struct thread *thread, uint64_t address, uint64_t bytes, uint64_t place);
-/* The program got a block of memory, by a call at this place or at that of the call around it, as above. */
+/* The program got a block of memory, by a call at this place or at that of the call around it, as above. If there is neither,
+ * it may be a new thread's stack. */
 void trace_got(uint64_t address, uint64_t bytes, uint64_t place);
 void trace_lock(struct thread *thread, enum verb verb, struct label *lock, uint64_t place);
 void trace_other_thread(uint32_t number, enum verb verb, uint32_t other, uint64_t place);
