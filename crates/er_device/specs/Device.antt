@@ -19,6 +19,14 @@ taken_of device = device.taken
 abbrev pub fresh : {D : Type 0} → D → Device D
 fresh inner = record { inner = inner; failed = false; taken = 0 }
 
+-- the device once what it wraps has changed to this
+abbrev pub with_inner : {D : Type 0} → Device D → D → Device D
+with_inner device inner = record device { inner = inner }
+
+-- the device once so many more bytes were taken, up to the greatest number of 64 bits
+abbrev pub more_taken : {D : Type 0} → Device D → ℕ → Device D
+more_taken device count = record device { taken = min (device.taken + count) (2 ^ 64 - 1) }
+
 -- an error marks the device for good, and nothing else does
 abbrev pub Failing : {X E : Type 0} → Bool → Bool → Result X E → Type 0
 Failing old new result = MatchResult result (λ _. new ≡ old) (λ _. new ≡ true)

@@ -2,7 +2,9 @@
 ghost use Rattle.std.specs.Prelude.{◌≡◌, ◌+◌, ◌-◌, ◌^◌, min, true, ◌<◌, ◌≤◌, length, IfOk};
 ghost use Rattle.std.specs.Io.{ReadsAtMost};
 ghost use Rattle.std.specs.Io.KnownBytes.{ReadConsumes, WriteAppends};
-ghost use Rattle.er_device.specs.Device.{inner_of, has_failed, taken_of, fresh, Failing, CountsTaken, WritesPrefix};
+ghost use Rattle.std.specs.Borrow.{Lends, sem};
+ghost use Rattle.er_device.specs.contracts.device.Device.{the_row};
+ghost use Rattle.er_device.specs.Device.{inner_of, has_failed, taken_of, fresh, with_inner, more_taken, Failing, CountsTaken, WritesPrefix};
 
 use std::io::{Read, Write};
 
@@ -42,6 +44,31 @@ impl<D> Device<D> {
         ensures { result ≡ taken_of self.now }
     {
         self.taken
+    }
+
+    /// Counts bytes that were taken from what it wraps without a read of the device.
+    #[inline(always)]
+    pub fn count_taken(&mut self, count: u64)
+        ensures { self.new ≡ more_taken self.old count }
+    {
+        self.taken = self.taken.saturating_add(count);
+    }
+
+    /// What it wraps, for a look.
+    #[inline(always)]
+    pub fn inner(&self) -> &D
+        ensures { result.now ≡ inner_of self.now }
+    {
+        &self.inner
+    }
+
+    /// What it wraps, for a call of its own.
+    #[inline(always)]
+    pub fn inner_mut(&mut self) -> &mut D
+        ensures* writes_back { sem 𝓛 (Lends (the_row D.row) D.row self.entry result (with_inner self.old)) }
+        ensures value { result.now ≡ inner_of self.old }
+    {
+        &mut self.inner
     }
 
     /// What it wraps.
