@@ -12,3 +12,4 @@ pub mod TurnLemmas
 pub mod SpelledLemmas
 pub mod SaidLemmas
 pub mod ReadingLaws
+pub mod ReadyLaws

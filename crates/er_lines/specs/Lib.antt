@@ -7,4 +7,6 @@ pub mod Places
 pub mod Words
 pub mod Lending
 pub mod Reading
+pub mod Ready
+pub mod Taking
 pub mod Inner

@@ -1,14 +1,17 @@
 //! The lines of a text, one after another, in whatever pieces a reader gives its bytes.
-ghost use Rattle.std.specs.Prelude.{◌≡◌, ◌+◌, ◌++◌, ◌<◌, ◌≤◌, ◌^◌, length, take, OnOk, IfOk, IfSome, IsErrOf, if◌then◌else◌, ℕ, List, Option, false};
+ghost use Rattle.std.specs.Prelude.{◌≡◌, ◌+◌, ◌++◌, ◌<◌, ◌≤◌, ◌^◌, length, take, OnOk, IfOk, IfSome, IsErrOf, true, if◌then◌else◌, ℕ, List, Option, false};
 ghost use Rattle.std.specs.Io.KnownBytes.{Keeps, prepend_known};
 ghost use Rattle.er_device.specs.Device.{inner_of, has_failed, taken_of, Failing};
 ghost use Rattle.er_lines.specs.Lines.{bytes_past_limit, AreWhole};
 ghost use Rattle.er_lines.specs.Faults.{HasFailedBy};
 ghost use Rattle.er_lines.specs.Inner.Windows.{items};
 ghost use Rattle.er_lines.specs.Lending.{taken_by, lines_left, is_ended, front_width, past, past_lines, IsInFront, IsWithin, Finds};
+ghost use Rattle.er_lines.specs.Ready.{is_ready, ready_text};
+ghost use Rattle.er_lines.specs.Taking.{TakesReady};
 
 use crate::bytes::whole_len;
 use crate::faults::{ReadFault, TextKind, fault_at};
+use crate::ready::{ReadyLine, ReadyVerb, Shortcut};
 use crate::windows::{LineEnd, Window};
 use er_device::{Device, Failed};
 use std::alloc::{AllocError, Global};
@@ -177,6 +180,60 @@ impl LineReader {
         self.window.consume(len);
         self.start += len as u64;
     }
+
+    /// Takes the next line before it is text, and passes over it, if it is asked to, nothing was read ahead, and any line is within the limit.
+    #[inline(always)]
+    pub fn take<R: Read, S: Shortcut<R>>(
+        &mut self,
+        reader: &mut Device<R>,
+        shortcut: &S,
+        is_asked: bool,
+    ) -> Option<ReadyLine>
+        ensures taken { TakesReady self.old self.new (R.remaining (inner_of reader.old)) (R.remaining (inner_of reader.new))
+            (S.thread_of (inner_of reader.new)) (S.name_of (inner_of reader.new)) result }
+        ensures asked { IfSome result (λ line. is_asked ≡ true) }
+        ensures limit { self.new.limit ≡ self.old.limit }
+        ensures within { self.new.start ≤ self.new.limit }
+        ensures failed { has_failed reader.new ≡ has_failed reader.old }
+        ensures counted { taken_of reader.new + taken_by self.old ≤ taken_of reader.old + taken_by self.new }
+        ensures most { taken_by self.new ≤ self.new.limit + bytes_past_limit }
+    {
+        if !is_asked || !self.window.is_empty() || self.limit - self.start < 1025 {
+            return None;
+        }
+        let line = shortcut.take(reader.inner_mut())?;
+        let inner = reader.inner();
+        let width = width(
+            line,
+            shortcut.thread(inner, line),
+            shortcut.name(inner, line),
+        );
+        reader.count_taken(width);
+        self.number += 1;
+        self.start += width;
+        Some(line)
+    }
+}
+
+/// How many bytes the text of a ready line takes, its LF included.
+#[inline(always)]
+fn width(line: ReadyLine, thread: &[u8], name: &[u8]) -> u64
+    requires { is_ready line.verb line.address thread.now name.now ≡ true }
+    ensures value { result ≡ length (ready_text line.verb line.address thread.now name.now) }
+    ensures some { 1 ≤ result }
+    ensures most { result ≤ 1025 }
+{
+    // The verb, the address, a space before each of them, and the LF.
+    let fixed = match line.verb {
+        ReadyVerb::Read => 21,
+        ReadyVerb::Write => 22,
+        ReadyVerb::Lock => 6,
+        ReadyVerb::Unlock => 8,
+        ReadyVerb::ReadLock => 7,
+        ReadyVerb::ReadUnlock => 9,
+    };
+    let named = if name.is_empty() { 0 } else { name.len() + 1 };
+    (thread.len() + fixed + named) as u64
 }
 
 impl FrontLine {

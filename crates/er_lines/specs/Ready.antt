@@ -1,0 +1,51 @@
+-- Lines of a trace that were never made as text.
+use Rattle.std.specs.Prelude.{ℕ, ◌%◌, ◌^◌, ◌==◌, ◌||◌, ◌&&◌, Bool, not, List, [], ◌∷◌, ◌++◌, Option, Some, None, nat_lt, codes, if◌then◌else◌}
+use Rattle.std.specs.Io.KnownBytes.{Consumes, Keeps}
+use Rattle.std.specs.Str.{bytes_eq}
+use Rattle.er_lines.specs.Lines.{has_bytes}
+use Rattle.er_lines.specs.Naming.{is_name, is_lock_name, is_site_name}
+use Rattle.er_lines.specs.Number.{hex_digits}
+use Rattle.er_lines.specs.declared.ready.ReadyLine.{ReadyLine}
+use Rattle.er_lines.specs.declared.ready.ReadyVerb.{ReadyVerb}
+use Rattle.er_lines.specs.declared.ready.ReadyVerb.TheVariants as does
+
+abbrev pub verb_text : ReadyVerb → List ℕ
+verb_text does.Read = codes "read"
+verb_text does.Write = codes "write"
+verb_text does.Lock = codes "lock"
+verb_text does.Unlock = codes "unlock"
+verb_text does.ReadLock = codes "rlock"
+verb_text does.ReadUnlock = codes "runlock"
+
+-- a space and a name, if there is one
+abbrev pub name_word : List ℕ → List ℕ
+name_word name = if has_bytes name then 32 ∷ name else []
+
+-- the words behind the verb: an address and maybe a site, or a lock
+abbrev pub operands_text : ReadyVerb → ℕ → List ℕ → List ℕ
+operands_text does.Read address site = (codes " 0x" ++ hex_digits 12 address) ++ name_word site
+operands_text does.Write address site = (codes " 0x" ++ hex_digits 12 address) ++ name_word site
+operands_text v address lock = 32 ∷ lock
+
+-- a line: its verb, its address, its thread, and its site or lock
+unfoldable pub ready_text : ReadyVerb → ℕ → List ℕ → List ℕ → List ℕ
+ready_text v address thread name = (thread ++ 32 ∷ verb_text v) ++ operands_text v address name ++ 10 ∷ []
+
+-- no site, or one that isn't the word for none
+abbrev pub is_maybe_site : List ℕ → Bool
+is_maybe_site site = not (has_bytes site) || (not (bytes_eq site (codes "-")) && is_site_name site)
+
+-- an address of a word below 2^48 and maybe a site, or a lock
+abbrev pub are_operands : ReadyVerb → ℕ → List ℕ → Bool
+are_operands does.Read address site = (address % 4 == 0) && nat_lt address (2 ^ 48) && is_maybe_site site
+are_operands does.Write address site = (address % 4 == 0) && nat_lt address (2 ^ 48) && is_maybe_site site
+are_operands v address lock = is_lock_name lock
+
+-- a line that the text of a trace may have
+unfoldable pub is_ready : ReadyVerb → ℕ → List ℕ → List ℕ → Bool
+is_ready v address thread name = is_name thread && are_operands v address name
+
+-- what is left when a line was taken, by its text: what is behind it. None changes nothing
+abbrev pub HasTaken : Option (List ℕ) → Option (List ℕ) → (ReadyLine → List ℕ) → Option ReadyLine → Type 0
+HasTaken old new text None = Keeps old new
+HasTaken old new text (Some line) = Consumes old new (text line)
