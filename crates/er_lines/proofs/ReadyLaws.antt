@@ -1,7 +1,7 @@
 -- A line that was never made as text: what its text is made of, how long it is, and that it is the next line.
 use Rattle.std.proofs.Common.{◌≡◌, ℕ, zero, suc, ◌+◌, ◌*◌, ◌/◌, ◌%◌, ◌^◌, ◌==◌, ◌<◌, ◌≤◌, Bool, true, false, not, ◌&&◌, ◌||◌, cond, List, [], ◌∷◌, ◌++◌, length, nat_lt, nat_le, nat_eq, codes, Option, Some, None, refl, sym, ap, ◌∙◌, subst, append_assoc, arith}
 use Rattle.std.specs.Char.{digit_char, digit_value, is_digit}
-use Rattle.std.specs.Io.KnownBytes.{Consumes, prepend_known}
+use Rattle.std.specs.Io.KnownBytes.{Consumes}
 use Rattle.std.specs.List.{list_all}
 use Rattle.std.specs.Str.{bytes_eq}
 use Rattle.std.specs.Str.Parse.{digits_value}
@@ -14,7 +14,7 @@ use Rattle.std.proofs.lemmas.List.Folds.{list_all-append}
 use Rattle.std.proofs.lemmas.List.Sums.{AllPass-from_list_all, list_all-from_AllPass}
 use Rattle.std.proofs.lemmas.Str.{digit_value-digit_char}
 use Rattle.er_lines.specs.Lending.{LineThen, lines_left, limit_fault}
-use Rattle.er_lines.specs.Lines.{Line, Placed, has_bytes, is_end, lines_of, onto_line, placed_from, width}
+use Rattle.er_lines.specs.Lines.{Line, has_bytes, is_end, lines_of, onto_line, placed_from, width}
 use Rattle.er_lines.specs.Naming.{is_name, is_name_byte, is_lock_name, is_site_name, is_site_byte}
 use Rattle.er_lines.specs.Number.{hex_digits}
 use Rattle.er_lines.specs.Places.{Place}

@@ -1,7 +1,6 @@
 -- The bytes around the names, and the names.
-use Rattle.std.proofs.Common.{◌≡◌, ℕ, ◌+◌, ◌≤◌, List, length, nat_eq, Bool, true, false, sym, ap, ◌∙◌, refl, subst, arith, rules}
+use Rattle.std.proofs.Common.{◌≡◌, ◌+◌, length, nat_eq, false, sym, ap, ◌∙◌, arith, rules}
 use Rattle.er_lines.specs.Ready.{ready_text}
-use Rattle.er_lines.specs.declared.ready.ReadyVerb.{ReadyVerb}
 use Rattle.er_lines.proofs.ReadyLaws.{fixed_width, named_width, named_none, named_some, ready_size, text_short}
 use Rattle.er_lines.proofs.lines.width.Goals as goal
 use Rattle.er_lines.proofs.lines.width.Goals.{in-Read, in-Write, in-Lock, in-Unlock, in-ReadLock, in-ReadUnlock, then-is_empty, else-is_empty}

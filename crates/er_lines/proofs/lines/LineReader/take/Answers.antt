@@ -1,9 +1,8 @@
 -- The line that the shortcut took is the next one.
-use Rattle.std.proofs.Common.{◌≡◌, ◌+◌, ◌≤◌, length, refl, subst, arith, rules}
+use Rattle.std.proofs.Common.{◌+◌, refl, subst, rules}
 use Rattle.er_device.specs.Device.{inner_of}
 use Rattle.er_lines.specs.Inner.Windows.{items}
 use Rattle.er_lines.specs.Places.{Place}
-use Rattle.er_lines.specs.Ready.{is_ready, ready_text}
 use Rattle.er_lines.specs.Taking.{TakesLine}
 use Rattle.er_lines.proofs.ReadyLaws.{line_taken}
 use Rattle.er_lines.proofs.lines.LineReader.take.Goals as goal
