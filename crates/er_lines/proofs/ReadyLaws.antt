@@ -101,7 +101,7 @@ pub record IsReadyAccess (address : ℕ) (site : List ℕ) : Type 0 where
   pub small : address < 2 ^ 48
   pub site_is : is_maybe_site site ≡ true
 
-access_parts : (address : ℕ) (site : List ℕ) → ((address % 4 == 0) && nat_lt address (2 ^ 48) && is_maybe_site site) ≡ true → IsReadyAccess address site
+pub access_parts : (address : ℕ) (site : List ℕ) → ((address % 4 == 0) && nat_lt address (2 ^ 48) && is_maybe_site site) ≡ true → IsReadyAccess address site
 access_parts address site right =
     let p = and_parts ((address % 4 == 0) && nat_lt address (2 ^ 48)) (is_maybe_site site) right in
     let q = and_parts (address % 4 == 0) (nat_lt address (2 ^ 48)) p.0 in
@@ -258,5 +258,6 @@ line_taken at new old known v address thread name width empty right takes room s
       right = right;
       first = subst (λ (p : Place). LineThen (lines_left at old) (ready_placed at v address thread name) (lines_left p known)) (sym past) (ready_first at old known v address thread name empty right takes);
       fits = ready_within at v address thread name right room;
+      some = omega (arith, ap (λ (p : Place). p.start) past, text_size v address thread name);
       past = past;
     }

@@ -1,5 +1,5 @@
 -- Lines that a reader of lines takes before they are text.
-use Rattle.std.specs.Prelude.{◌≡◌, ℕ, ◌+◌, true, List, ◌∷◌, ◌++◌, Option, Some, None, length}
+use Rattle.std.specs.Prelude.{◌≡◌, ℕ, ◌+◌, ◌<◌, true, List, ◌∷◌, ◌++◌, Option, Some, None, length}
 use Rattle.std.specs.Io.KnownBytes.{Keeps}
 use Rattle.er_lines.specs.Lending.{LineThen, lines_left, limit_fault}
 use Rattle.er_lines.specs.Lines.{Placed}
@@ -25,6 +25,7 @@ pub record TakesLine (old new : Place) (before behind : Option (List ℕ)) (v : 
   pub right : is_ready v address thread name ≡ true
   pub first : LineThen (lines_left old before) (ready_placed old v address thread name) (lines_left new behind)
   pub fits : limit_fault old.limit (ready_placed old v address thread name) ≡ None
+  pub some : old.start < new.start
   pub past : new ≡ past_unread old (length (ready_text v address thread name))
 
 -- a line was taken, or nothing changed

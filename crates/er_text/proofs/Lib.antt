@@ -3,6 +3,7 @@ pub mod FastPathLemmas
 mod DigitLanes
 pub mod FastPathLaws
 pub mod UsualLemmas
+pub mod ReadyLemmas
 pub mod SpellingLaws
 pub mod SiteLemmas
 pub mod FaultTables

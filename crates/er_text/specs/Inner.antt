@@ -5,3 +5,4 @@ pub mod Traces
 pub mod Endings
 pub mod FastPath
 pub mod Pieces
+pub mod Ready

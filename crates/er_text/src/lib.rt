@@ -37,6 +37,7 @@ mod naming;
 mod parsing;
 mod pieces;
 mod reading;
+mod ready;
 mod stages;
 mod verbs;
 

@@ -23,10 +23,13 @@ use crate::adding::add_steps;
 use crate::endings::{Ending, Lost, comment_past, if_any_lost, is_of_third, lacks_end};
 use crate::fast_path::add_usual;
 use crate::parsing::{ParsedLine, is_end, parse, version_of};
+use crate::ready::add_ready;
 use crate::stages::{IdleThreads, Stage, is_known_thread};
 use crate::verbs::Version;
 use er_device::Device;
-use er_lines::{LineReader, ReadFault, TextKind, fault_at, is_ascii, says_something, split_words};
+use er_lines::{
+    LineReader, ReadFault, Shortcut, TextKind, fault_at, is_ascii, says_something, split_words,
+};
 use er_trace::{NameKeys, Trace};
 use std::alloc::{AllocError, Global};
 use std::io::Read;
@@ -240,9 +243,9 @@ impl TraceReader {
         self.lines.ahead()
     }
 
-    /// Reads the next line, and says whether there was one.
+    /// Reads the next line of the text, and says whether there was one.
     #[inline(always)]
-    fn next_line<R: Read>(
+    fn next_text_line<R: Read>(
         &mut self,
         reader: &mut Device<R>,
         trace: &mut Trace,
@@ -270,6 +273,39 @@ impl TraceReader {
         Ok(true)
     }
 
+    /// Reads the next line, and says whether there was one. The shortcut may have it ready in a text of the last version.
+    #[inline(always)]
+    fn next_line<R: Read, S: Shortcut<R>>(
+        &mut self,
+        reader: &mut Device<R>,
+        shortcut: &S,
+        trace: &mut Trace,
+    ) -> Result<bool, ReadFault>
+        requires { has_failed reader.old ≡ false }
+        ensures turn { Turns self.old.place.limit read_content (lines_left self.old.place (R.remaining (inner_of reader.old)))
+            (lines_left self.new.place (R.remaining (inner_of reader.new))) (progress self.old trace.old) (progress self.new trace.new) result }
+        ensures tail { PassesTail (lines_left self.old.place (R.remaining (inner_of reader.old))) (lines_left self.new.place (R.remaining (inner_of reader.new))) self.old.tail self.new.tail result }
+        ensures grows { OnOk result (Grows trace.old trace.new) }
+        ensures limit { self.new.place.limit ≡ self.old.place.limit }
+        ensures more { IfOk result (λ more. more ≡ true → self.old.place.start < self.new.place.start) }
+        ensures within { self.new.place.start ≤ self.new.place.limit }
+        ensures failed { HasFailedBy (has_failed reader.new) result }
+        ensures taken { taken_of reader.new + taken_by self.old.place ≤ taken_of reader.old + taken_by self.new.place }
+        ensures most { taken_by self.new.place ≤ self.new.place.limit + bytes_past_limit }
+    {
+        let line = self.lines.number();
+        let is_asked = self.header.stage == Stage::Events(Version::Three);
+        let Some(ready) = self.lines.take(reader, shortcut, is_asked) else {
+            return self.next_text_line(reader, trace);
+        };
+        let inner = reader.inner();
+        let (thread, name) = (shortcut.thread(inner, ready), shortcut.name(inner, ready));
+        add_ready(trace, line, ready, thread, name)?;
+        self.header.idle.remove_last(trace.steps());
+        self.cut = false;
+        Ok(true)
+    }
+
     /// What was read, at the end of the text: a trace, if there was a header.
     fn finish(&self) -> Done
         ensures ok { OnOk result (self.now.stage ≡ Stage.Front → ⊥) }
@@ -292,14 +328,15 @@ impl TraceReader {
         ensures failed { HasFailedBy (has_failed reader.new) result }
         ensures taken { taken_of reader.new + taken_by self.old.place ≤ taken_of reader.old + self.old.place.limit + bytes_past_limit }
     {
-        while self.next_line(reader, trace)? {}
+        while self.next_text_line(reader, trace)? {}
         self.finish()
     }
 
     /// Reads at least one line and at most `most_lines`, until the trace has 131,072 steps.
-    fn read_batch<R: Read>(
+    fn read_batch<R: Read, S: Shortcut<R>>(
         &mut self,
         reader: &mut Device<R>,
+        shortcut: &S,
         trace: &mut Trace,
         most_lines: u32,
     ) -> Result<Batch, ReadFault>
@@ -319,7 +356,7 @@ impl TraceReader {
         // What is known of the place, also if no line is asked for.
         let _line = self.lines.number();
         for _ in 0..most_lines {
-            if !self.next_line(reader, trace)? {
+            if !self.next_line(reader, shortcut, trace)? {
                 self.finish()?;
                 return Ok(Batch::End);
             }
@@ -331,13 +368,14 @@ impl TraceReader {
     }
 
     /// Reads the next `most_lines` lines, or those up to the end of the text, and adds their steps to the trace. It stops behind the line that
-    /// brings the trace to 131,072 steps, since a line of a long reuse has up to 1,025.
+    /// brings the trace to 131,072 steps, since a line of a long reuse has up to 1,025. The shortcut may have lines ready.
     ///
     /// A text that ends without a header has a fault at its end. After a fault the reader is not to be called again: nothing is known
     /// of what it would read.
-    pub fn next_batch<R: Read>(
+    pub fn next_batch<R: Read, S: Shortcut<R>>(
         &mut self,
         reader: &mut Device<R>,
+        shortcut: &S,
         trace: &mut Trace,
         most_lines: u32,
     ) -> Result<Batch, ReadFault>
@@ -368,7 +406,7 @@ impl TraceReader {
         ensures taken { taken_of reader.new + taken_by self.old.place ≤ taken_of reader.old + taken_by self.new.place }
         ensures most { taken_by self.new.place ≤ self.new.place.limit + bytes_past_limit }
     {
-        self.read_batch(reader, trace, most_lines)
+        self.read_batch(reader, shortcut, trace, most_lines)
     }
 
     /// How the text ended, once a batch was the last.

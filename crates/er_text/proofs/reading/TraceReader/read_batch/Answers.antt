@@ -29,6 +29,9 @@ loop-init g c =
 pub returns-then-not-branch-clause-grows : goal.returns-then-not-branch-clause-grows
 returns-then-not-branch-clause-grows g c = grows_on _ _ _ c.loop.invariant.grows c.in_ok-next_line.ensures.grows
 
+pub returns-then-steps-ge-BATCH_STEPS-clause-grows : goal.returns-then-steps-ge-BATCH_STEPS-clause-grows
+returns-then-steps-ge-BATCH_STEPS-clause-grows g c = grows_on _ _ _ c.loop.invariant.grows c.in_ok-next_line.ensures.grows
+
 pub loop-preserved : goal.loop-preserved
 loop-preserved g c =
     let old = c.loop.invariant in

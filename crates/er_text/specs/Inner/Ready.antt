@@ -1,0 +1,25 @@
+-- What a line says that was never made as text. No public clause cites this module.
+use Rattle.std.specs.Prelude.{ℕ, ◌/◌, List, Option, Some, None, if◌then◌else◌}
+use Rattle.er_event.specs.declared.steps.Kind.TheVariants as kind
+use Rattle.er_event.specs.declared.steps.Mode.TheVariants as mode
+use Rattle.er_lines.specs.Lines.{has_bytes}
+use Rattle.er_lines.specs.declared.ready.ReadyVerb.{ReadyVerb}
+use Rattle.er_lines.specs.declared.ready.ReadyVerb.TheVariants as does
+use Rattle.er_text.specs.Events.{Operation, Acquires, Releases, Accesses, EventLine}
+
+-- the site of this name, if it has bytes
+abbrev pub site_if : List ℕ → Option (List ℕ)
+site_if name = if has_bytes name then Some name else None
+
+-- what the thread does: the address is an access's, the name a site's or a lock's
+abbrev pub ready_operation : ReadyVerb → ℕ → List ℕ → Operation
+ready_operation does.Read address name = Accesses kind.Read (address / 4) (site_if name)
+ready_operation does.Write address name = Accesses kind.Write (address / 4) (site_if name)
+ready_operation does.Lock address name = Acquires name mode.Write
+ready_operation does.Unlock address name = Releases name mode.Write
+ready_operation does.ReadLock address name = Acquires name mode.Read
+ready_operation does.ReadUnlock address name = Releases name mode.Read
+
+-- the line's thread does it
+abbrev pub ready_event : ReadyVerb → ℕ → List ℕ → List ℕ → EventLine
+ready_event v address thread name = record { thread = thread; operation = ready_operation v address name }
