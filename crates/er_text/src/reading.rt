@@ -28,7 +28,7 @@ use crate::stages::{IdleThreads, Stage, is_known_thread};
 use crate::verbs::Version;
 use er_device::Device;
 use er_lines::{
-    LineReader, ReadFault, Shortcut, TextKind, fault_at, is_ascii, says_something, split_words,
+    ByText, LineReader, ReadFault, Shortcut, TextKind, fault_at, is_ascii, says_something, split_words,
 };
 use er_trace::{NameKeys, Trace};
 use std::alloc::{AllocError, Global};
@@ -243,36 +243,6 @@ impl TraceReader {
         self.lines.ahead()
     }
 
-    /// Reads the next line of the text, and says whether there was one.
-    #[inline(always)]
-    fn next_text_line<R: Read>(
-        &mut self,
-        reader: &mut Device<R>,
-        trace: &mut Trace,
-    ) -> Result<bool, ReadFault>
-        requires { has_failed reader.old ≡ false }
-        ensures turn { Turns self.old.place.limit read_content (lines_left self.old.place (R.remaining (inner_of reader.old)))
-            (lines_left self.new.place (R.remaining (inner_of reader.new))) (progress self.old trace.old) (progress self.new trace.new) result }
-        ensures tail { PassesTail (lines_left self.old.place (R.remaining (inner_of reader.old))) (lines_left self.new.place (R.remaining (inner_of reader.new))) self.old.tail self.new.tail result }
-        ensures grows { OnOk result (Grows trace.old trace.new) }
-        ensures limit { self.new.place.limit ≡ self.old.place.limit }
-        ensures more { IfOk result (λ more. more ≡ true → self.old.place.start < self.new.place.start) }
-        ensures within { self.new.place.start ≤ self.new.place.limit }
-        ensures failed { HasFailedBy (has_failed reader.new) result }
-        ensures taken { taken_of reader.new + taken_by self.old.place ≤ taken_of reader.old + taken_by self.new.place }
-        ensures most { taken_by self.new.place ≤ self.new.place.limit + bytes_past_limit }
-    {
-        let Some(front) = self.lines.find(reader)? else {
-            return Ok(false);
-        };
-        let line = self.lines.number();
-        let bytes = self.lines.bytes(front);
-        self.header.read_plain(trace, line, bytes)?;
-        self.lines.pass(front);
-        self.cut = !front.is_ended();
-        Ok(true)
-    }
-
     /// Reads the next line, and says whether there was one. The shortcut may have it ready in a text of the last version.
     #[inline(always)]
     fn next_line<R: Read, S: Shortcut<R>>(
@@ -296,7 +266,14 @@ impl TraceReader {
         let line = self.lines.number();
         let is_asked = self.header.stage == Stage::Events(Version::Three);
         let Some(ready) = self.lines.take(reader, shortcut, is_asked) else {
-            return self.next_text_line(reader, trace);
+            let Some(front) = self.lines.find(reader)? else {
+                return Ok(false);
+            };
+            let bytes = self.lines.bytes(front);
+            self.header.read_plain(trace, line, bytes)?;
+            self.lines.pass(front);
+            self.cut = !front.is_ended();
+            return Ok(true);
         };
         let inner = reader.inner();
         let (thread, name) = (shortcut.thread(inner, ready), shortcut.name(inner, ready));
@@ -328,7 +305,7 @@ impl TraceReader {
         ensures failed { HasFailedBy (has_failed reader.new) result }
         ensures taken { taken_of reader.new + taken_by self.old.place ≤ taken_of reader.old + self.old.place.limit + bytes_past_limit }
     {
-        while self.next_text_line(reader, trace)? {}
+        while self.next_line(reader, &ByText, trace)? {}
         self.finish()
     }
 

@@ -1,11 +1,11 @@
 -- A line that was taken is the next of what is left, and its step was added.
-use Rattle.std.proofs.Common.{◌≡◌, ◌+◌, ◌<◌, ℕ, List, true, false, Ok, Some, Option, refl, subst, sym, ap, ◌∙◌, rules}
+use Rattle.std.proofs.Common.{◌≡◌, ◌+◌, ◌<◌, ℕ, List, true, false, not, Ok, Option, subst, sym, ap, ◌∙◌, rules}
+use Rattle.std.proofs.lemmas.Result.{err_from_is_err_and}
 use Rattle.er_device.specs.Device.{inner_of}
-use Rattle.er_text.specs.declared.stages.Stage.{Stage}
 use Rattle.er_text.specs.declared.stages.Stage.TheVariants.{Events}
 use Rattle.er_text.specs.declared.verbs.Version.TheVariants.{Three}
 use Rattle.er_text.specs.Places.{Reached}
-use Rattle.er_lines.specs.Lending.{lines_left}
+use Rattle.er_lines.specs.Lending.{front_line, lines_left, LineThen}
 use Rattle.er_lines.specs.Lines.{Placed}
 use Rattle.er_lines.specs.Places.{Place}
 use Rattle.er_lines.specs.declared.ready.ReadyLine.{ReadyLine}
@@ -15,12 +15,13 @@ use Rattle.er_lines.proofs.TurnLemmas.{turn_on}
 use Rattle.er_text.specs.Inner.Endings.{KeepsTail}
 use Rattle.er_text.specs.Inner.Idle.{last_actor}
 use Rattle.er_text.specs.Inner.Traces.{at_line, plain_at, progress, read_content}
-use Rattle.er_text.proofs.GrowthLemmas.{line_grows}
+use Rattle.er_text.proofs.GrowthLemmas.{grows_not, line_grows}
+use Rattle.er_text.proofs.PlaceLemmas.{kept_first, trace_fails, trace_on, trace_tail}
 use Rattle.er_text.proofs.ReadyLemmas.{ready_read, ready_tail}
 use Rattle.er_text.proofs.TailLemmas.{tail_on}
 use Rattle.er_text.proofs.reading.TraceReader.next_line.Goals as goal
 
-module _ (g : _) (c : goal.After-self-1 g) where
+module _ (g : _) (c : goal.After-self-2-1 g) where
   abbrev line : ReadyLine
   line = c.in-Some.ready
 
@@ -70,3 +71,55 @@ returns-clause-grows g c = line_grows (inside g c).place.number (ready_bytes (li
 
 pub returns-clause-more : goal.returns-clause-more
 returns-clause-more g c = λ e. let P : Reached → Type 0 = λ r. r.place.start < c.take.new.self.start in subst P c.self.view_is c.in-Some.ensures.taken.some
+
+pub returns-in_default-2-clause-grows : goal.returns-in_default-2-clause-grows
+returns-in_default-2-clause-grows g c = grows_not c.args.trace.now
+
+pub returns-in_err-read_plain-clause-turn : goal.returns-in_err-read_plain-clause-turn
+returns-in_err-read_plain-clause-turn g c =
+    let e = err_from_is_err_and c.from_residual-in_err-read_plain.result c.from_residual-in_err-read_plain.ensures.1 in
+    let found = rw c.in-Some-2.is at c.in_ok-front.ensures.found in
+    let was : Reached = record { place = c.self.inside.lines; stage = c.self.inside.header.stage; idle = c.self.inside.header.idle; tail = record { cut = c.self.inside.cut; comment = c.self.inside.header.comment } } in
+    let new : Reached = record { place = c.find.new.self; stage = c.read_plain.new.self.stage; idle = c.read_plain.new.self.idle; tail = record { cut = c.self.inside.cut; comment = c.self.inside.header.comment } } in
+    let kept = c.in_default.ensures.taken in
+    let number : c.find.new.self.number ≡ was.place.number = c.in_ok-front.ensures.number ∙ ap (λ (p : Place). p.number) kept.0 in
+    let P : Reached → Type 0 = λ r. Turns r.place.limit read_content (lines_left r.place (g.R.Read.remaining (inner_of c.args.reader.now)))
+    (lines_left c.find.new.self (g.R.Read.remaining (inner_of c.find.new.reader))) (progress r c.args.trace.now) (progress new c.read_plain.new.trace) c.from_residual-in_err-read_plain.result in
+    subst P c.self.view_is (rw (e.1, e.2) (trace_fails was c.find.new.self c.in-Some-2.front _ _ _ c.args.trace.now c.number-line.result c.bytes-bytes.result.now _ (at_line (c.number-line.result + 1) c.read_plain.new.self.stage c.read_plain.new.self.idle c.read_plain.new.trace) c.in_err-read_plain.field-0.0
+    (kept_first was.place c.take.new.self _ _ _ _ kept found.0) found.1 (c.in_ok-front.ensures.limit ∙ c.in_default.ensures.limit) number (c.number-line.ensures.value ∙ sym number) c.bytes-bytes.ensures c.in_err-read_plain.ensures.read))
+
+pub returns-in_default-clause-turn : goal.returns-in_default-clause-turn
+returns-in_default-clause-turn g c =
+    let found = rw c.in-Some-2.is at c.in_ok-front.ensures.found in
+    let was : Reached = record { place = c.self.inside.lines; stage = c.self.inside.header.stage; idle = c.self.inside.header.idle; tail = record { cut = c.self.inside.cut; comment = c.self.inside.header.comment } } in
+    let kept = c.in_default.ensures.taken in
+    let number : c.find.new.self.number ≡ was.place.number = c.in_ok-front.ensures.number ∙ ap (λ (p : Place). p.number) kept.0 in
+    let same : c.number-line.result ≡ c.find.new.self.number = c.number-line.ensures.value ∙ sym number in
+    let next : c.number-line.result + 1 ≡ c.pass.new.self.number = ap (λ (n : ℕ). n + 1) same ∙ sym (ap (λ (p : Place). p.number) c.pass.ensures) in
+    let rest = lines_left c.pass.new.self (g.R.Read.remaining (inner_of c.find.new.reader)) in
+    let left = lines_left was.place (g.R.Read.remaining (inner_of c.args.reader.now)) in
+    let line = front_line c.find.new.self c.in-Some-2.front in
+    let first : LineThen left line rest = subst (λ (p : Place). LineThen left line (lines_left p (g.R.Read.remaining (inner_of c.find.new.reader)))) (sym c.pass.ensures) (kept_first was.place c.take.new.self _ _ _ _ kept found.0) in
+    let P : Reached → Type 0 = λ r. Turns r.place.limit read_content (lines_left r.place (g.R.Read.remaining (inner_of c.args.reader.now))) rest (progress r c.args.trace.now)
+    (at_line c.pass.new.self.number c.read_plain.new.self.stage c.read_plain.new.self.idle c.read_plain.new.trace) (Ok true) in
+    subst P c.self.view_is (trace_on was c.find.new.self c.in-Some-2.front left rest c.args.trace.now c.number-line.result c.bytes-bytes.result.now _ first found.1 (c.in_ok-front.ensures.limit ∙ c.in_default.ensures.limit) number same c.bytes-bytes.ensures
+    (c.in_ok-read_plain.ensures.read ∙ ap (λ (n : ℕ). Ok (at_line n c.read_plain.new.self.stage c.read_plain.new.self.idle c.read_plain.new.trace)) next))
+
+pub returns-in_default-clause-tail : goal.returns-in_default-clause-tail
+returns-in_default-clause-tail g c =
+    let found = rw c.in-Some-2.is at c.in_ok-front.ensures.found in
+    let was : Reached = record { place = c.self.inside.lines; stage = c.self.inside.header.stage; idle = c.self.inside.header.idle; tail = record { cut = c.self.inside.cut; comment = c.self.inside.header.comment } } in
+    let kept = c.in_default.ensures.taken in
+    let number : c.find.new.self.number ≡ was.place.number = c.in_ok-front.ensures.number ∙ ap (λ (p : Place). p.number) kept.0 in
+    let rest = lines_left c.pass.new.self (g.R.Read.remaining (inner_of c.find.new.reader)) in
+    let left = lines_left was.place (g.R.Read.remaining (inner_of c.args.reader.now)) in
+    let line = front_line c.find.new.self c.in-Some-2.front in
+    let first : LineThen left line rest = subst (λ (p : Place). LineThen left line (lines_left p (g.R.Read.remaining (inner_of c.find.new.reader)))) (sym c.pass.ensures) (kept_first was.place c.take.new.self _ _ _ _ kept found.0) in
+    let P : Reached → Type 0 = λ r. KeepsTail (lines_left r.place (g.R.Read.remaining (inner_of c.args.reader.now))) rest r.tail (record { cut = not c.is_ended.result; comment = c.read_plain.new.self.comment }) in
+    subst P c.self.view_is (tail_on left rest line was.tail _ first
+    (trace_tail was.tail c.find.new.self c.in-Some-2.front c.is_ended.result c.read_plain.new.self.comment c.number-line.result c.bytes-bytes.result.now c.is_ended.ensures c.in_ok-read_plain.ensures.comment (c.number-line.ensures.value ∙ sym number) c.bytes-bytes.ensures))
+
+pub returns-in_default-clause-grows : goal.returns-in_default-clause-grows
+returns-in_default-clause-grows g c =
+    line_grows c.number-line.result c.bytes-bytes.result.now (at_line c.number-line.result c.self.inside.header.stage c.self.inside.header.idle c.args.trace.now)
+    (at_line (c.number-line.result + 1) c.read_plain.new.self.stage c.read_plain.new.self.idle c.read_plain.new.trace) c.in_ok-read_plain.ensures.read

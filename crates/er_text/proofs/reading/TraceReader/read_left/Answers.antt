@@ -8,15 +8,15 @@ use Rattle.er_text.specs.Inner.Traces.{Progress, progress, read_content}
 use Rattle.er_text.proofs.PlaceLemmas.{fault_ends}
 use Rattle.er_text.proofs.reading.TraceReader.read_left.Goals as goal
 
-pub returns-in_err-next_text_line-clause-fault : goal.returns-in_err-next_text_line-clause-fault
-returns-in_err-next_text_line-clause-fault g c =
+pub returns-in_err-next_line-clause-fault : goal.returns-in_err-next_line-clause-fault
+returns-in_err-next_line-clause-fault g c =
     let e = err_from_is_err_and c.from_residual.result c.from_residual.ensures.1 in
     let old = c.loop.invariant in
     let left = lines_left c.loop.self.place (g.R.Read.remaining (inner_of c.loop.reader)) in
-    let rest = lines_left c.next_text_line.new.self.place (g.R.Read.remaining (inner_of c.next_text_line.new.reader)) in
+    let rest = lines_left c.next_line.new.self.place (g.R.Read.remaining (inner_of c.next_line.new.reader)) in
     let p : Progress = progress c.loop.self c.loop.trace in
-    let q : Progress = progress c.next_text_line.new.self c.next_text_line.new.trace in
-    let fault = c.in_err-next_text_line.field-0.0 in
+    let q : Progress = progress c.next_line.new.self c.next_line.new.trace in
+    let fault = c.in_err-next_line.field-0.0 in
     let turn : Turns c.args.self.now.place.limit read_content left rest p q (Err fault) =
-    subst (λ (l : ℕ). Turns l read_content left rest p q (Err fault)) old.limit c.in_err-next_text_line.ensures.turn in
+    subst (λ (l : ℕ). Turns l read_content left rest p q (Err fault)) old.limit c.in_err-next_line.ensures.turn in
     rw (e.1, e.2) (fault_ends c.args.self.now.place.limit _ left rest p q fault old.goes_on turn)
