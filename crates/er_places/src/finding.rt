@@ -14,6 +14,7 @@ use crate::wanted::{Numbers, Wanted, to_rising};
 use crate::{Facts, Places};
 use er_device::Device;
 use er_report::Reports;
+use er_lines::ByText;
 use er_text::{Batch, ReadFault, TraceReader};
 use er_trace::{NameKeys, Trace};
 use std::alloc::{AllocError, Global};
@@ -36,7 +37,7 @@ impl Finder {
         ensures limit { IfOk result (λ finder. finder.lines.place.limit ≡ byte_limit) }
         ensures taken { IfOk result (λ finder. taken_by finder.lines.place ≡ 0) }
     {
-        let lines = TraceReader::new(alloc, byte_limit)?;
+        let lines = TraceReader::with_window(alloc, byte_limit, 65_536)?;
         Ok(Finder {
             lines,
             trace: Trace::keyed(alloc, keys),
@@ -60,7 +61,7 @@ impl Finder {
         ensures taken { taken_of reader.new + taken_by self.old.lines.place ≤ taken_of reader.old + taken_by self.new.lines.place }
         ensures most { taken_by self.new.lines.place ≤ self.new.lines.place.limit + bytes_past_limit }
     {
-        let batch = self.lines.next_batch(reader, &mut self.trace, BATCH_LINES)?;
+        let batch = self.lines.next_batch(reader, &ByText, &mut self.trace, BATCH_LINES)?;
         self.follower.follow(wanted, &self.trace)?;
         match batch {
             Batch::End => Ok(false),

@@ -194,17 +194,10 @@ fn read_front(
     let Ok(()) = header.read_plain(trace, line, &bytes[..len]) else {
         return None;
     };
-    if !header.is_open(version) {
+    if header.stage != Stage::Events(version) || !header.idle.is_empty() {
         return None;
     }
     Some(len + 1)
-}
-
-/// Whether the line before lacks its LF, behind so many bytes of whole lines.
-fn cut_behind(before: bool, len: usize) -> bool
-    ensures { result ≡ (before && nat_eq len 0) }
-{
-    before && len == 0
 }
 
 /// What the last comment says behind a piece, whose first line has this number.
@@ -269,7 +262,7 @@ impl TraceReader {
         let (lines, len, comment) = (piece.lines, piece.len, piece.comment);
         piece.give_steps(trace)?;
         self.lines.pass_lines(lines, len);
-        self.cut = cut_behind(self.cut, len);
+        self.cut = self.cut && len == 0;
         self.header.comment = comment_behind(line, self.header.comment, comment);
         Ok(())
     }

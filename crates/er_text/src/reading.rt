@@ -28,7 +28,8 @@ use crate::stages::{IdleThreads, Stage, is_known_thread};
 use crate::verbs::Version;
 use er_device::Device;
 use er_lines::{
-    ByText, LineReader, ReadFault, Shortcut, TextKind, fault_at, is_ascii, says_something, split_words,
+    ByText, LineReader, ReadFault, Shortcut, TextKind, fault_at, is_ascii, says_something,
+    split_words,
 };
 use er_trace::{NameKeys, Trace};
 use std::alloc::{AllocError, Global};
@@ -58,14 +59,6 @@ impl Header {
             idle: IdleThreads::new(alloc),
             comment: None,
         }
-    }
-
-    /// Whether event lines of this version may follow, and no thread is idle.
-    pub(crate) fn is_open(&self, version: Version) -> bool
-        ensures stage { IsTrue result → self.now.stage ≡ Stage.Events version }
-        ensures idle { IsTrue result → self.now.idle ≡ [] }
-    {
-        self.stage == Stage::Events(version) && self.idle.is_empty()
     }
 
     /// Adds the steps of an event line, unless it can't come behind the lines before it.
@@ -180,21 +173,7 @@ impl Model for TraceReader {
 }
 
 impl TraceReader {
-    /// A reader in front of a text of at most `limit` bytes.
-    pub fn new(alloc: Global, limit: u64) -> Result<TraceReader, AllocError>
-        requires { limit ≤ 2 ^ 62 }
-        ensures limit { IfOk result (λ r. r.place.limit ≡ limit) }
-        ensures number { IfOk result (λ r. r.place.number ≡ 1) }
-        ensures start { IfOk result (λ r. r.place.start ≡ 0) }
-        ensures ahead { IfOk result (λ r. length r.place.ahead ≡ 0) }
-        ensures stage { IfOk result (λ r. r.stage ≡ Stage.Front) }
-        ensures tail { IfOk result (λ r. r.tail ≡ no_tail) }
-        ensures starts { IfOk result (λ r. (text : List ℕ) → HasRead text [] [] [] r (Some text) no_steps) }
-    {
-        TraceReader::with_window(alloc, limit, 65_536)
-    }
-
-    /// The same, with room for `size` bytes that are read ahead: see [`fill`](TraceReader::fill).
+    /// A reader in front of a text of at most `limit` bytes, with room for `size` bytes that are read ahead: see [`fill`](TraceReader::fill).
     pub fn with_window(alloc: Global, limit: u64, size: usize) -> Result<TraceReader, AllocError>
         requires limit { limit ≤ 2 ^ 62 }
         requires size { (65536 ≤ size) × (size ≤ 2 ^ 30) }
@@ -415,7 +394,7 @@ fn read_into<R: Read>(
     ensures failed { HasFailedBy (has_failed reader.new) result }
     ensures taken { taken_of reader.new ≤ taken_of reader.old + byte_limit + bytes_past_limit }
 {
-    let mut lines = TraceReader::new(alloc, byte_limit)?;
+    let mut lines = TraceReader::with_window(alloc, byte_limit, 65_536)?;
     let read = lines.read_left(reader, trace);
     drop(lines);
     read

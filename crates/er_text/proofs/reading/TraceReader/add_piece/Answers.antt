@@ -1,5 +1,5 @@
 -- The piece comes behind what was read.
-use Rattle.std.proofs.Common.{◌≡◌, ℕ, ◌+◌, ◌<◌, ◌≤◌, ◌^◌, ◌&&◌, nat_eq, Option, IfSome, refl, subst, sym, ap, ◌∙◌, arith}
+use Rattle.std.proofs.Common.{◌≡◌, ℕ, ◌+◌, ◌<◌, ◌≤◌, ◌^◌, ◌&&◌, nat_eq, Option, IfSome, refl, subst, sym, ap, ◌∙◌, arith, rules}
 use Rattle.er_text.specs.Batches.{HasRead}
 use Rattle.er_text.specs.declared.endings.Lost.{Lost}
 use Rattle.er_lines.specs.Lending.{past_lines}
@@ -10,6 +10,7 @@ use Rattle.er_trace.specs.Appended.{with_table}
 use Rattle.er_trace.specs.Trace.{Recording}
 use Rattle.er_text.proofs.PieceGives.{added_gives, comment_fits, piece_few, ready_appended}
 use Rattle.er_text.proofs.reading.TraceReader.add_piece.Goals as goal
+use Rattle.er_text.proofs.reading.TraceReader.add_piece.Goals.{then-self, else-self}
 
 pub pass_lines-requires-clause-lines : goal.pass_lines-requires-clause-lines
 pass_lines-requires-clause-lines c =
@@ -40,13 +41,14 @@ returns-clause-told c = λ text steps lines sites known names read front whole r
     let passed : c.pass_lines.new.self ≡ past_lines inside.place read.lines read.len =
     c.pass_lines.ensures ∙ ap (λ (p : ReadPiece). past_lines inside.place p.lines p.len) c.piece.view_is
     ∙ ap (λ (n : ℕ). past_lines inside.place n piece.len) known_ready.lines ∙ ap (λ (n : ℕ). past_lines inside.place read.lines n) known_ready.len in
-    let cut : c.cut_behind-self-inside.result ≡ (inside.tail.cut && nat_eq read.len 0) = c.cut_behind-self-inside.ensures ∙ ap (λ (p : ReadPiece). inside.tail.cut && nat_eq p.len 0) c.piece.view_is ∙ ap (λ (n : ℕ). inside.tail.cut && nat_eq n 0) known_ready.len in
+    let one : c.if-self.self ≡ (inside.tail.cut && nat_eq c.piece.inside.len 0) = elim c.if-self.branch [ then-self w ↦ search rules | else-self w ↦ search rules ] in
+    let cut : c.if-self.self ≡ (inside.tail.cut && nat_eq read.len 0) = one ∙ ap (λ (p : ReadPiece). inside.tail.cut && nat_eq p.len 0) c.piece.view_is ∙ ap (λ (n : ℕ). inside.tail.cut && nat_eq n 0) known_ready.len in
     let comment : c.comment_behind-self-inside.result ≡ comment_behind inside.place.number inside.tail.comment read.comment =
     c.comment_behind-self-inside.ensures
     ∙ ap (λ (p : ReadPiece). comment_behind c.number-line.result inside.tail.comment p.comment) c.piece.view_is
     ∙ ap (λ (n : ℕ). comment_behind n inside.tail.comment piece.comment) c.number-line.ensures.value
     ∙ ap (λ (l : Option Lost). comment_behind inside.place.number inside.tail.comment l) known_ready.comment in
-    let tail : Tail = record { cut = c.cut_behind-self-inside.result; comment = c.comment_behind-self-inside.result } in
+    let tail : Tail = record { cut = c.if-self.self; comment = c.comment_behind-self-inside.result } in
     added_gives text steps lines sites inside c.pass_lines.new.self read inside.place.number tail known t u
     (subst (λ (r : Reached). StandsInFront r read) (sym c.self.view_is) front) whole refl told passed cut comment
     (subst (λ (r : Reached). HasRead text steps lines sites r known t) (sym c.self.view_is) had)
