@@ -10,7 +10,7 @@
 //!
 //! ```text
 //! let lockset = LocksetAnalyst::new(alloc, &table, &rules, false, NameKeys::KNOWN)?;
-//! let found = analyse(&rt, alloc, &mut reader, &Options::usual(), 1, lockset, &mut Unwatched)?;
+//! let found = analyse(&rt, alloc, &mut reader, &ByText, &Options::usual(), 1, lockset, &mut Unwatched)?;
 //! let report = found.analyst.finish();
 //! ```
 //!

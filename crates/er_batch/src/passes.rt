@@ -17,6 +17,7 @@ ghost use Rattle.er_trace.specs.Trace.{Recording, no_steps, without_steps};
 use crate::{Analyst, Options, Progress, Watch};
 use er_device::Device;
 use er_event::{Site, Step};
+use er_lines::Shortcut;
 use er_reading::PieceReader;
 use er_text::{Batch, Ending, ReadFault};
 use er_trace::Trace;
@@ -97,10 +98,11 @@ impl<A: Drop> Pass<A> {
     }
 
     // Reads a batch, has the one before it answered, and says whether lines may follow. If none may, the batch itself is answered too.
-    fn turn<R: Threads + Wait + Sync, D: Read>(
+    fn turn<R: Threads + Wait + Sync, D: Read, S: Shortcut<D>>(
         &mut self,
         rt: &R,
         reader: &mut Device<D>,
+        shortcut: &S,
     ) -> Result<bool, ReadFault>
     where
         A: Analyst,
@@ -128,7 +130,7 @@ impl<A: Drop> Pass<A> {
             self.steps.as_slice(),
             &mut ||
                 requires { IsSync R.row × (has_failed reader.now ≡ false) }
-            { lines.next_batch(rt, reader, trace) },
+            { lines.next_batch(rt, reader, shortcut, trace) },
         )?;
         self.answer_last(rt)?;
         match batch {
@@ -158,10 +160,11 @@ impl<A: Drop> Pass<A> {
     }
 
     // Reads and answers all batches, and says behind each how far it has come.
-    fn run<R: Threads + Wait + Sync, D: Read, V: Watch>(
+    fn run<R: Threads + Wait + Sync, D: Read, S: Shortcut<D>, V: Watch>(
         &mut self,
         rt: &R,
         reader: &mut Device<D>,
+        shortcut: &S,
         watcher: &mut V,
     ) -> Result<(), ReadFault>
     where
@@ -177,7 +180,7 @@ impl<A: Drop> Pass<A> {
         ensures failed { HasFailedBy (has_failed reader.new) result }
         ensures taken { taken_of reader.new + taken_by self.old.lines.place ≤ taken_of reader.old + self.old.lines.place.limit + bytes_past_limit }
     {
-        while self.turn(rt, reader)? {
+        while self.turn(rt, reader, shortcut)? {
             watcher.come_to(self.progress(reader));
         }
         watcher.come_to(self.progress(reader));
@@ -186,14 +189,16 @@ impl<A: Drop> Pass<A> {
 }
 
 /// Reads a trace text of at most so many bytes to its end by so many threads, and has each batch of its steps answered and then forgotten. The analyst gets
-/// ready for a batch while the next one is read. The watcher is told behind each batch how far the pass has come.
+/// ready for a batch while the next one is read. If one thread reads, the shortcut may have lines ready. The watcher is told behind each batch how
+/// far the pass has come.
 ///
 /// # Errors
 /// The text's first fault, a failed read, or a want of memory wherever it is met.
-pub fn analyse<R: Threads + Wait + Sync, D: Read, V: Watch, A: Analyst + Drop>(
+pub fn analyse<R: Threads + Wait + Sync, D: Read, S: Shortcut<D>, V: Watch, A: Analyst + Drop>(
     rt: &R,
     alloc: Global,
     reader: &mut Device<D>,
+    shortcut: &S,
     options: &Options,
     readers: u32,
     analyst: A,
@@ -209,7 +214,7 @@ pub fn analyse<R: Threads + Wait + Sync, D: Read, V: Watch, A: Analyst + Drop>(
     ensures taken { taken_of reader.new ≤ taken_of reader.old + options.now.byte_limit + bytes_past_limit }
 {
     let mut pass = Pass::new(alloc, options, readers, analyst)?;
-    match pass.run(rt, reader, watcher) {
+    match pass.run(rt, reader, shortcut, watcher) {
         Ok(()) => {
             let ending = pass.lines.ending();
             Ok(Analysed {

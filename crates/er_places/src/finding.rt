@@ -13,8 +13,8 @@ use crate::follower::Follower;
 use crate::wanted::{Numbers, Wanted, to_rising};
 use crate::{Facts, Places};
 use er_device::Device;
-use er_report::Reports;
 use er_lines::ByText;
+use er_report::Reports;
 use er_text::{Batch, ReadFault, TraceReader};
 use er_trace::{NameKeys, Trace};
 use std::alloc::{AllocError, Global};
@@ -61,7 +61,9 @@ impl Finder {
         ensures taken { taken_of reader.new + taken_by self.old.lines.place ≤ taken_of reader.old + taken_by self.new.lines.place }
         ensures most { taken_by self.new.lines.place ≤ self.new.lines.place.limit + bytes_past_limit }
     {
-        let batch = self.lines.next_batch(reader, &ByText, &mut self.trace, BATCH_LINES)?;
+        let batch = self
+            .lines
+            .next_batch(reader, &ByText, &mut self.trace, BATCH_LINES)?;
         self.follower.follow(wanted, &self.trace)?;
         match batch {
             Batch::End => Ok(false),

@@ -13,6 +13,7 @@ ghost use Rattle.er_trace.specs.Trace.{no_steps};
 
 use crate::adding::add_ahead;
 use er_device::Device;
+use er_lines::{ByText, Shortcut};
 use er_text::{Batch, Ending, Piece, ReadFault, TraceReader};
 use er_trace::{NameKeys, Trace};
 use std::alloc::{AllocError, Global};
@@ -93,14 +94,16 @@ impl PieceReader {
         })
     }
 
-    /// Reads some of the next lines, or those up to the end of the text, and adds their steps to the trace.
+    /// Reads some of the next lines, or those up to the end of the text, and adds their steps to the trace. If one thread reads, the shortcut may
+    /// have lines ready.
     ///
     /// A text that ends without a header has a fault at its end. After a fault the reader is not to be called again: nothing is known
     /// of what it would read.
-    pub fn next_batch<R: Threads + Sync, D: Read>(
+    pub fn next_batch<R: Threads + Sync, D: Read, S: Shortcut<D>>(
         &mut self,
         rt: &R,
         reader: &mut Device<D>,
+        shortcut: &S,
         trace: &mut Trace,
     ) -> Result<Batch, ReadFault>
         requires { has_failed reader.old ≡ false }
@@ -134,7 +137,7 @@ impl PieceReader {
             } else {
                 BATCH_LINES
             };
-            return self.lines.next_batch(reader, trace, most_lines);
+            return self.lines.next_batch(reader, shortcut, trace, most_lines);
         }
         self.lines.fill(reader)?;
         if add_ahead(rt, &mut self.lines, trace, self.pieces.as_mut_slice())? {
@@ -145,7 +148,7 @@ impl PieceReader {
         } else {
             BATCH_LINES
         };
-        self.lines.next_batch(reader, trace, most_lines)
+        self.lines.next_batch(reader, &ByText, trace, most_lines)
     }
 
     /// How the text ended, once a batch was the last.

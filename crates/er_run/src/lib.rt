@@ -14,7 +14,7 @@
 //! let mut source = Device::new(text);
 //! let rules = Suppressions::new(rt.alloc());
 //! let options = Options::usual();
-//! let found = replay_reports(&rt, rt.alloc(), &mut source, &rules, &options, Analysis::Both, &mut Unwatched)?;
+//! let found = replay_reports(&rt, rt.alloc(), &mut source, &ByText, &rules, &options, Analysis::Both, &mut Unwatched)?;
 //! let verdict = verdict_of(&found.reports);   // Verdict::Races
 //! ```
 //!

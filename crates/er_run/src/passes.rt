@@ -19,6 +19,7 @@ use crate::{Options, RunFault, Watch};
 use er_batch::{Analysed, CrewAnalyst, LocksetAnalyst, Pair, analyse};
 use er_device::Device;
 use er_event::NoRoom;
+use er_lines::Shortcut;
 use er_report::{Analysis, Report, Reports};
 use er_rules::Suppressions;
 use er_table::LocksetTable;
@@ -35,11 +36,12 @@ type Analysts<'t, 'r> = Pair<
 >;
 
 /// The report by the lockset rule of a replay by several workers, over this table. Half of them answer while the others read.
-pub(crate) fn report_by_crew<R: Threads + Wait + Sync, D: Read, V: Watch>(
+pub(crate) fn report_by_crew<R: Threads + Wait + Sync, D: Read, S: Shortcut<D>, V: Watch>(
     rt: &R,
     alloc: Global,
     table: &LocksetTable,
     reader: &mut Device<D>,
+    shortcut: &S,
     suppressions: &Suppressions,
     options: &Options,
     watcher: &mut V,
@@ -52,11 +54,11 @@ pub(crate) fn report_by_crew<R: Threads + Wait + Sync, D: Read, V: Watch>(
     let readers = options.workers.div_ceil(2);
     let crew = CrewAnalyst::new(rt, alloc, table, suppressions, options, answering)?;
     let inspection = Inspection::new(alloc, options.strict);
-    let analysts = Pair {
+    let all = Pair {
         first: crew,
         second: inspection,
     };
-    match analyse(rt, alloc, reader, options, readers, analysts, watcher) {
+    match analyse(rt, alloc, reader, shortcut, options, readers, all, watcher) {
         Ok(found) => end_crew(found),
         Err(why) => Err(RunFault::Read(why)),
     }
@@ -103,11 +105,12 @@ fn end_crew(
 }
 
 /// The reports of a replay by one worker that forgets the steps, with reasons if they are asked for, over this table.
-pub(crate) fn reports_by_one<R: Threads + Wait + Sync, D: Read, V: Watch>(
+pub(crate) fn reports_by_one<R: Threads + Wait + Sync, D: Read, S: Shortcut<D>, V: Watch>(
     rt: &R,
     alloc: Global,
     table: &LocksetTable,
     reader: &mut Device<D>,
+    shortcut: &S,
     suppressions: &Suppressions,
     options: &Options,
     analysis: Analysis,
@@ -117,9 +120,9 @@ pub(crate) fn reports_by_one<R: Threads + Wait + Sync, D: Read, V: Watch>(
     ensures replay { IsReplayOf (D.remaining (inner_of reader.old)) options.now (targets_of suppressions.now) analysis (taken_of reader.old) (taken_of reader.new) (has_failed reader.new) result }
     ensures alone { asks_order analysis ≡ false → IfErr result IsOfReading }
 {
-    let analysts = analysts_of(alloc, table, suppressions, options, analysis)?;
+    let all = analysts_of(alloc, table, suppressions, options, analysis)?;
     let readers = options.workers;
-    match analyse(rt, alloc, reader, options, readers, analysts, watcher) {
+    match analyse(rt, alloc, reader, shortcut, options, readers, all, watcher) {
         Ok(found) => end(found),
         Err(why) => Err(RunFault::Read(why)),
     }

@@ -19,6 +19,7 @@ use crate::outcome::ReplayedTrace;
 use crate::passes::{report_by_crew, reports_by_one};
 use crate::{Options, RunFault, Unwatched, Verdict, Watch};
 use er_device::Device;
+use er_lines::{ByText, Shortcut};
 use er_print::write_report;
 use er_report::{Analysis, Report, Reports};
 use er_rules::Suppressions;
@@ -60,6 +61,7 @@ where
         rt,
         alloc,
         reader,
+        &ByText,
         suppressions,
         options,
         Analysis::Lockset,
@@ -102,17 +104,18 @@ fn write_found<W: Write>(
 /// the names and the lines of the reports. With `explain` each race that is printed has its reasons, and each word has a book of the
 /// accesses that a reason may name. A strict replay of a damaged trace returns its damage. Beside a report by happens-before, that of the
 /// lockset rule is whole: a step that finds no room is a fault. By the lockset rule alone half of several workers answer a batch while the
-/// others read the next one; by another analysis all of them read, and one answers. The watcher is told behind each batch how far the replay has come, and called once more at
-/// the end. What it does changes nothing of what is returned.
+/// others read the next one; by another analysis all of them read, and one answers. If one thread reads, the shortcut may have lines ready. The
+/// watcher is told behind each batch how far the replay has come, and called once more at the end. What it does changes nothing of what is returned.
 ///
 /// # Errors
 /// `Read`: the text has a fault, a read failed, or memory was refused to the reader or to a step. `Replay`: the table of locksets is full, or
 /// a worker couldn't be started. `Beyond`: happens-before has no room for a step. `Damaged`: the trace is, and the replay is
 /// strict. `Memory`: memory was refused elsewhere. Never `Write`.
-pub fn replay_reports<R, D, V>(
+pub fn replay_reports<R, D, S, V>(
     rt: &R,
     alloc: Global,
     reader: &mut Device<D>,
+    shortcut: &S,
     suppressions: &Suppressions,
     options: &Options,
     analysis: Analysis,
@@ -121,6 +124,7 @@ pub fn replay_reports<R, D, V>(
 where
     R: Threads + Wait + Sync,
     D: Read,
+    S: Shortcut<D>,
     V: Watch,
     requires reader { has_failed reader.old ≡ false }
     ensures reports { IfOk result (λ found. IfSome (D.remaining (inner_of reader.old)) (λ text. AreReportsOfText analysis text options.now.byte_limit (targets_of suppressions.now) options.now.explain found.trace.names found.reports)) }
@@ -138,13 +142,15 @@ where
 {
     let table = LocksetTable::keyed(alloc, options.max_sets, options.keys)?;
     let found = if options.workers > 1 && !analysis.asks_order() {
-        report_by_crew(rt, alloc, &table, reader, suppressions, options, watcher)
+        let rules = suppressions;
+        report_by_crew(rt, alloc, &table, reader, shortcut, rules, options, watcher)
     } else {
         reports_by_one(
             rt,
             alloc,
             &table,
             reader,
+            shortcut,
             suppressions,
             options,
             analysis,

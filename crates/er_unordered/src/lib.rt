@@ -13,7 +13,7 @@
 //!
 //! ```text
 //! let analyst = OrderAnalyst::new(alloc, &rules, false, NameKeys::KNOWN)?;
-//! let found = analyse(&rt, alloc, &mut reader, &Options::usual(), 1, analyst, &mut Unwatched)?;
+//! let found = analyse(&rt, alloc, &mut reader, &ByText, &Options::usual(), 1, analyst, &mut Unwatched)?;
 //! let report = found.analyst.finish();
 //! ```
 //!

@@ -17,12 +17,13 @@ ghost use Rattle.eraser.specs.Replays.{AreOptionsOf, ComesTo, EndsAs, EndsUsuall
 
 use crate::meter::Meter;
 use crate::replaying::{Ended, Job, notes_of};
-use crate::traces::{explain_step, print_trace, text_size};
+use crate::traces::{Directly, explain_step, print_trace, text_size};
 use crate::until::{Cut, cut_by, replay_trace, report_cut, trace_path};
 use clap::error::ErrorKind;
 use er_binary::Decoded;
 use er_device::Device;
 use er_exit::{Fault, put, report_fault, run_demo};
+use er_lines::Shortcut;
 use er_load::Workload;
 use er_request::{Replay, Request, read_request};
 use er_rules::{Suppressions, read_suppressions};
@@ -82,7 +83,7 @@ where
 {
     match read_request(rt.alloc(), words, on_terminal) {
         Ok(Request::Replay(asked)) => {
-            let replayed = run_replay(rt, &asked, input, output, progress, on_terminal);
+            let replayed = run_replay(rt, &asked, input, &Directly, output, progress, on_terminal);
             let status = end_replay(rt, &asked, replayed, errors);
             drop(asked);
             status
@@ -106,10 +107,11 @@ where
 }
 
 // Runs a replay, and shows how far it has come if that is asked for. The suppressions are opened and read before the trace is opened.
-fn run_replay<R, I, O, P>(
+fn run_replay<R, I, S, O, P>(
     rt: &R,
     replay: &Replay<'_>,
     input: &mut Device<I>,
+    shortcut: &S,
     output: &mut Device<O>,
     progress: &mut Device<P>,
     on_terminal: bool,
@@ -117,6 +119,7 @@ fn run_replay<R, I, O, P>(
 where
     R: Files + Clock + RandomSource + AllocGlobal + Threads + Wait + Sync,
     I: Read,
+    S: Shortcut<I>,
     O: Write,
     P: Write,
     requires input { has_failed input.old ≡ false }
@@ -142,12 +145,12 @@ where
     if replay.progress {
         let size = trace_path(replay).and_then(|path| text_size(rt, path));
         let mut meter = Meter::new(rt, Some(progress), on_terminal, size);
-        let shown = replay_trace(rt, job, input, output, &mut meter);
+        let shown = replay_trace(rt, job, input, shortcut, output, &mut meter);
         drop(suppressions);
         return shown;
     }
     let mut meter: Meter<'_, R, P> = Meter::new(rt, None, false, None);
-    let replayed = replay_trace(rt, job, input, output, &mut meter);
+    let replayed = replay_trace(rt, job, input, shortcut, output, &mut meter);
     drop(suppressions);
     replayed
 }

@@ -18,6 +18,7 @@ use crate::places::{excerpts_of, places_of};
 use er_device::Device;
 use er_exit::{Fault, TextNotes, add_notes};
 use er_forms::render;
+use er_lines::Shortcut;
 use er_parallel::ReplayFault;
 use er_print::{WriteFault, write_text};
 use er_report::Reports;
@@ -56,16 +57,18 @@ pub(crate) struct Ended {
 }
 
 /// Replays what the reader gives, writes the reports as they are asked for, and then the file of rules, unless the replay stopped.
-pub(crate) fn replay_from<R, D, O, V>(
+pub(crate) fn replay_from<R, D, S, O, V>(
     rt: &R,
     job: Job<'_>,
     source: &mut Device<D>,
+    ready: &S,
     output: &mut Device<O>,
     watcher: &mut V,
 ) -> Result<Ended, Fault>
 where
     R: Files + AllocGlobal + Threads + Wait + Sync,
     D: Read,
+    S: Shortcut<D>,
     O: Write,
     V: Watch,
     requires source { has_failed source.old ≡ false }
@@ -77,8 +80,9 @@ where
     ensures nothing { IfErr result (LeavesOutput (O.contents (inner_of output.old)) (O.contents (inner_of output.new))) }
     ensures failed { FailsBy (has_failed source.new) (has_failed output.new) result }
 {
-    let (rules, options, analysis) = (job.suppressions, job.options, job.replay.analysis);
-    match replay_reports(rt, rt.alloc(), source, rules, options, analysis, watcher) {
+    let (alloc, rules) = (rt.alloc(), job.suppressions);
+    let (options, analysis) = (job.options, job.replay.analysis);
+    match replay_reports(rt, alloc, source, ready, rules, options, analysis, watcher) {
         Ok(
             ReplayedTrace {
                 reports,

@@ -11,6 +11,7 @@ use crate::command::keys_from;
 use er_binary::Decoded;
 use er_device::Device;
 use er_exit::{Fault, open_ordinary, size_of};
+pub(crate) use er_lines::ByText as Directly;
 use er_print::WriteFault;
 use er_request::Explain;
 use er_story::{tell_line, write_story};

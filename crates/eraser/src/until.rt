@@ -12,10 +12,11 @@ ghost use Rattle.er_text.specs.Ending.{IsEndingOf};
 ghost use Rattle.eraser.specs.Replays.{AreOptionsOf, EndsAs, FailsAs, FailsFor, IsEndOf};
 
 use crate::replaying::{Ended, Job, notes_of, replay_from};
-use crate::traces::open_trace;
+use crate::traces::{Directly, open_trace};
 use er_damage::Damage;
 use er_device::{Device, Keeping, Prefix};
 use er_exit::{Fault, Trouble, advise, is_ordinary, put, report_fault};
+use er_lines::{ByText, Shortcut};
 use er_request::Replay;
 use er_run::Watch;
 use er_text::TextFault;
@@ -84,16 +85,18 @@ pub(crate) fn trace_path<'a>(replay: &Replay<'a>) -> Option<&'a str> {
 }
 
 /// Replays the trace, up to its first faulty line if that is asked for.
-pub(crate) fn replay_trace<R, I, O, V>(
+pub(crate) fn replay_trace<R, I, S, O, V>(
     rt: &R,
     job: Job<'_>,
     input: &mut Device<I>,
+    shortcut: &S,
     output: &mut Device<O>,
     watcher: &mut V,
 ) -> Result<Ended, Cut>
 where
     R: Files + AllocGlobal + Threads + Wait + Sync,
     I: Read,
+    S: Shortcut<I>,
     O: Write,
     V: Watch,
     requires input { has_failed input.old ≡ false }
@@ -112,7 +115,7 @@ where
         if replay.until_fault {
             return replay_keeping(rt, job, input, output, watcher);
         }
-        return match replay_from(rt, job, input, output, watcher) {
+        return match replay_from(rt, job, input, shortcut, output, watcher) {
             Ok(ended) => Ok(ended),
             Err(fault) => Err(cut_by(rt.alloc(), fault)),
         };
@@ -126,7 +129,7 @@ where
         drop(source);
         return replayed;
     }
-    let replayed = replay_from(rt, job, &mut source, output, watcher);
+    let replayed = replay_from(rt, job, &mut source, &Directly, output, watcher);
     drop(source);
     match replayed {
         Ok(ended) => Ok(ended),
@@ -154,7 +157,7 @@ fn replay_keeping<R: Files + AllocGlobal + Threads + Wait + Sync, D: Read, O: Wr
     ensures ends { AreOptionsOf job.entry.replay.now job.entry.options.now → IfOk result (λ ended. IfSome (D.remaining (inner_of source.old)) (λ text. EndsAs R.File.remaining job.entry.replay.now text (targets_of job.entry.suppressions.now) (O.contents (inner_of output.old)) (O.contents (inner_of output.new)) ended)) }
 {
     let mut keeping = Device::new(Keeping::new(rt.alloc(), source));
-    let first = replay_from(rt, job, &mut keeping, output, watcher);
+    let first = replay_from(rt, job, &mut keeping, &ByText, output, watcher);
     let kept = keeping.into_inner().into_kept();
     match (first, kept) {
         (Ok(ended), kept) => {
@@ -210,13 +213,13 @@ fn replay_lines<R: Files + AllocGlobal + Threads + Wait + Sync, O: Write, V: Wat
     match again {
         Again::File(path) => {
             let mut source = Device::new(Prefix::new(open_trace(rt, path)?, lines));
-            let replayed = replay_from(rt, job, &mut source, output, watcher);
+            let replayed = replay_from(rt, job, &mut source, &ByText, output, watcher);
             drop(source);
             replayed
         }
         Again::Kept(text) => {
             let mut source = Device::new(Prefix::new(text, lines));
-            replay_from(rt, job, &mut source, output, watcher)
+            replay_from(rt, job, &mut source, &ByText, output, watcher)
         }
     }
 }

@@ -13,7 +13,7 @@ pub returns-in-Ok : goal.returns-in-Ok
 returns-in-Ok g c =
     let told : Option (List ℕ) = g.D.Read.remaining (inner_of c.args.reader.now) in
     let asked : Asked = asked_by c.args.options.now (targets_of c.args.suppressions.now) c.args.analysis in
-    let stands = c.in_ok-analysts.ensures.stands asked refl refl refl refl in
+    let stands = c.in_ok-all.ensures.stands asked refl refl refl refl in
     let all = c.in-Ok.ensures.answered asked stands in
     record {
       replay = record {
@@ -28,7 +28,7 @@ pub returns-in-Err : goal.returns-in-Err
 returns-in-Err g c =
     let told : Option (List ℕ) = g.D.Read.remaining (inner_of c.args.reader.now) in
     let asked : Asked = asked_by c.args.options.now (targets_of c.args.suppressions.now) c.args.analysis in
-    let stands = c.in_ok-analysts.ensures.stands asked refl refl refl refl in
+    let stands = c.in_ok-all.ensures.stands asked refl refl refl refl in
     record {
       replay = record {
         outcome = failed-outcome told c.args.options.now.byte_limit asked (Read c.in-Err.why) (of-reading asked.analysis told c.args.options.now.byte_limit c.in-Err.why (c.in-Err.ensures.fault asked stands)) (λ lenient. tt);
