@@ -1,9 +1,11 @@
 -- What a reader of a trace of any form still gives, before and behind its first bytes.
-use Rattle.std.proofs.Common.{◌≡◌, ℕ, zero, suc, ◌<◌, ◌≤◌, Bool, true, false, not, cond, List, [], ◌∷◌, ◌++◌, length, take, drop, Option, Some, None, Result, Ok, Err, option_map, refl, sym, ap, ◌∙◌, arith}
+use Rattle.std.proofs.Common.{◌≡◌, ℕ, zero, suc, ◌<◌, ◌≤◌, Bool, true, false, not, cond, List, [], ◌∷◌, ◌++◌, length, take, drop, Option, Some, None, IfNone, IfSome, Result, Ok, Err, option_map, refl, sym, ap, ◌∙◌, arith}
 use Rattle.std.proofs.lemmas.List.{drop_all, length-take-le}
 use Rattle.std.proofs.lemmas.Slice.Eq.{bytes_eq-Decides}
 use Rattle.std.specs.Io.KnownBytes.{Consumes, Keeps, ReadConsumes}
 use Rattle.std.specs.Str.{bytes_eq}
+use Rattle.er_lines.specs.Ready.{HasTaken}
+use Rattle.er_lines.specs.declared.ready.ReadyLine.{ReadyLine}
 use Rattle.er_binary.specs.Decoded.{to_come, to_come_by}
 use Rattle.er_binary.specs.Inner.Decoders.{still}
 use Rattle.er_binary.specs.Meaning.{magic, meant, text_behind}
@@ -88,3 +90,11 @@ keeps_kept (Some x) (Some y) (Some z) same more = more ∙ same
 pub read_kept : {E : Type 0} (a b c : Option (List ℕ)) (r : Result ℕ E) (buffer : List ℕ) → Keeps a b → ReadConsumes b c r buffer → ReadConsumes a c r buffer
 read_kept a b c (Ok n) buffer same read = (consumes_kept a b c (take n buffer) same read.0, read.1)
 read_kept a b c (Err e) buffer same read = keeps_kept a b c same read
+
+-- a line that was taken of what means the same, or none
+pub taken_as : (f g : List ℕ → List ℕ) (text : ReadyLine → List ℕ) (known : Option (List ℕ)) (line : Option ReadyLine) → IfNone line ((rest : List ℕ) → f rest ≡ g rest)
+    → IfSome line (λ l. (rest : List ℕ) → f rest ≡ text l ++ g rest) → HasTaken (option_map f known) (option_map g known) text line
+taken_as f g text None None none some = tt
+taken_as f g text (Some rest) None none some = sym (none rest)
+taken_as f g text None (Some line) none some = tt
+taken_as f g text (Some rest) (Some line) none some = some rest

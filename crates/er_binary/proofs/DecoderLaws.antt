@@ -1,5 +1,5 @@
 -- What a decoder still gives, where its text is given, and piece by piece.
-use Rattle.std.proofs.Common.{◌≡◌, ◌==◌, ℕ, ◌+◌, ◌<◌, ◌≤◌, List, [], ◌++◌, length, take, drop, vec_items, vec_len, Option, Some, None, option_map, if◌then◌else◌, refl, sym, ap, ◌∙◌, append_assoc, rules}
+use Rattle.std.proofs.Common.{◌≡◌, ◌==◌, ℕ, ◌+◌, ◌-◌, ◌/◌, ◌<◌, ◌≤◌, List, [], ◌++◌, length, take, drop, vec_items, vec_len, Option, Some, None, option_map, if◌then◌else◌, refl, sym, ap, ◌∙◌, append_assoc, arith, rules}
 use Rattle.std.proofs.lemmas.List.{drop-drop, drop_all, drop_at, take_at, take-append-drop, take-append-le}
 use Rattle.std.specs.Io.KnownBytes.{Consumes, IsAtEnd, Keeps, prepend_known}
 use Rattle.er_binary.specs.Meaning.{Taken, damaged, past, spot_at, take_record}
@@ -7,17 +7,26 @@ use Rattle.er_binary.specs.Numbers.{number, number_in, plus}
 use Rattle.er_binary.specs.States.{at_block}
 use Rattle.er_binary.specs.declared.decoder.Phase.{Phase}
 use Rattle.er_binary.proofs.MeaningLaws.{record_end, record_none, record_some}
-use Rattle.er_binary.specs.Inner.Decoders.{IsGiven, all_blocks, all_content, all_records, still, undecoded}
+use Rattle.er_binary.specs.Inner.Words.{AreTaken, words_text}
+use Rattle.er_binary.specs.declared.words.Words.{Words}
+use Rattle.er_binary.proofs.LineLemmas.{lines_none}
+use Rattle.er_binary.specs.Inner.Decoders.{HasGiven, IsGiven, all_blocks, all_content, all_records, still, undecoded}
 use Rattle.er_binary.specs.declared.decoder.Decoder.{Decoder}
 use Rattle.er_binary.specs.declared.state.State.{State}
 use Rattle.er_binary.specs.declared.decoder.Phase.TheVariants as phase
 
--- where the text is given, what is undecoded is left
-pub given_is : (d : Decoder) (rest : List ℕ) → IsGiven d → still d rest ≡ undecoded d.phase d rest
+-- where the text is given, the words of the last access and what is undecoded are left
+pub words_left : (d : Decoder) (rest : List ℕ) → HasGiven d → still d rest ≡ words_text d.state d.words ++ undecoded d.phase d rest
 unfolding still
-given_is d rest given =
+words_left d rest given =
     let all : length (vec_items d.text) ≤ d.given = search rules in
-    ap (λ (t : List ℕ). t ++ undecoded d.phase d rest) (drop_all d.given (vec_items d.text) all)
+    ap (λ (t : List ℕ). t ++ (words_text d.state d.words ++ undecoded d.phase d rest)) (drop_all d.given (vec_items d.text) all)
+
+pub words_none : (s : State) (w : Words) → AreTaken w → words_text s w ≡ []
+words_none s w none = lines_none s _ w.node (w.at / 4) (w.end - w.at / 4) (omega arith)
+
+pub given_is : (d : Decoder) (rest : List ℕ) → IsGiven d → still d rest ≡ undecoded d.phase d rest
+given_is d rest given = words_left d rest given.0 ∙ ap (λ (t : List ℕ). t ++ undecoded d.phase d rest) (words_none d.state d.words given.1)
 
 -- two decoders whose text is given still give the same, if the same is undecoded
 pub same_undecoded : (d e : Decoder) (rest : List ℕ) → IsGiven d → IsGiven e → undecoded d.phase d rest ≡ undecoded e.phase e rest → still d rest ≡ still e rest
@@ -67,13 +76,13 @@ emptied d e rest given done phase state spot header_held header bytes held next 
 -- a decoder that took one record
 pub taken_is : (d e : Decoder) (rest : List ℕ) (t : Taken) → IsGiven d → d.phase ≡ phase.Record → d.next < length (vec_items d.bytes)
     → take_record d.state (drop d.next (vec_items d.bytes)) ≡ Some t → 1 ≤ t.len
-    → e.phase ≡ phase.Record → e.given ≡ 0 → vec_items e.text ≡ t.text → e.state ≡ t.state → e.spot ≡ past d.spot t.len → e.bytes ≡ d.bytes → e.next ≡ d.next + t.len
+    → AreTaken e.words → e.phase ≡ phase.Record → e.given ≡ 0 → vec_items e.text ≡ t.text → e.state ≡ t.state → e.spot ≡ past d.spot t.len → e.bytes ≡ d.bytes → e.next ≡ d.next + t.len
     → still d rest ≡ still e rest
 unfolding still
-taken_is d e rest t given at less some len phase none text state spot bytes next =
+taken_is d e rest t given at less some len taken phase none text state spot bytes next =
     record_is d rest given at
     ∙ record_some (plus d.spot.start (16 + vec_len d.bytes)) d.spot d.state (vec_items d.bytes) rest d.next t less some len
-    ∙ sym (rw (phase, none, text, state, spot, bytes, next) refl)
+    ∙ sym (ap (λ (w : List ℕ). drop e.given (vec_items e.text) ++ (w ++ undecoded e.phase e rest)) (words_none e.state e.words taken) ∙ rw (phase, none, text, state, spot, bytes, next) refl)
 
 -- or met one that may not come
 pub refused_is : (d : Decoder) (rest : List ℕ) → IsGiven d → d.phase ≡ phase.Record → d.next < length (vec_items d.bytes)

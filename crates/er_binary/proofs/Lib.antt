@@ -7,5 +7,7 @@ pub mod FillLemmas
 pub mod MeaningLaws
 pub mod NameLemmas
 pub mod NumberLemmas
+pub mod TakingLaws
 pub mod TextLemmas
 pub mod WordLemmas
+pub mod WordsLaws

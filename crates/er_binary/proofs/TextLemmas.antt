@@ -1,5 +1,5 @@
 -- Texts that are put one behind another.
-use Rattle.std.proofs.Common.{◌≡◌, ℕ, List, ◌++◌, cond, ap, ◌∙◌, append_assoc, Result, Ok, Err, OnOk, OnErr}
+use Rattle.std.proofs.Common.{◌≡◌, ℕ, List, ◌++◌, cond, ap, ◌∙◌, append_assoc, Option, Some, None, IfNone, IfSome, Result, Ok, Err, OnOk, OnErr}
 use Rattle.std.specs.Result.{is_ok}
 
 -- two texts put one behind the other
@@ -30,3 +30,12 @@ on_err_of (Err e) P p = p
 pub either_way : {T E P Q R : Type 0} (r : Result T E) → OnOk r P → OnErr r Q → (P → R) → (Q → R) → R
 either_way (Ok v) ok err f g = f ok
 either_way (Err e) ok err f g = g err
+
+-- what follows from what a call that gave nothing, or something, says
+pub none_then : {T P Q : Type 0} (o : Option T) → IfNone o P → (P → Q) → IfNone o Q
+none_then None p f = f p
+none_then (Some x) p f = tt
+
+pub some_then : {T : Type 0} {P Q : T → Type 0} (o : Option T) → IfSome o P → ((x : T) → P x → Q x) → IfSome o Q
+some_then None p f = tt
+some_then (Some x) p f = f x p

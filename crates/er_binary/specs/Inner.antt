@@ -2,3 +2,4 @@
 pub mod Decoders
 pub mod Spans
 pub mod Taking
+pub mod Words

@@ -1,13 +1,16 @@
 //! Decodes the blocks of a binary trace, one after another.
-ghost use Rattle.std.specs.Prelude.{◌≡◌, ◌<◌, ◌≤◌, ◌^◌, ◌+◌, ◌++◌, ℕ, List, OnOk, OnErr, IfOk, length, vec_len, min, take, option_map, false};
+ghost use Rattle.std.specs.Prelude.{◌≡◌, ◌<◌, ◌≤◌, ◌^◌, ◌+◌, ◌/◌, ◌++◌, ℕ, List, OnOk, OnErr, IfOk, IfNone, IfSome, length, vec_len, min, take, option_map, false};
 ghost use Rattle.std.specs.Io.{ReadsAtMost};
-ghost use Rattle.er_binary.specs.Meaning.{checksum, is_bad_len, last_line, mixed};
+ghost use Rattle.er_binary.specs.Inner.Words.{AreNamed, AreTaken, IsRight, line_name, line_text, line_thread};
+ghost use Rattle.er_binary.specs.Meaning.{checksum, is_bad_len, last_line, mixed, past};
 ghost use Rattle.std.specs.Io.KnownBytes.{IsAtEnd, Keeps, ReadConsumes, prepend_known};
 
 use crate::decoded::Listener;
 use crate::names::{Names, Put, number};
+use crate::records::{Record, record_at};
 use crate::state::State;
-use er_lines::put_number;
+use crate::words::{NO_WORDS, Words};
+use er_lines::{ReadyLine, put_number};
 use std::alloc::{AllocError, Global};
 use std::io;
 use std::io::{ErrorKind, Read};
@@ -49,15 +52,22 @@ pub(crate) struct Decoder {
     // The text that was made last, of which `given` bytes were given.
     text: Vec<u8>,
     given: usize,
+    // The words of the access before it that are still to come.
+    words: Words,
+    // Whether lines are taken: then a read gives the text of one record.
+    is_taken: bool,
     ghost begun: { header_held ≤ 16 },
     ghost within: { held ≤ vec_len bytes },
     ghost decoded: { next ≤ vec_len bytes },
     ghost small: { vec_len bytes ≤ 2 ^ 20 },
     ghost some: { given ≤ vec_len text },
+    ghost words_end: { words.end ≤ 2 ^ 46 },
+    ghost first: { words.at / 4 < words.end → vec_len text ≤ given },
+    ghost named: { AreNamed state },
 }
 
 impl Decoder {
-    ghost use Rattle.er_binary.specs.Inner.Decoders.{IsGiven, left, still};
+    ghost use Rattle.er_binary.specs.Inner.Decoders.{HasGiven, IsGiven, left, still};
     ghost use Rattle.er_binary.specs.Meaning.{text_behind};
     ghost use Rattle.er_binary.specs.declared.decoder.Phase.TheVariants as phase;
 
@@ -83,6 +93,8 @@ impl Decoder {
             next: 0,
             text: Vec::from_slice(alloc, b"eraser trace 3\n")?,
             given: 0,
+            words: NO_WORDS,
+            is_taken: false,
         })
     }
 
@@ -122,6 +134,87 @@ impl Decoder {
         Err(io::Error::from(ErrorKind::Other))
     }
 
+    /// Takes the next line, if it is an access or a lock event of a block that was read. It reads nothing on.
+    pub(crate) fn take(&mut self) -> Option<ReadyLine>
+        ensures none { IfNone result ((rest : List ℕ) → still self.old rest ≡ still self.new rest) }
+        ensures some { IfSome result (λ line. (rest : List ℕ) → still self.old rest ≡ line_text self.new.state line ++ still self.new rest) }
+        ensures right { IfSome result (λ line. IsRight self.new.state line) }
+    {
+        self.is_taken = true;
+        for _ in 0..8u8 {
+            if !self.words.is_empty() {
+                return self.take_word();
+            }
+            if self.given < self.text.len() || self.phase != Phase::Record {
+                return None;
+            }
+            let (_, rest) = self.bytes.split_at(self.next);
+            let head = record_at(rest)?;
+            match head.says {
+                Record::Access(access) => {
+                    let words = self.state.words_of(access)?;
+                    self.state.pass(&words);
+                    self.words = words;
+                    self.go_past(head.len);
+                }
+                Record::Other(kind, number) => {
+                    if let Some(line) = self.state.lock_line(kind, number) {
+                        self.state.count();
+                        self.go_past(head.len);
+                        return Some(line);
+                    }
+                    self.next_record(&mut ()).ok()?;
+                }
+            }
+        }
+        None
+    }
+
+    /// The name of a line's thread.
+    pub(crate) fn thread_of(&self, line: ReadyLine) -> &[u8]
+        ensures { result.now ≡ line_thread self.now.state line }
+    {
+        self.state.thread_of(line)
+    }
+
+    /// The name of a line's site or lock, and no bytes if it has none.
+    pub(crate) fn name_of(&self, line: ReadyLine) -> &[u8]
+        ensures { result.now ≡ line_name self.now.state line }
+    {
+        self.state.name_of(line)
+    }
+
+    // Takes the line of the first word that is still to come.
+    #[inline(always)]
+    fn take_word(&mut self) -> Option<ReadyLine>
+        requires { self.old.words.at / 4 < self.old.words.end }
+        ensures none { IfNone result ((rest : List ℕ) → still self.old rest ≡ still self.new rest) }
+        ensures some { IfSome result (λ line. (rest : List ℕ) → still self.old rest ≡ line_text self.new.state line ++ still self.new rest) }
+        ensures right { IfSome result (λ line. IsRight self.new.state line) }
+    {
+        let line = self.state.line_of(&self.words)?;
+        self.words.at = self.words.at / 4 * 4 + 4;
+        Some(line)
+    }
+
+    // Goes on behind a record of so many bytes.
+    #[inline(always)]
+    fn go_past(&mut self, len: usize)
+        requires { self.old.next + len ≤ vec_len self.old.bytes }
+        ensures next { self.new.next ≡ self.old.next + len }
+        ensures spot { self.new.spot ≡ past self.old.spot len }
+        ensures state { self.new.state ≡ self.old.state }
+        ensures phase { self.new.phase ≡ self.old.phase }
+        ensures bytes { self.new.bytes ≡ self.old.bytes }
+        ensures text { self.new.text ≡ self.old.text }
+        ensures given { self.new.given ≡ self.old.given }
+        ensures words { self.new.words ≡ self.old.words }
+    {
+        self.next += len;
+        self.spot.at = self.spot.at.wrapping_add(len as u64);
+        self.spot.found = self.spot.found.wrapping_add(1);
+    }
+
     // Gives the text of the block, as far as the buffer has room.
     fn give_all<L: Listener>(&mut self, buffer: &mut [u8], listener: &mut L) -> io::Result<usize>
         ensures bound { IfOk result (λ n. n ≤ length buffer.new) }
@@ -129,8 +222,9 @@ impl Decoder {
         ensures given { IfOk result (λ n. n ≡ 0 → 0 < length buffer.new → IsGiven self.new) }
         ensures err { OnErr result ((rest : List ℕ) → still self.old rest ≡ still self.new rest) }
     {
+        self.put_rest()?;
         let mut count = self.give(buffer);
-        while count < buffer.len() && self.phase == Phase::Record {
+        while count < buffer.len() && self.phase == Phase::Record && !(self.is_taken && count > 0) {
             if let Err(refused) = self.next_record(listener) {
                 return if count > 0 { Ok(count) } else { Err(refused) };
             }
@@ -139,11 +233,30 @@ impl Decoder {
         Ok(count)
     }
 
+    // Makes the text of the words that are still to come.
+    fn put_rest(&mut self) -> io::Result<()>
+        ensures same { (rest : List ℕ) → still self.old rest ≡ still self.new rest }
+        ensures taken { OnOk result (AreTaken self.new.words) }
+    {
+        if self.words.is_empty() {
+            return Ok(());
+        }
+        self.given = 0;
+        self.text.clear();
+        if let Err(refused) = self.state.put_words(&mut self.text, &self.words) {
+            self.text.clear();
+            return Err(io::Error::from(refused));
+        }
+        self.words = NO_WORDS;
+        Ok(())
+    }
+
     // Gives the rest of the text that was made.
     fn give(&mut self, buffer: &mut [u8]) -> usize
         ensures bound { result ≤ length buffer.new }
         ensures gives { (rest : List ℕ) → still self.old rest ≡ take result buffer.new ++ still self.new rest }
-        ensures given { result < length buffer.new → IsGiven self.new }
+        ensures given { result < length buffer.new → HasGiven self.new }
+        ensures words { self.new.words ≡ self.old.words }
         ensures phase { self.new.phase ≡ self.old.phase }
         ensures bytes { self.new.bytes ≡ self.old.bytes }
         ensures next { self.new.next ≡ self.old.next }
@@ -160,6 +273,7 @@ impl Decoder {
         requires given { IsGiven self.old }
         ensures same { (rest : List ℕ) → still self.old rest ≡ still self.new rest }
         ensures less { OnOk result (left self.new.phase self.new < left self.old.phase self.old) }
+        ensures words { self.new.words ≡ self.old.words }
     {
         if self.next == self.bytes.len() {
             return self.end_block();
@@ -190,6 +304,7 @@ impl Decoder {
         requires next { self.old.next ≡ vec_len self.old.bytes }
         ensures same { (rest : List ℕ) → still self.old rest ≡ still self.new rest }
         ensures less { OnOk result (left self.new.phase self.new < left self.old.phase self.old) }
+        ensures words { self.new.words ≡ self.old.words }
     {
         if self.spot.found != u64::from(self.spot.count) {
             return self.stop(b"damaged", self.spot.start);
@@ -262,6 +377,7 @@ impl Decoder {
         ensures ok { OnOk result ((rest : List ℕ) → still self.new rest ≡ last_line what.now byte) }
         ensures phase { OnOk result (self.new.phase ≡ phase.Nothing) }
         ensures err { OnErr result ((rest : List ℕ) → still self.old rest ≡ still self.new rest) }
+        ensures words { self.new.words ≡ self.old.words }
     {
         self.given = 0;
         self.text.clear();

@@ -15,7 +15,7 @@
 //! ```
 #![tactic(auto)]
 
-pub use decoded::{Decoded, Listener};
+pub use decoded::{Decoded, Directly, Listener};
 pub use names::{Names, number};
 pub use records::{Access, Head, Kind, Record, record_at};
 pub use state::State;
@@ -27,3 +27,4 @@ mod nodes;
 mod records;
 mod state;
 mod text;
+mod words;

@@ -2,6 +2,7 @@
 ghost use Rattle.std.specs.Prelude.{◌≡◌, ◌≤◌, ◌<◌, ◌^◌, ◌+◌, [], IfOk, IfSome, OnOk, OnErr, length};
 ghost use Rattle.std.specs.List.{list_all};
 ghost use Rattle.er_binary.specs.Inner.Taking.{HasTaken};
+ghost use Rattle.er_binary.specs.Inner.Words.{AreNamed};
 ghost use Rattle.er_binary.specs.Meaning.{take_access, take_record, take_said};
 ghost use Rattle.er_binary.specs.Records.{body_len};
 ghost use Rattle.er_binary.specs.States.{address_of, after, at_block, first_state, is_note_byte, is_right, node_by, slot};
@@ -64,7 +65,7 @@ impl State {
         self.last = [0; 256];
     }
 
-    fn slot(&self) -> usize
+    pub(crate) fn slot(&self) -> usize
         ensures { result ≡ slot self.now }
     {
         (self.thread.unwrap_or(0) % 256) as usize
@@ -76,7 +77,7 @@ impl State {
     }
 
     // The address of an access.
-    fn address_of(&self, access: Access) -> u64
+    pub(crate) fn address_of(&self, access: Access) -> u64
         ensures { result ≡ address_of self.now access }
     {
         self.last[self.slot()].wrapping_add(access.distance) % ADDRESS_END
@@ -151,6 +152,7 @@ impl State {
     pub(crate) fn take(&mut self, out: &mut Vec<u8>, bytes: &[u8]) -> Taking
         ensures taken { IfOk result (λ len. HasTaken (take_record self.old bytes.now) out.old.items out.new.items self.old self.new len) }
         ensures len { IfOk result (λ len. IfSome len (λ n. (1 ≤ n) × (n ≤ length bytes.now))) }
+        ensures named { AreNamed self.old → AreNamed self.new }
         ensures err { OnErr result (self.new ≡ self.old) }
     {
         let Some(head) = record_at(bytes) else {
@@ -168,24 +170,14 @@ impl State {
         requires size { access.size ≤ 16 }
         ensures taken { IfOk result (λ n. HasTaken (take_access self.old len access) out.old.items out.new.items self.old self.new n) }
         ensures len { IfOk result (λ n. IfSome n (λ k. k ≡ len)) }
+        ensures named { AreNamed self.old → AreNamed self.new }
         ensures err { OnErr result (self.new ≡ self.old) }
     {
-        let (slot, address) = (self.slot(), self.address_of(access));
-        let node = access.node.unwrap_or(self.node);
-        let is_below = address + access.size <= ADDRESS_END;
-        if !(self.thread.is_some() && node <= self.nodes.len() && is_below) {
+        let Some(words) = self.words_of(access) else {
             return Ok(None);
-        }
-        let end = (address + access.size - 1) / 4 + 1;
-        let verb = if access.writes {
-            b"write".as_slice()
-        } else {
-            b"read".as_slice()
         };
-        self.put_lines(out, verb, node, address / 4, end)?;
-        self.last[slot] = address;
-        self.node = node;
-        self.events = self.events.wrapping_add(1);
+        self.put_words(out, &words)?;
+        self.pass(&words);
         Ok(Some(len))
     }
 
@@ -200,6 +192,7 @@ impl State {
         requires { len + length rest.now < 2 ^ 64 }
         ensures taken { IfOk result (λ n. HasTaken (take_said self.old len rest.now (Record.Other kind number)) out.old.items out.new.items self.old self.new n) }
         ensures len { IfOk result (λ n. IfSome n (λ k. (len ≤ k) × (k ≤ len + length rest.now))) }
+        ensures named { AreNamed self.old → AreNamed self.new }
         ensures err { OnErr result (self.new ≡ self.old) }
     {
         let body_len = kind.body_len(number);

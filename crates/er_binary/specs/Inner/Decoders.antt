@@ -1,6 +1,7 @@
 -- What a decoder still gives.
 use Rattle.std.specs.Prelude.{ℕ, ◌+◌, ◌-◌, ◌≤◌, List, [], ◌++◌, drop, take, length, vec_items, vec_len}
 use Rattle.er_binary.specs.Numbers.{plus}
+use Rattle.er_binary.specs.Inner.Words.{AreTaken, words_text}
 use Rattle.er_binary.specs.Meaning.{blocks, content, records}
 use Rattle.er_binary.specs.declared.decoder.Spot.{Spot}
 use Rattle.er_binary.specs.declared.decoder.Decoder.{Decoder}
@@ -34,11 +35,15 @@ undecoded q d rest =
 
 -- the text that is still to be given
 unfoldable pub still : Decoder → List ℕ → List ℕ
-still d rest = drop d.given (vec_items d.text) ++ undecoded d.phase d rest
+still d rest = drop d.given (vec_items d.text) ++ (words_text d.state d.words ++ undecoded d.phase d rest)
 
 -- the text that was made is given
+abbrev pub HasGiven : Decoder → Type 0
+HasGiven d = vec_len d.text ≤ d.given
+
+-- and the words of the last access are
 abbrev pub IsGiven : Decoder → Type 0
-IsGiven d = vec_len d.text ≤ d.given
+IsGiven d = HasGiven d × AreTaken d.words
 
 -- how much of the block is left to decode
 abbrev pub left : Phase → Decoder → ℕ

@@ -8,16 +8,17 @@ use Rattle.er_binary.proofs.decoder.Decoder.give_all.Goals as goal
 pub loop-count-preserved : goal.loop-count-preserved
 loop-count-preserved g c =
     let count = c.loop-count.count in
-    let n = c.give-count-in-loop-count.result in
+    let n = c.give.result in
     let buffer = c.loop-count.buffer in
-    let buf = c.give-count-in-loop-count.new.buffer in
+    let buf = c.give.new.buffer in
     let tail = post_of count (length buffer - count) buffer in
     let len : length (put_mid count (length buffer - count) buffer buf) ≡ length buffer = search rules in
     let room : length buf ≡ length buffer - count = search rules in record {
       within = omega arith;
       gives = λ rest. c.loop-count.invariant.gives rest
-          ∙ ap (λ (t : List ℕ). take count buffer ++ t) (c.next_record.ensures.same rest ∙ c.give-count-in-loop-count.ensures.gives rest)
+          ∙ ap (λ (t : List ℕ). take count buffer ++ t) (c.next_record.ensures.same rest ∙ c.give.ensures.gives rest)
           ∙ sym (append_assoc (take count buffer) (take n buf) _)
-          ∙ ap (λ (t : List ℕ). t ++ still c.give-count-in-loop-count.new.self rest) (sym (filled buffer buf tail count n c.loop-count.invariant.within c.give-count-in-loop-count.ensures.bound));
-      given = λ less. c.give-count-in-loop-count.ensures.given (omega arith);
+          ∙ ap (λ (t : List ℕ). t ++ still c.give.new.self rest) (sym (filled buffer buf tail count n c.loop-count.invariant.within c.give.ensures.bound));
+      taken = search rules;
+      given = λ less. c.give.ensures.given (omega arith);
     }

@@ -1,13 +1,15 @@
 -- What was given, and what is still to be given, are what was to be given.
 use Rattle.std.proofs.Common.{◌≡◌, ◌<◌, ◌≤◌, ◌++◌, ℕ, List, length, take}
-use Rattle.er_binary.specs.Inner.Decoders.{IsGiven, left, still}
+use Rattle.er_binary.specs.Inner.Decoders.{HasGiven, left, still}
+use Rattle.er_binary.specs.Inner.Words.{AreTaken}
 use Rattle.er_binary.proofs.decoder.Decoder.give_all.Given as goal
 
 abbrev pub invariant-loop-count : goal.invariant-loop-count
 invariant-loop-count g l = record {
   within : l.count ≤ length l.buffer;
   gives : (rest : List ℕ) → still l.fn.self rest ≡ take l.count l.buffer ++ still l.self rest;
-  given : l.count < length l.buffer → IsGiven l.self;
+  given : l.count < length l.buffer → HasGiven l.self;
+  taken : AreTaken l.self.words;
 }
 
 abbrev pub decreases-loop-count : goal.decreases-loop-count

@@ -1,0 +1,67 @@
+-- A decoder that took a line, and one that made the text of its words.
+use Rattle.std.proofs.Common.{◌≡◌, ℕ, ◌+◌, ◌*◌, ◌<◌, ◌≤◌, Bool, true, false, zero, suc, List, ◌++◌, length, drop, vec_items, vec_len, Option, Some, None, if◌then◌else◌, refl, sym, ap, ◌∙◌, append_assoc}
+use Rattle.er_lines.specs.declared.ready.ReadyLine.{ReadyLine}
+use Rattle.er_binary.specs.Inner.Decoders.{HasGiven, IsGiven, all_records, still, undecoded}
+use Rattle.er_binary.specs.Inner.Words.{counted, line_text, passed, words_at, words_text}
+use Rattle.er_binary.specs.Meaning.{Taken, past, take_record, take_said}
+use Rattle.er_binary.specs.Numbers.{address_word, plus}
+use Rattle.er_binary.specs.Records.{record_at}
+use Rattle.er_binary.specs.States.{after_access, is_access}
+use Rattle.er_binary.specs.Texts.{access_lines, access_text, feed, site, thread_does}
+use Rattle.er_binary.specs.declared.decoder.Decoder.{Decoder}
+use Rattle.er_binary.specs.declared.decoder.Phase.TheVariants as phase
+use Rattle.er_binary.specs.declared.records.Access.{Access}
+use Rattle.er_binary.specs.declared.records.Head.{Head}
+use Rattle.er_binary.specs.declared.records.Record.TheVariants as said
+use Rattle.er_binary.specs.declared.state.State.{State}
+use Rattle.er_binary.specs.declared.words.Words.{Words}
+use Rattle.er_binary.proofs.DecoderLaws.{given_is, record_is, words_left}
+use Rattle.er_binary.proofs.MeaningLaws.{record_some, take_some}
+
+-- a decoder whose text is given took a word's line
+pub word_taken : (d e : Decoder) (line : ReadyLine) (rest : List ℕ) → HasGiven d → HasGiven e → words_text d.state d.words ≡ line_text d.state line ++ words_text e.state e.words
+    → undecoded e.phase e rest ≡ undecoded d.phase d rest → still d rest ≡ line_text d.state line ++ still e rest
+word_taken d e line rest given done one same =
+    words_left d rest given
+    ∙ ap (λ (t : List ℕ). t ++ undecoded d.phase d rest) one
+    ∙ append_assoc (line_text d.state line) (words_text e.state e.words) (undecoded d.phase d rest)
+    ∙ ap (λ (t : List ℕ). line_text d.state line ++ (words_text e.state e.words ++ t)) (sym same)
+    ∙ ap (λ (t : List ℕ). line_text d.state line ++ t) (sym (words_left e rest done))
+
+-- the words' text doesn't change behind their access
+passed_lines : (s : State) (w : Words) (verb : List ℕ) (node first count : ℕ) → access_lines (passed s w) verb node first count ≡ access_lines s verb node first count
+unfolding access_lines
+passed_lines s w verb node first zero = refl
+passed_lines s w verb node first (suc count) = ap (λ (t : List ℕ). (thread_does s verb ++ address_word (4 * first) ++ site s node ++ feed) ++ t) (passed_lines s w verb node (first + 1) count)
+
+-- a test that gave words
+pub words_by : (b : Bool) (w v : Words) (o : Option Words) → o ≡ (if b then Some w else None) → o ≡ Some v → (b ≡ true) × (v ≡ w)
+words_by true w v o is some = (refl, cc (is, some))
+words_by false w v o is some = absurd (cc (is, some))
+
+record_taken : (s : State) (bytes : List ℕ) (head : Head) (t : Taken) → record_at bytes ≡ Some head → take_said s head.len (drop head.len bytes) head.says ≡ Some t → take_record s bytes ≡ Some t
+record_taken s bytes head t is said = take_some s bytes head is ∙ said
+
+-- a decoder that found an access: its words are still to come
+pub access_taken : (d e : Decoder) (rest : List ℕ) (head : Head) (a : Access) → IsGiven d → d.phase ≡ phase.Record → record_at (drop d.next (vec_items d.bytes)) ≡ Some head → head.says ≡ said.Access a
+    → d.next < length (vec_items d.bytes) → 1 ≤ head.len → is_access d.state a ≡ true → HasGiven e → e.phase ≡ phase.Record → e.state ≡ passed d.state (words_at d.state a) → e.words ≡ words_at d.state a
+    → e.spot ≡ past d.spot head.len → e.bytes ≡ d.bytes → e.next ≡ d.next + head.len → still d rest ≡ still e rest
+access_taken d e rest head a given at is says less some right done phase state words spot bytes next =
+    let t : Taken = record { text = access_text d.state a; state = after_access d.state a; len = head.len } in
+    let said : take_said d.state head.len (drop head.len (drop d.next (vec_items d.bytes))) head.says ≡ Some t = rw (says, right) refl in
+    record_is d rest given at
+    ∙ record_some (plus d.spot.start (16 + vec_len d.bytes)) d.spot d.state (vec_items d.bytes) rest d.next t less (record_taken d.state _ head t is said) some
+    ∙ ap (λ (w : List ℕ). w ++ all_records (plus d.spot.start (16 + vec_len d.bytes)) (past d.spot head.len) (after_access d.state a) (drop (d.next + head.len) (vec_items d.bytes)) rest)
+    (sym (passed_lines d.state (words_at d.state a) _ _ _ _))
+    ∙ sym (words_left e rest done ∙ rw (phase, state, words, spot, bytes, next) refl)
+
+-- a decoder that took a lock event's line
+pub lock_taken_is : (d e : Decoder) (rest : List ℕ) (head : Head) (line : ReadyLine) → IsGiven d → d.phase ≡ phase.Record → record_at (drop d.next (vec_items d.bytes)) ≡ Some head
+    → take_said d.state head.len (drop head.len (drop d.next (vec_items d.bytes))) head.says ≡ Some (record { text = line_text d.state line; state = counted d.state; len = head.len })
+    → d.next < length (vec_items d.bytes) → 1 ≤ head.len → IsGiven e → e.phase ≡ phase.Record → e.state ≡ counted d.state
+    → e.spot ≡ past d.spot head.len → e.bytes ≡ d.bytes → e.next ≡ d.next + head.len → still d rest ≡ line_text d.state line ++ still e rest
+lock_taken_is d e rest head line given at is said less some done phase state spot bytes next =
+    let t : Taken = record { text = line_text d.state line; state = counted d.state; len = head.len } in
+    record_is d rest given at
+    ∙ record_some (plus d.spot.start (16 + vec_len d.bytes)) d.spot d.state (vec_items d.bytes) rest d.next t less (record_taken d.state _ head t is said) some
+    ∙ ap (λ (t : List ℕ). line_text d.state line ++ t) (sym (given_is e rest done ∙ rw (phase, state, spot, bytes, next) refl))

@@ -1,0 +1,127 @@
+-- Lines that are taken of words and of lock events.
+use Rattle.std.proofs.Common.{◌≡◌, ◌==◌, ◌&&◌, ℕ, ◌+◌, ◌-◌, ◌*◌, ◌/◌, ◌%◌, ◌^◌, ◌<◌, Bool, true, false, nat_lt, List, [], ◌∷◌, ◌++◌, length, codes, Option, Some, refl, sym, ap, ◌∙◌, arith, append_assoc, if◌then◌else◌}
+use Rattle.std.proofs.lemmas.Bool.Decides.{nat_tests}
+use Rattle.std.proofs.lemmas.List.Folds.{list_all_at}
+use Rattle.std.specs.List.{list_all}
+use Rattle.er_lines.specs.Naming.{is_name, is_lock_name}
+use Rattle.er_lines.specs.Ready.{is_ready, name_word, ready_text}
+use Rattle.er_lines.specs.declared.ready.ReadyVerb.{ReadyVerb}
+use Rattle.er_lines.specs.declared.ready.ReadyVerb.TheVariants as does
+use Rattle.er_binary.specs.Inner.Words.{AreNamed, IsRight, IsSite, behind_first, counted, is_lock_verb, kind_for, line_text, name_by, verb_for, words_text}
+use Rattle.er_binary.specs.Meaning.{take_said}
+use Rattle.er_binary.specs.declared.records.Record.TheVariants as said
+use Rattle.er_binary.specs.Numbers.{address_word, name_at}
+use Rattle.er_binary.specs.States.{after, is_place, is_right}
+use Rattle.er_binary.specs.declared.records.Kind.{Kind}
+use Rattle.er_binary.specs.declared.records.Kind.TheVariants as kind
+use Rattle.er_binary.specs.Texts.{access_lines, feed, site, thread_does, word as word_of}
+use Rattle.er_binary.specs.declared.state.State.{State}
+use Rattle.er_binary.specs.declared.words.Words.{Words}
+use Rattle.er_binary.proofs.LineLemmas.{lines_step}
+
+or_not : (b : Bool) → (b ≡ false → true ≡ false) → b ≡ true
+or_not true f = refl
+or_not false f = sym (f refl)
+
+-- one of some names is a name of their kind
+pub named_at : (p : List ℕ → Bool) (names : List (List ℕ)) (n : ℕ) → list_all p names ≡ true → n < length names → p (name_at names n) ≡ true
+named_at p names n all less = or_not (p (name_at names n)) (λ other. cc (all, list_all_at p names n [] less other))
+
+-- a line of an access, made of its parts
+pub access_line : (s : State) (writes : Bool) (node word thread : ℕ) (name : Option ℕ) → s.thread ≡ Some thread → IsSite s node name
+    → thread_does s (if writes then codes "write" else codes "read") ++ address_word (4 * word) ++ site s node ++ feed
+    ≡ line_text s (record { verb = verb_for writes; address = word * 4; thread = thread; name = name })
+unfolding ready_text
+access_line s true node word thread name is known =
+    let order : 4 * word ≡ word * 4 = omega arith in
+    rw (known.0, order, is) (ap (λ (t : List ℕ). t ++ feed) (append_assoc (name_at s.threads thread ++ word_of (codes "write")) (address_word (word * 4)) (name_word (name_by s.places name))))
+access_line s false node word thread name is known =
+    let order : 4 * word ≡ word * 4 = omega arith in
+    rw (known.0, order, is) (ap (λ (t : List ℕ). t ++ feed) (append_assoc (name_at s.threads thread ++ word_of (codes "read")) (address_word (word * 4)) (name_word (name_by s.places name))))
+
+-- the first of some words
+pub first_line : (s : State) (w : Words) (thread : ℕ) (name : Option ℕ) → w.at / 4 < w.end → s.thread ≡ Some thread → IsSite s w.node name
+    → words_text s w ≡ line_text s (record { verb = verb_for w.writes; address = w.at / 4 * 4; thread = thread; name = name }) ++ words_text s (behind_first w)
+first_line s w thread name some is known =
+    let next : w.at / 4 + 1 ≡ (w.at / 4 * 4 + 4) / 4 = omega arith in
+    let verb = if w.writes then codes "write" else codes "read" in
+    lines_step s verb w.node (w.at / 4) w.end some
+    ∙ ap (λ (t : List ℕ). t ++ access_lines s verb w.node (w.at / 4 + 1) (w.end - (w.at / 4 + 1))) (access_line s w.writes w.node (w.at / 4) thread name is known)
+    ∙ ap (λ (k : ℕ). line_text s (record { verb = verb_for w.writes; address = w.at / 4 * 4; thread = thread; name = name }) ++ access_lines s verb w.node k (w.end - k)) next
+
+-- it is well formed
+pub access_right : (s : State) (writes : Bool) (node at thread : ℕ) (name : Option ℕ) → AreNamed s → thread < length s.threads → at / 4 * 4 < 2 ^ 48 → IsSite s node name
+    → IsRight s (record { verb = verb_for writes; address = at / 4 * 4; thread = thread; name = name })
+unfolding is_ready
+access_right s true node at thread name named known below site =
+    let even : (at / 4 * 4 % 4 == 0) ≡ true = grind (arith, nat_tests) in
+    let test : nat_lt (at / 4 * 4) (2 ^ 48) ≡ true = grind (arith, nat_tests) in
+    rw (named_at is_name s.threads thread named.0 known, even, test) site.1
+access_right s false node at thread name named known below site =
+    let even : (at / 4 * 4 % 4 == 0) ≡ true = grind (arith, nat_tests) in
+    let test : nat_lt (at / 4 * 4) (2 ^ 48) ≡ true = grind (arith, nat_tests) in
+    rw (named_at is_name s.threads thread named.0 known, even, test) site.1
+
+-- a lock event is taken as its line, by the tests that it passes
+lock_by : (s : State) (rest : List ℕ) (lock len : ℕ) {P : Type 0} → lock < length s.locks → (nat_lt lock (length s.locks) ≡ true → nat_lt (length rest) 0 ≡ false → len + 0 ≡ len → P) → P
+lock_by s rest lock len less f = f (grind (arith, nat_tests)) (grind (arith, nat_tests)) (omega arith)
+
+pub lock_taken : (s : State) (v : ReadyVerb) (lock thread len : ℕ) (rest : List ℕ) → is_lock_verb v ≡ true → s.thread ≡ Some thread → lock < length s.locks
+    → take_said s len rest (said.Other (kind_for v) lock) ≡ Some (record { text = line_text s (record { verb = v; address = 0; thread = thread; name = Some lock }); state = counted s; len = len })
+unfolding ready_text
+lock_taken s does.Read lock thread len rest right is less = absurd (cc right)
+lock_taken s does.Write lock thread len rest right is less = absurd (cc right)
+lock_taken s does.Lock lock thread len rest right is less = lock_by s rest lock len less (λ test zero none. rw (test, zero, none, is) refl)
+lock_taken s does.Unlock lock thread len rest right is less = lock_by s rest lock len less (λ test zero none. rw (test, zero, none, is) refl)
+lock_taken s does.ReadLock lock thread len rest right is less = lock_by s rest lock len less (λ test zero none. rw (test, zero, none, is) refl)
+lock_taken s does.ReadUnlock lock thread len rest right is less = lock_by s rest lock len less (λ test zero none. rw (test, zero, none, is) refl)
+
+pub lock_right : (s : State) (v : ReadyVerb) (lock thread : ℕ) → is_lock_verb v ≡ true → AreNamed s → thread < length s.threads → lock < length s.locks
+    → IsRight s (record { verb = v; address = 0; thread = thread; name = Some lock })
+unfolding is_ready
+lock_right s does.Read lock thread right named known less = absurd (cc right)
+lock_right s does.Write lock thread right named known less = absurd (cc right)
+lock_right s does.Lock lock thread right named known less = rw (named_at is_name s.threads thread named.0 known) (named_at is_lock_name s.locks lock named.1 less)
+lock_right s does.Unlock lock thread right named known less = rw (named_at is_name s.threads thread named.0 known) (named_at is_lock_name s.locks lock named.1 less)
+lock_right s does.ReadLock lock thread right named known less = rw (named_at is_name s.threads thread named.0 known) (named_at is_lock_name s.locks lock named.1 less)
+lock_right s does.ReadUnlock lock thread right named known less = rw (named_at is_name s.threads thread named.0 known) (named_at is_lock_name s.locks lock named.1 less)
+
+-- a right record leaves all names names of their kind
+and_left : (a b : Bool) → (a && b) ≡ true → a ≡ true
+and_left true b both = refl
+and_left false b both = both
+
+and_right : (a b : Bool) → (a && b) ≡ true → b ≡ true
+and_right true b both = both
+and_right false b both = absurd (cc both)
+
+all_more : (p : List ℕ → Bool) (names : List (List ℕ)) (name : List ℕ) → list_all p names ≡ true → p name ≡ true → list_all p (names ++ name ∷ []) ≡ true
+all_more p [] name all one = rw one refl
+all_more p (first ∷ names) name all one = rw (and_left (p first) _ all) (all_more p names name (and_right (p first) _ all) one)
+
+pub after_named : (s : State) (k : Kind) (n : ℕ) (body behind : List ℕ) → is_right s k n body behind ≡ true → AreNamed s → AreNamed (after s k n body)
+after_named s kind.Thread n body behind right named = named
+after_named s kind.Node n body behind right named = named
+after_named s kind.Lock n body behind right named = named
+after_named s kind.Unlock n body behind right named = named
+after_named s kind.ReadLock n body behind right named = named
+after_named s kind.ReadUnlock n body behind right named = named
+after_named s kind.FailedTry n body behind right named = named
+after_named s kind.Signal n body behind right named = named
+after_named s kind.Await n body behind right named = named
+after_named s kind.Start n body behind right named = named
+after_named s kind.Join n body behind right named = named
+after_named s kind.IgnoreOn n body behind right named = named
+after_named s kind.IgnoreOff n body behind right named = named
+after_named s kind.Reuse n body behind right named = named
+after_named s kind.Show n body behind right named = named
+after_named s kind.Level n body behind right named = named
+after_named s kind.Flow n body behind right named = named
+after_named s kind.ThreadName n body behind right named = (all_more is_name s.threads body named.0 (and_left _ _ right), named.1, named.2)
+after_named s kind.LockName n body behind right named = (named.0, all_more is_lock_name s.locks body named.1 (and_left _ _ right), named.2)
+after_named s kind.Place n body behind right named = (named.0, named.1, all_more is_place s.places body named.2 (and_left _ _ right))
+after_named s kind.NewNode n body behind right named = named
+after_named s kind.Note n body behind right named = named
+after_named s kind.Fact n body behind right named = named
+after_named s kind.Lost n body behind right named = named
+after_named s kind.End n body behind right named = named

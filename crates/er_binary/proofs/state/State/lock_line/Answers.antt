@@ -1,0 +1,12 @@
+-- The line of a lock event.
+use Rattle.std.proofs.Common.{arith}
+use Rattle.er_binary.proofs.WordsLaws.{lock_right, lock_taken}
+use Rattle.er_binary.proofs.state.State.lock_line.Goals as goal
+
+pub returns-clause-taken : goal.returns-clause-taken
+returns-clause-taken c = λ len rest.
+    rw c.in_ok-verb.ensures.0 (lock_taken c.args.self.now c.in_ok-verb.verb c.args.lock c.in_ok-thread.thread len rest c.in_ok-verb.ensures.1 c.in_ok-thread.ensures.0 (omega arith))
+
+pub returns-clause-right : goal.returns-clause-right
+returns-clause-right c = λ named.
+    lock_right c.args.self.now c.in_ok-verb.verb c.args.lock c.in_ok-thread.thread c.in_ok-verb.ensures.1 named c.in_ok-thread.ensures.1 (omega arith)

@@ -1,0 +1,86 @@
+-- Words of an access that are still to come, and lines that are taken without their text.
+use Rattle.std.specs.Prelude.{◌≡◌, Bool, ℕ, ◌+◌, ◌-◌, ◌*◌, ◌/◌, ◌≤◌, true, false, List, [], Option, Some, None, slice_set, codes, if◌then◌else◌}
+use Rattle.std.specs.List.{list_all}
+use Rattle.er_lines.specs.Naming.{is_name, is_lock_name}
+use Rattle.er_lines.specs.Ready.{is_maybe_site, is_ready, name_word, ready_text}
+use Rattle.er_lines.specs.declared.ready.ReadyLine.{ReadyLine}
+use Rattle.er_lines.specs.declared.ready.ReadyVerb.{ReadyVerb}
+use Rattle.er_lines.specs.declared.ready.ReadyVerb.TheVariants as does
+use Rattle.er_binary.specs.Numbers.{name_at, plus}
+use Rattle.er_binary.specs.States.{address_of, is_place, node_of, slot}
+use Rattle.er_binary.specs.Texts.{access_lines, site}
+use Rattle.er_binary.specs.declared.records.Access.{Access}
+use Rattle.er_binary.specs.declared.records.Kind.{Kind}
+use Rattle.er_binary.specs.declared.records.Kind.TheVariants as kind
+use Rattle.er_binary.specs.declared.state.State.{State}
+use Rattle.er_binary.specs.declared.words.Words.{Words}
+
+-- the words of an access
+abbrev pub words_at : State → Access → Words
+words_at s a = record { writes = a.writes; node = node_of s a; at = address_of s a; end = (address_of s a + a.size - 1) / 4 + 1 }
+
+-- a line for each of them
+abbrev pub words_text : State → Words → List ℕ
+words_text s w = access_lines s (if w.writes then codes "write" else codes "read") w.node (w.at / 4) (w.end - w.at / 4)
+
+-- behind the access of these words
+abbrev pub passed : State → Words → State
+passed s w = record s { node = w.node; last = slice_set s.last (slot s) w.at; events = plus s.events 1 }
+
+-- behind a lock event
+abbrev pub counted : State → State
+counted s = record s { events = plus s.events 1 }
+
+-- no word is left
+abbrev pub AreTaken : Words → Type 0
+AreTaken w = w.end ≤ w.at / 4
+
+-- the words behind the first
+abbrev pub behind_first : Words → Words
+behind_first w = record w { at = w.at / 4 * 4 + 4 }
+
+-- all names that are known are names of their kind
+abbrev pub AreNamed : State → Type 0
+AreNamed s = (list_all is_name s.threads ≡ true) × (list_all is_lock_name s.locks ≡ true) × (list_all is_place s.places ≡ true)
+
+-- the record of a lock event by its verb
+abbrev pub kind_for : ReadyVerb → Kind
+kind_for does.Lock = kind.Lock
+kind_for does.Unlock = kind.Unlock
+kind_for does.ReadLock = kind.ReadLock
+kind_for v = kind.ReadUnlock
+
+abbrev pub is_lock_verb : ReadyVerb → Bool
+is_lock_verb does.Read = false
+is_lock_verb does.Write = false
+is_lock_verb v = true
+
+abbrev pub verb_for : Bool → ReadyVerb
+verb_for writes = if writes then does.Write else does.Read
+
+-- the name of a line's thread, and of its site or its lock
+abbrev pub line_thread : State → ReadyLine → List ℕ
+line_thread s line = name_at s.threads line.thread
+
+abbrev pub names_for : State → ReadyVerb → List (List ℕ)
+names_for s does.Read = s.places
+names_for s does.Write = s.places
+names_for s v = s.locks
+
+abbrev pub name_by : List (List ℕ) → Option ℕ → List ℕ
+name_by names None = []
+name_by names (Some n) = name_at names n
+
+abbrev pub line_name : State → ReadyLine → List ℕ
+line_name s line = name_by (names_for s line.verb) line.name
+
+-- its text, and whether it is well formed
+abbrev pub line_text : State → ReadyLine → List ℕ
+line_text s line = ready_text line.verb line.address (line_thread s line) (line_name s line)
+
+abbrev pub IsRight : State → ReadyLine → Type 0
+IsRight s line = is_ready line.verb line.address (line_thread s line) (line_name s line) ≡ true
+
+-- the site of a node by the number of its name
+abbrev pub IsSite : State → ℕ → Option ℕ → Type 0
+IsSite s node name = (site s node ≡ name_word (name_by s.places name)) × (is_maybe_site (name_by s.places name) ≡ true)
