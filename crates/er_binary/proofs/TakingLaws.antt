@@ -1,5 +1,5 @@
 -- A decoder that took a line, and one that made the text of its words.
-use Rattle.std.proofs.Common.{◌≡◌, ℕ, ◌+◌, ◌*◌, ◌<◌, ◌≤◌, Bool, true, false, zero, suc, List, ◌++◌, length, drop, vec_items, vec_len, Option, Some, None, if◌then◌else◌, refl, sym, ap, ◌∙◌, append_assoc}
+use Rattle.std.proofs.Common.{◌≡◌, ℕ, ◌+◌, ◌*◌, ◌<◌, ◌≤◌, true, zero, suc, List, ◌++◌, length, drop, vec_items, vec_len, Some, refl, sym, ap, ◌∙◌, append_assoc}
 use Rattle.er_lines.specs.declared.ready.ReadyLine.{ReadyLine}
 use Rattle.er_binary.specs.Inner.Decoders.{HasGiven, IsGiven, all_records, still, undecoded}
 use Rattle.er_binary.specs.Inner.Words.{counted, line_text, passed, words_at, words_text}
@@ -33,11 +33,6 @@ passed_lines : (s : State) (w : Words) (verb : List ℕ) (node first count : ℕ
 unfolding access_lines
 passed_lines s w verb node first zero = refl
 passed_lines s w verb node first (suc count) = ap (λ (t : List ℕ). (thread_does s verb ++ address_word (4 * first) ++ site s node ++ feed) ++ t) (passed_lines s w verb node (first + 1) count)
-
--- a test that gave words
-pub words_by : (b : Bool) (w v : Words) (o : Option Words) → o ≡ (if b then Some w else None) → o ≡ Some v → (b ≡ true) × (v ≡ w)
-words_by true w v o is some = (refl, cc (is, some))
-words_by false w v o is some = absurd (cc (is, some))
 
 record_taken : (s : State) (bytes : List ℕ) (head : Head) (t : Taken) → record_at bytes ≡ Some head → take_said s head.len (drop head.len bytes) head.says ≡ Some t → take_record s bytes ≡ Some t
 record_taken s bytes head t is said = take_some s bytes head is ∙ said

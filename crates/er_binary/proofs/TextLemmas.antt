@@ -31,6 +31,11 @@ pub either_way : {T E P Q R : Type 0} (r : Result T E) → OnOk r P → OnErr r 
 either_way (Ok v) ok err f g = f ok
 either_way (Err e) ok err f g = g err
 
+-- what holds anyway holds where nothing is given
+pub none_of : {T : Type 0} (o : Option T) (P : Type 0) → P → IfNone o P
+none_of None P p = p
+none_of (Some x) P p = tt
+
 -- what follows from what a call that gave nothing, or something, says
 pub none_then : {T P Q : Type 0} (o : Option T) → IfNone o P → (P → Q) → IfNone o Q
 none_then None p f = f p

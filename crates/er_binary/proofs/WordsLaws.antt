@@ -1,5 +1,5 @@
 -- Lines that are taken of words and of lock events.
-use Rattle.std.proofs.Common.{◌≡◌, ◌==◌, ◌&&◌, ℕ, ◌+◌, ◌-◌, ◌*◌, ◌/◌, ◌%◌, ◌^◌, ◌<◌, Bool, true, false, nat_lt, List, [], ◌∷◌, ◌++◌, length, codes, Option, Some, refl, sym, ap, ◌∙◌, arith, append_assoc, if◌then◌else◌}
+use Rattle.std.proofs.Common.{◌≡◌, ◌==◌, ◌&&◌, ℕ, ◌+◌, ◌-◌, ◌*◌, ◌/◌, ◌%◌, ◌^◌, ◌<◌, Bool, true, false, nat_lt, List, [], ◌∷◌, ◌++◌, length, codes, Option, Some, refl, sym, ap, ◌∙◌, arith, append_assoc, if◌then◌else◌, None, length-append}
 use Rattle.std.proofs.lemmas.Bool.Decides.{nat_tests}
 use Rattle.std.proofs.lemmas.List.Folds.{list_all_at}
 use Rattle.std.specs.List.{list_all}
@@ -49,18 +49,27 @@ first_line s w thread name some is known =
     ∙ ap (λ (t : List ℕ). t ++ access_lines s verb w.node (w.at / 4 + 1) (w.end - (w.at / 4 + 1))) (access_line s w.writes w.node (w.at / 4) thread name is known)
     ∙ ap (λ (k : ℕ). line_text s (record { verb = verb_for w.writes; address = w.at / 4 * 4; thread = thread; name = name }) ++ access_lines s verb w.node k (w.end - k)) next
 
+-- a test that gave words, or none
+pub words_by : (b : Bool) (w v : Words) (o : Option Words) → o ≡ (if b then Some w else None) → o ≡ Some v → (b ≡ true) × (v ≡ w)
+words_by true w v o is some = (refl, cc (is, some))
+words_by false w v o is some = absurd (cc (is, some))
+
+pub words_no : (b : Bool) (w : Words) (o : Option Words) → o ≡ (if b then Some w else None) → o ≡ None → b ≡ false
+words_no true w o is none = absurd (cc (is, none))
+words_no false w o is none = refl
+
 -- it is well formed
-pub access_right : (s : State) (writes : Bool) (node at thread : ℕ) (name : Option ℕ) → AreNamed s → thread < length s.threads → at / 4 * 4 < 2 ^ 48 → IsSite s node name
+pub access_right : (s : State) (writes : Bool) (node at thread : ℕ) (name : Option ℕ) → AreNamed s → s.thread ≡ Some thread → at / 4 * 4 < 2 ^ 48 → IsSite s node name
     → IsRight s (record { verb = verb_for writes; address = at / 4 * 4; thread = thread; name = name })
 unfolding is_ready
 access_right s true node at thread name named known below site =
     let even : (at / 4 * 4 % 4 == 0) ≡ true = grind (arith, nat_tests) in
     let test : nat_lt (at / 4 * 4) (2 ^ 48) ≡ true = grind (arith, nat_tests) in
-    rw (named_at is_name s.threads thread named.0 known, even, test) site.1
+    rw (named_at is_name s.threads thread named.0 (named.3 thread known), even, test) site.1
 access_right s false node at thread name named known below site =
     let even : (at / 4 * 4 % 4 == 0) ≡ true = grind (arith, nat_tests) in
     let test : nat_lt (at / 4 * 4) (2 ^ 48) ≡ true = grind (arith, nat_tests) in
-    rw (named_at is_name s.threads thread named.0 known, even, test) site.1
+    rw (named_at is_name s.threads thread named.0 (named.3 thread known), even, test) site.1
 
 -- a lock event is taken as its line, by the tests that it passes
 lock_by : (s : State) (rest : List ℕ) (lock len : ℕ) {P : Type 0} → lock < length s.locks → (nat_lt lock (length s.locks) ≡ true → nat_lt (length rest) 0 ≡ false → len + 0 ≡ len → P) → P
@@ -76,15 +85,15 @@ lock_taken s does.Unlock lock thread len rest right is less = lock_by s rest loc
 lock_taken s does.ReadLock lock thread len rest right is less = lock_by s rest lock len less (λ test zero none. rw (test, zero, none, is) refl)
 lock_taken s does.ReadUnlock lock thread len rest right is less = lock_by s rest lock len less (λ test zero none. rw (test, zero, none, is) refl)
 
-pub lock_right : (s : State) (v : ReadyVerb) (lock thread : ℕ) → is_lock_verb v ≡ true → AreNamed s → thread < length s.threads → lock < length s.locks
+pub lock_right : (s : State) (v : ReadyVerb) (lock thread : ℕ) → is_lock_verb v ≡ true → AreNamed s → s.thread ≡ Some thread → lock < length s.locks
     → IsRight s (record { verb = v; address = 0; thread = thread; name = Some lock })
 unfolding is_ready
 lock_right s does.Read lock thread right named known less = absurd (cc right)
 lock_right s does.Write lock thread right named known less = absurd (cc right)
-lock_right s does.Lock lock thread right named known less = rw (named_at is_name s.threads thread named.0 known) (named_at is_lock_name s.locks lock named.1 less)
-lock_right s does.Unlock lock thread right named known less = rw (named_at is_name s.threads thread named.0 known) (named_at is_lock_name s.locks lock named.1 less)
-lock_right s does.ReadLock lock thread right named known less = rw (named_at is_name s.threads thread named.0 known) (named_at is_lock_name s.locks lock named.1 less)
-lock_right s does.ReadUnlock lock thread right named known less = rw (named_at is_name s.threads thread named.0 known) (named_at is_lock_name s.locks lock named.1 less)
+lock_right s does.Lock lock thread right named known less = rw (named_at is_name s.threads thread named.0 (named.3 thread known)) (named_at is_lock_name s.locks lock named.1 less)
+lock_right s does.Unlock lock thread right named known less = rw (named_at is_name s.threads thread named.0 (named.3 thread known)) (named_at is_lock_name s.locks lock named.1 less)
+lock_right s does.ReadLock lock thread right named known less = rw (named_at is_name s.threads thread named.0 (named.3 thread known)) (named_at is_lock_name s.locks lock named.1 less)
+lock_right s does.ReadUnlock lock thread right named known less = rw (named_at is_name s.threads thread named.0 (named.3 thread known)) (named_at is_lock_name s.locks lock named.1 less)
 
 -- a right record leaves all names names of their kind
 and_left : (a b : Bool) → (a && b) ≡ true → a ≡ true
@@ -99,8 +108,11 @@ all_more : (p : List ℕ → Bool) (names : List (List ℕ)) (name : List ℕ) �
 all_more p [] name all one = rw one refl
 all_more p (first ∷ names) name all one = rw (and_left (p first) _ all) (all_more p names name (and_right (p first) _ all) one)
 
+thread_less : (s : State) (n k : ℕ) → nat_lt n (length s.threads) ≡ true → n ≡ k → k < length s.threads
+thread_less s n k right same = let less : n < length s.threads = grind (arith, nat_tests) in omega arith
+
 pub after_named : (s : State) (k : Kind) (n : ℕ) (body behind : List ℕ) → is_right s k n body behind ≡ true → AreNamed s → AreNamed (after s k n body)
-after_named s kind.Thread n body behind right named = named
+after_named s kind.Thread n body behind right named = (named.0, named.1, named.2, λ k is. thread_less s n k right (cc is))
 after_named s kind.Node n body behind right named = named
 after_named s kind.Lock n body behind right named = named
 after_named s kind.Unlock n body behind right named = named
@@ -117,9 +129,9 @@ after_named s kind.Reuse n body behind right named = named
 after_named s kind.Show n body behind right named = named
 after_named s kind.Level n body behind right named = named
 after_named s kind.Flow n body behind right named = named
-after_named s kind.ThreadName n body behind right named = (all_more is_name s.threads body named.0 (and_left _ _ right), named.1, named.2)
-after_named s kind.LockName n body behind right named = (named.0, all_more is_lock_name s.locks body named.1 (and_left _ _ right), named.2)
-after_named s kind.Place n body behind right named = (named.0, named.1, all_more is_place s.places body named.2 (and_left _ _ right))
+after_named s kind.ThreadName n body behind right named = (all_more is_name s.threads body named.0 (and_left _ _ right), named.1, named.2, λ k is. omega (arith, named.3 k is, length-append s.threads (body ∷ [])))
+after_named s kind.LockName n body behind right named = (named.0, all_more is_lock_name s.locks body named.1 (and_left _ _ right), named.2, named.3)
+after_named s kind.Place n body behind right named = (named.0, named.1, all_more is_place s.places body named.2 (and_left _ _ right), named.3)
 after_named s kind.NewNode n body behind right named = named
 after_named s kind.Note n body behind right named = named
 after_named s kind.Fact n body behind right named = named

@@ -1,13 +1,12 @@
 //! A reader of the text that a trace of any form means.
-ghost use Rattle.std.specs.Prelude.{◌≡◌, ◌≢◌, ◌≤◌, IfSome, OnOk, option_map, true};
-ghost use Rattle.er_lines.specs.Ready.{HasTaken, is_ready, ready_text};
+ghost use Rattle.std.specs.Prelude.{◌≡◌, ◌≢◌, ◌≤◌, OnOk, option_map};
 ghost use Rattle.std.specs.Io.{ReadsAtMost};
 ghost use Rattle.std.specs.Io.KnownBytes.{Keeps, ReadConsumes};
 
 use crate::decoder::{Decoder, copy_front, fill};
 use crate::names::Names;
 use crate::state::State;
-use er_lines::{ReadyLine, Shortcut};
+use er_lines::{ReadyLine, ReadyVerb, Shortcut};
 use std::alloc::Global;
 use std::io;
 use std::io::Read;
@@ -143,22 +142,6 @@ impl<R: Read> Decoded<R> {
     }
 }
 
-impl<R: Read> Decoded<R> {
-    ghost use Rattle.er_binary.specs.Decoded.{source_of, thread_of, name_of, to_come};
-
-    // Takes the next line of a binary trace, if it is an access or a lock event of a block that was read.
-    #[inline(always)]
-    fn take(&mut self) -> Option<ReadyLine>
-        ensures taken { HasTaken (option_map (to_come self.old) (R.remaining (source_of self.old))) (option_map (to_come self.new) (R.remaining (source_of self.new))) (λ line. ready_text line.verb line.address (thread_of self.new line) (name_of self.new line)) result }
-        ensures right { IfSome result (λ line. is_ready line.verb line.address (thread_of self.new line) (name_of self.new line) ≡ true) }
-    {
-        match &mut self.form {
-            Form::Binary(decoder) => decoder.take(),
-            _ => None,
-        }
-    }
-}
-
 /// Takes accesses and lock events of a binary trace before they are text.
 #[derive(Clone, Copy)]
 pub struct Directly;
@@ -170,21 +153,27 @@ impl<R: Read> Shortcut<Decoded<R>> for Directly {
 
     ghost name_of = { name_of };
 
-    #[inline(always)]
     fn take(&self, reader: &mut Decoded<R>) -> Option<ReadyLine> {
-        reader.take()
+        match &mut reader.form {
+            Form::Binary(decoder) => decoder.take(),
+            _ => None,
+        }
     }
 
     fn thread<'a>(&self, reader: &'a Decoded<R>, line: ReadyLine) -> &'a [u8] {
         match &reader.form {
-            Form::Binary(decoder) => decoder.thread_of(line),
+            Form::Binary(decoder) => decoder.state.threads.get(line.thread),
             _ => b"".as_slice(),
         }
     }
 
     fn name<'a>(&self, reader: &'a Decoded<R>, line: ReadyLine) -> &'a [u8] {
-        match &reader.form {
-            Form::Binary(decoder) => decoder.name_of(line),
+        match (&reader.form, line.name, line.verb) {
+            (Form::Binary(decoder), Some(name), ReadyVerb::Read | ReadyVerb::Write) => decoder
+                .state
+                .places
+                .get(name),
+            (Form::Binary(decoder), Some(name), _) => decoder.state.locks.get(name),
             _ => b"".as_slice(),
         }
     }

@@ -1,7 +1,7 @@
 //! Decodes the blocks of a binary trace, one after another.
 ghost use Rattle.std.specs.Prelude.{◌≡◌, ◌<◌, ◌≤◌, ◌^◌, ◌+◌, ◌/◌, ◌++◌, ℕ, List, OnOk, OnErr, IfOk, IfNone, IfSome, length, vec_len, min, take, option_map, false};
 ghost use Rattle.std.specs.Io.{ReadsAtMost};
-ghost use Rattle.er_binary.specs.Inner.Words.{AreNamed, AreTaken, IsRight, line_name, line_text, line_thread};
+ghost use Rattle.er_binary.specs.Inner.Words.{AreNamed, AreTaken, IsRight, line_text};
 ghost use Rattle.er_binary.specs.Meaning.{checksum, is_bad_len, last_line, mixed, past};
 ghost use Rattle.std.specs.Io.KnownBytes.{IsAtEnd, Keeps, ReadConsumes, prepend_known};
 
@@ -9,7 +9,7 @@ use crate::decoded::Listener;
 use crate::names::{Names, Put, number};
 use crate::records::{Record, record_at};
 use crate::state::State;
-use crate::words::{NO_WORDS, Words};
+use crate::words::Words;
 use er_lines::{ReadyLine, put_number};
 use std::alloc::{AllocError, Global};
 use std::io;
@@ -27,6 +27,17 @@ pub(crate) struct Spot {
     pub(crate) sum: u64,
 }
 
+impl Spot {
+    // Goes on behind a record of so many bytes.
+    #[inline(always)]
+    fn pass(&mut self, len: usize)
+        ensures { self.new ≡ past self.old len }
+    {
+        self.at = self.at.wrapping_add(len as u64);
+        self.found = self.found.wrapping_add(1);
+    }
+}
+
 /// What comes next: the first 16 bytes of a block, its records' bytes, a record of them, or nothing.
 #[derive(Clone, Copy, PartialEq, Eq)]
 pub(crate) enum Phase {
@@ -39,7 +50,7 @@ pub(crate) enum Phase {
 /// A decoder: it keeps the block that it is in, and the text of one record.
 #[derive(Drop)]
 pub(crate) struct Decoder {
-    state: State,
+    pub(crate) state: State,
     spot: Spot,
     phase: Phase,
     // The first bytes of the block, of which `header_held` were read.
@@ -93,7 +104,12 @@ impl Decoder {
             next: 0,
             text: Vec::from_slice(alloc, b"eraser trace 3\n")?,
             given: 0,
-            words: NO_WORDS,
+            words: Words {
+                writes: false,
+                node: 0,
+                at: 0,
+                end: 0,
+            },
             is_taken: false,
         })
     }
@@ -142,8 +158,10 @@ impl Decoder {
     {
         self.is_taken = true;
         for _ in 0..8u8 {
-            if !self.words.is_empty() {
-                return self.take_word();
+            if self.words.at / 4 < self.words.end {
+                let line = self.state.line_of(&self.words)?;
+                self.words.at = self.words.at / 4 * 4 + 4;
+                return Some(line);
             }
             if self.given < self.text.len() || self.phase != Phase::Record {
                 return None;
@@ -155,12 +173,14 @@ impl Decoder {
                     let words = self.state.words_of(access)?;
                     self.state.pass(&words);
                     self.words = words;
-                    self.go_past(head.len);
+                    self.next += head.len;
+                    self.spot.pass(head.len);
                 }
                 Record::Other(kind, number) => {
                     if let Some(line) = self.state.lock_line(kind, number) {
-                        self.state.count();
-                        self.go_past(head.len);
+                        self.state.events = self.state.events.wrapping_add(1);
+                        self.next += head.len;
+                        self.spot.pass(head.len);
                         return Some(line);
                     }
                     self.next_record(&mut ()).ok()?;
@@ -168,51 +188,6 @@ impl Decoder {
             }
         }
         None
-    }
-
-    /// The name of a line's thread.
-    pub(crate) fn thread_of(&self, line: ReadyLine) -> &[u8]
-        ensures { result.now ≡ line_thread self.now.state line }
-    {
-        self.state.thread_of(line)
-    }
-
-    /// The name of a line's site or lock, and no bytes if it has none.
-    pub(crate) fn name_of(&self, line: ReadyLine) -> &[u8]
-        ensures { result.now ≡ line_name self.now.state line }
-    {
-        self.state.name_of(line)
-    }
-
-    // Takes the line of the first word that is still to come.
-    #[inline(always)]
-    fn take_word(&mut self) -> Option<ReadyLine>
-        requires { self.old.words.at / 4 < self.old.words.end }
-        ensures none { IfNone result ((rest : List ℕ) → still self.old rest ≡ still self.new rest) }
-        ensures some { IfSome result (λ line. (rest : List ℕ) → still self.old rest ≡ line_text self.new.state line ++ still self.new rest) }
-        ensures right { IfSome result (λ line. IsRight self.new.state line) }
-    {
-        let line = self.state.line_of(&self.words)?;
-        self.words.at = self.words.at / 4 * 4 + 4;
-        Some(line)
-    }
-
-    // Goes on behind a record of so many bytes.
-    #[inline(always)]
-    fn go_past(&mut self, len: usize)
-        requires { self.old.next + len ≤ vec_len self.old.bytes }
-        ensures next { self.new.next ≡ self.old.next + len }
-        ensures spot { self.new.spot ≡ past self.old.spot len }
-        ensures state { self.new.state ≡ self.old.state }
-        ensures phase { self.new.phase ≡ self.old.phase }
-        ensures bytes { self.new.bytes ≡ self.old.bytes }
-        ensures text { self.new.text ≡ self.old.text }
-        ensures given { self.new.given ≡ self.old.given }
-        ensures words { self.new.words ≡ self.old.words }
-    {
-        self.next += len;
-        self.spot.at = self.spot.at.wrapping_add(len as u64);
-        self.spot.found = self.spot.found.wrapping_add(1);
     }
 
     // Gives the text of the block, as far as the buffer has room.
@@ -238,7 +213,7 @@ impl Decoder {
         ensures same { (rest : List ℕ) → still self.old rest ≡ still self.new rest }
         ensures taken { OnOk result (AreTaken self.new.words) }
     {
-        if self.words.is_empty() {
+        if self.words.end <= self.words.at / 4 {
             return Ok(());
         }
         self.given = 0;
@@ -247,7 +222,7 @@ impl Decoder {
             self.text.clear();
             return Err(io::Error::from(refused));
         }
-        self.words = NO_WORDS;
+        self.words.end = 0;
         Ok(())
     }
 
@@ -284,8 +259,7 @@ impl Decoder {
         match self.state.take(&mut self.text, rest) {
             Ok(Some(len)) => {
                 self.next += len;
-                self.spot.at = self.spot.at.wrapping_add(len as u64);
-                self.spot.found = self.spot.found.wrapping_add(1);
+                self.spot.pass(len);
                 let (bytes, _) = rest.split_at(len);
                 listener.hear(bytes, &self.text, &self.state);
                 Ok(())

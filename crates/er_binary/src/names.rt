@@ -76,8 +76,22 @@ impl Names {
     }
 }
 
-/// The number that bytes write, the lowest first.
+/// The number that bytes write, the lowest first. That of 1, 2 or 4 bytes is read at once.
+#[inline(always)]
 pub fn number(bytes: &[u8]) -> u64
+    requires { length bytes.now ≤ 8 }
+    ensures value { result ≡ number bytes.now }
+    ensures bound { result < 256 ^ length bytes.now }
+{
+    match bytes {
+        [a] => u64::from(*a),
+        [a, b] => u64::from(u16::from_le_bytes([*a, *b])),
+        [a, b, c, d] => u64::from(u32::from_le_bytes([*a, *b, *c, *d])),
+        _ => long_number(bytes),
+    }
+}
+
+fn long_number(bytes: &[u8]) -> u64
     requires { length bytes.now ≤ 8 }
     ensures value { result ≡ number bytes.now }
     ensures bound { result < 256 ^ length bytes.now }

@@ -57,6 +57,7 @@ static NODES: [usize; 4] = [0, 1, 2, 4];
 static SPANS: [u64; 4] = [1 << 8, 1 << 16, 1 << 32, 1 << 48];
 
 /// The record at the front. None if there is none, or it isn't whole.
+#[inline(always)]
 pub fn record_at(bytes: &[u8]) -> Option<Head>
     ensures value { result ≡ record_at bytes.now }
     ensures within { IfSome result (λ head. (1 ≤ head.len) × (head.len ≤ length bytes.now)) }
@@ -73,6 +74,7 @@ pub fn record_at(bytes: &[u8]) -> Option<Head>
     }
 }
 
+#[inline(always)]
 fn access_at(tag: u8, bytes: &[u8]) -> Option<Head>
     ensures value { result ≡ access_at tag bytes.now }
     ensures within { IfSome result (λ head. (1 ≤ head.len) × (head.len ≤ length bytes.now)) }
@@ -102,6 +104,7 @@ fn access_at(tag: u8, bytes: &[u8]) -> Option<Head>
     Some(Head { says, len })
 }
 
+#[inline(always)]
 fn size_of(bits: u8, byte: u8) -> u64
     ensures { result ≡ size_of bits byte }
 {
@@ -113,6 +116,7 @@ fn size_of(bits: u8, byte: u8) -> u64
     }
 }
 
+#[inline(always)]
 fn signed(tag: u8, distance: u64) -> u64
     requires { distance < 2 ^ 48 }
     ensures { result ≡ signed tag distance }
@@ -125,6 +129,7 @@ fn signed(tag: u8, distance: u64) -> u64
     }
 }
 
+#[inline(always)]
 fn other_at(tag: u8, bytes: &[u8]) -> Option<Head>
     requires { 128 ≤ tag }
     ensures value { result ≡ other_at tag bytes.now }
@@ -139,6 +144,7 @@ fn other_at(tag: u8, bytes: &[u8]) -> Option<Head>
     Some(Head { says, len })
 }
 
+#[inline(always)]
 fn kind_of(n: u8) -> Kind
     requires { n < 32 }
     ensures { result ≡ kind_of n }

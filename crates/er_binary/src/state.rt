@@ -3,7 +3,7 @@ ghost use Rattle.std.specs.Prelude.{◌≡◌, ◌≤◌, ◌<◌, ◌^◌, ◌+
 ghost use Rattle.std.specs.List.{list_all};
 ghost use Rattle.er_binary.specs.Inner.Taking.{HasTaken};
 ghost use Rattle.er_binary.specs.Inner.Words.{AreNamed};
-ghost use Rattle.er_binary.specs.Meaning.{take_access, take_record, take_said};
+ghost use Rattle.er_binary.specs.Meaning.{take_record, take_said};
 ghost use Rattle.er_binary.specs.Records.{body_len};
 ghost use Rattle.er_binary.specs.States.{address_of, after, at_block, first_state, is_note_byte, is_right, node_by, slot};
 
@@ -160,25 +160,16 @@ impl State {
         };
         let (_, rest) = bytes.split_at(head.len);
         match head.says {
-            Record::Access(access) => self.take_access(out, access, head.len),
+            Record::Access(access) => {
+                let Some(words) = self.words_of(access) else {
+                    return Ok(None);
+                };
+                self.put_words(out, &words)?;
+                self.pass(&words);
+                Ok(Some(head.len))
+            }
             Record::Other(kind, number) => self.take_other(out, kind, number, head.len, rest),
         }
-    }
-
-    fn take_access(&mut self, out: &mut Vec<u8>, access: Access, len: usize) -> Taking
-        requires some { 1 ≤ access.size }
-        requires size { access.size ≤ 16 }
-        ensures taken { IfOk result (λ n. HasTaken (take_access self.old len access) out.old.items out.new.items self.old self.new n) }
-        ensures len { IfOk result (λ n. IfSome n (λ k. k ≡ len)) }
-        ensures named { AreNamed self.old → AreNamed self.new }
-        ensures err { OnErr result (self.new ≡ self.old) }
-    {
-        let Some(words) = self.words_of(access) else {
-            return Ok(None);
-        };
-        self.put_words(out, &words)?;
-        self.pass(&words);
-        Ok(Some(len))
     }
 
     fn take_other(

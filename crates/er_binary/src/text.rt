@@ -1,12 +1,14 @@
 //! The text of records.
 ghost use Rattle.std.specs.Prelude.{◌≡◌, ◌≤◌, ◌<◌, ◌^◌, ◌-◌, ◌*◌, ◌++◌, OnOk, codes, decimal, length};
 ghost use Rattle.er_binary.specs.Records.{body_len};
-ghost use Rattle.er_binary.specs.Texts.{access_lines, feed, lost_text, operand, site, text_of, thread_does, verb, word};
+ghost use Rattle.er_binary.specs.Inner.Words.{words_text};
+ghost use Rattle.er_binary.specs.Texts.{feed, lost_text, operand, site, text_of, thread_does, verb, word};
 
 use crate::names::{Put, number, put_address};
 use crate::records::Kind;
 use crate::records::Kind::*;
 use crate::state::State;
+use crate::words::Words;
 use er_lines::put_number;
 
 impl State {
@@ -29,22 +31,20 @@ impl State {
         put_word(out, name)
     }
 
-    /// Puts a line for each word from the first one to the end.
-    pub(crate) fn put_lines(
-        &self,
-        out: &mut Vec<u8>,
-        verb: &[u8],
-        node: u64,
-        first: u64,
-        end: u64,
-    ) -> Put
-        requires { end < 2 ^ 48 }
-        ensures { OnOk result (out.new.items ≡ out.old.items ++ access_lines self.now verb.now node first (end - first)) }
+    /// Puts a line for each of some words of an access.
+    pub(crate) fn put_words(&self, out: &mut Vec<u8>, words: &Words) -> Put
+        requires { words.now.end ≤ 2 ^ 46 }
+        ensures { OnOk result (out.new.items ≡ out.old.items ++ words_text self.now words.now) }
     {
-        for word in first..end {
+        let verb = if words.writes {
+            b"write".as_slice()
+        } else {
+            b"read".as_slice()
+        };
+        for word in words.at / 4..words.end {
             self.put_thread(out, verb)?;
             put_address(out, 4 * word)?;
-            self.put_site(out, node)?;
+            self.put_site(out, words.node)?;
             out.extend_from_slice(b"\n")?;
         }
         Ok(())

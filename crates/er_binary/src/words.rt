@@ -1,11 +1,10 @@
 //! Words of an access, and lines that are taken without their text.
-ghost use Rattle.std.specs.Prelude.{◌≡◌, ◌≤◌, ◌<◌, ◌^◌, ◌+◌, ◌-◌, ◌++◌, ◌/◌, ℕ, List, Some, None, IfSome, OnOk, length, true, false, if◌then◌else◌};
-ghost use Rattle.er_binary.specs.Inner.Words.{AreNamed, AreTaken, IsRight, IsSite, behind_first, counted, line_name, line_text, line_thread, is_lock_verb, kind_for, passed, verb_for, words_at, words_text};
+ghost use Rattle.std.specs.Prelude.{◌≡◌, ◌≤◌, ◌<◌, ◌^◌, ◌++◌, ◌/◌, ℕ, List, Some, None, IfSome, length, true, false, if◌then◌else◌};
+ghost use Rattle.er_binary.specs.Inner.Words.{AreNamed, IsRight, IsSite, behind_first, counted, line_text, is_lock_verb, kind_for, passed, verb_for, words_at, words_text};
 ghost use Rattle.er_binary.specs.Meaning.{take_said};
 ghost use Rattle.er_binary.specs.States.{is_access};
 ghost use Rattle.er_binary.specs.declared.records.Record.TheVariants as said;
 
-use crate::names::Put;
 use crate::records::{ADDRESS_END, Access, Kind};
 use crate::state::State;
 use er_lines::{ReadyLine, ReadyVerb};
@@ -19,23 +18,7 @@ pub(crate) struct Words {
     pub(crate) end: u64,
 }
 
-pub(crate) const NO_WORDS: Words = Words {
-    writes: false,
-    node: 0,
-    at: 0,
-    end: 0,
-};
-
 impl Words {
-    /// Whether there is none.
-    #[inline(always)]
-    pub(crate) fn is_empty(&self) -> bool
-        ensures some { result ≡ false → self.now.at / 4 < self.now.end }
-        ensures none { result ≡ true → AreTaken self.now }
-    {
-        self.end <= self.at / 4
-    }
-
     #[inline(always)]
     fn verb(&self) -> ReadyVerb
         ensures { result ≡ verb_for self.now.writes }
@@ -82,19 +65,6 @@ impl State {
         self.events = self.events.wrapping_add(1);
     }
 
-    /// Puts a line for each of some words.
-    pub(crate) fn put_words(&self, out: &mut Vec<u8>, words: &Words) -> Put
-        requires { words.now.end ≤ 2 ^ 46 }
-        ensures { OnOk result (out.new.items ≡ out.old.items ++ words_text self.now words.now) }
-    {
-        let verb = if words.writes {
-            b"write".as_slice()
-        } else {
-            b"read".as_slice()
-        };
-        self.put_lines(out, verb, words.node, words.at / 4, words.end)
-    }
-
     /// The line of the first of some words. Split for the prover: there is none where a name isn't known, and all are.
     #[inline(always)]
     pub(crate) fn line_of(&self, words: &Words) -> Option<ReadyLine>
@@ -106,22 +76,9 @@ impl State {
         Some(ReadyLine {
             verb: words.verb(),
             address: words.at / 4 * 4,
-            thread: self.known_thread()?,
+            thread: self.thread?,
             name: self.known_site(words.node)?,
         })
-    }
-
-    // The thread of the block, if its name is known.
-    #[inline(always)]
-    fn known_thread(&self) -> Option<u64>
-        ensures { IfSome result (λ n. (self.now.thread ≡ Some n) × (n < length self.now.threads)) }
-    {
-        let thread = self.thread?;
-        if thread < self.threads.len() {
-            Some(thread)
-        } else {
-            None
-        }
     }
 
     // The place that is shown for a node. None if its name isn't known; of node 0 there is none.
@@ -147,7 +104,7 @@ impl State {
         ensures right { IfSome result (λ line. AreNamed self.now → IsRight self.now line) }
     {
         let verb = kind.lock_verb()?;
-        let thread = self.known_thread()?;
+        let thread = self.thread?;
         if lock >= self.locks.len() {
             return None;
         }
@@ -157,34 +114,6 @@ impl State {
             thread,
             name: Some(lock),
         })
-    }
-
-    /// Counts a lock event.
-    #[inline(always)]
-    pub(crate) fn count(&mut self)
-        ensures { self.new ≡ counted self.old }
-    {
-        self.events = self.events.wrapping_add(1);
-    }
-
-    /// The name of a line's thread.
-    pub(crate) fn thread_of(&self, line: ReadyLine) -> &[u8]
-        ensures { result.now ≡ line_thread self.now line }
-    {
-        self.threads.get(line.thread)
-    }
-
-    /// The name of a line's site or lock, and no bytes if it has none.
-    pub(crate) fn name_of(&self, line: ReadyLine) -> &[u8]
-        ensures { result.now ≡ line_name self.now line }
-    {
-        let Some(name) = line.name else {
-            return b"".as_slice();
-        };
-        match line.verb {
-            ReadyVerb::Read | ReadyVerb::Write => self.places.get(name),
-            _ => self.locks.get(name),
-        }
     }
 }
 

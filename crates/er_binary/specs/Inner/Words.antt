@@ -1,5 +1,5 @@
 -- Words of an access that are still to come, and lines that are taken without their text.
-use Rattle.std.specs.Prelude.{◌≡◌, Bool, ℕ, ◌+◌, ◌-◌, ◌*◌, ◌/◌, ◌≤◌, true, false, List, [], Option, Some, None, slice_set, codes, if◌then◌else◌}
+use Rattle.std.specs.Prelude.{◌≡◌, Bool, ℕ, ◌+◌, ◌-◌, ◌*◌, ◌/◌, ◌≤◌, ◌<◌, true, false, List, [], Option, Some, None, length, slice_set, codes, if◌then◌else◌}
 use Rattle.std.specs.List.{list_all}
 use Rattle.er_lines.specs.Naming.{is_name, is_lock_name}
 use Rattle.er_lines.specs.Ready.{is_maybe_site, is_ready, name_word, ready_text}
@@ -39,9 +39,9 @@ AreTaken w = w.end ≤ w.at / 4
 abbrev pub behind_first : Words → Words
 behind_first w = record w { at = w.at / 4 * 4 + 4 }
 
--- all names that are known are names of their kind
+-- all names that are known are names of their kind, and the thread's is known
 abbrev pub AreNamed : State → Type 0
-AreNamed s = (list_all is_name s.threads ≡ true) × (list_all is_lock_name s.locks ≡ true) × (list_all is_place s.places ≡ true)
+AreNamed s = (list_all is_name s.threads ≡ true) × (list_all is_lock_name s.locks ≡ true) × (list_all is_place s.places ≡ true) × ((n : ℕ) → s.thread ≡ Some n → n < length s.threads)
 
 -- the record of a lock event by its verb
 abbrev pub kind_for : ReadyVerb → Kind

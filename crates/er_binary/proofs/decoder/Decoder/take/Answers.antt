@@ -1,16 +1,17 @@
 -- A line is taken of the words that are still to come, or of a lock event, and another record goes on.
-use Rattle.std.proofs.Common.{◌≡◌, ◌<◌, ◌++◌, ℕ, List, length, drop, vec_items, refl, sym, ap, ◌∙◌, arith, rules, length-drop}
+use Rattle.std.proofs.Common.{◌≡◌, ◌<◌, ℕ, List, length, drop, vec_items, refl, sym, ap, ◌∙◌, arith, rules, length-drop}
 use Rattle.er_binary.specs.Inner.Decoders.{IsGiven, still}
-use Rattle.er_binary.specs.Inner.Words.{line_text, passed, words_at}
+use Rattle.er_binary.specs.Inner.Words.{passed, words_at}
 use Rattle.er_binary.specs.Meaning.{take_said}
 use Rattle.er_binary.specs.Records.{record_at}
 use Rattle.er_binary.specs.States.{is_access}
 use Rattle.er_binary.specs.declared.decoder.Phase.TheVariants as phase
 use Rattle.er_binary.specs.declared.records.Record.{Record}
-use Rattle.er_binary.specs.declared.state.State.{State}
 use Rattle.er_binary.specs.declared.words.Words.{Words}
-use Rattle.er_binary.proofs.TakingLaws.{access_taken, lock_taken_is, words_by}
-use Rattle.er_binary.proofs.TextLemmas.{none_then, some_then}
+use Rattle.er_binary.proofs.DecoderLaws.{emptied}
+use Rattle.er_binary.proofs.TakingLaws.{access_taken, lock_taken_is, word_taken}
+use Rattle.er_binary.proofs.WordsLaws.{words_by}
+use Rattle.er_binary.proofs.TextLemmas.{none_of}
 use Rattle.er_binary.proofs.decoder.Decoder.take.Goals.{in-Access+in_ok-words-in-Access, in-Other+in_default+in_ok-ok-in-Other}
 use Rattle.er_binary.proofs.decoder.Decoder.take.Goals as goal
 
@@ -18,11 +19,25 @@ pub loop-init : goal.loop-init
 unfolding still
 loop-init c = record { same = λ rest. refl }
 
-pub returns-then-not-is_empty-clause-none : goal.returns-then-not-is_empty-clause-none
-returns-then-not-is_empty-clause-none c = none_then c.take_word.result c.take_word.ensures.none (λ same rest. c.loop.invariant.same rest ∙ same rest)
+pub returns-then-self-clause-some : goal.returns-then-self-clause-some
+returns-then-self-clause-some c = λ rest.
+    let d = c.loop.self in
+    c.loop.invariant.same rest ∙ word_taken d _ c.in_ok-line.line rest (d.first c.if-self.true) (d.first c.if-self.true) (c.in_ok-line.ensures.text d.named) refl
 
-pub returns-then-not-is_empty-clause-some : goal.returns-then-not-is_empty-clause-some
-returns-then-not-is_empty-clause-some c = some_then c.take_word.result c.take_word.ensures.some (λ line taken rest. c.loop.invariant.same rest ∙ taken rest)
+pub returns-in_err-head-clause-none : goal.returns-in_err-head-clause-none
+unfolding still
+returns-in_err-head-clause-none c = none_of _ _ c.loop.invariant.same
+
+pub returns-in_err-words-in-Access-clause-none : goal.returns-in_err-words-in-Access-clause-none
+unfolding still
+returns-in_err-words-in-Access-clause-none c = none_of _ _ c.loop.invariant.same
+
+pub returns-in_err-ok-in-Other-clause-none : goal.returns-in_err-ok-in-Other-clause-none
+returns-in_err-ok-in-Other-clause-none c =
+    let d = c.loop.self in
+    let given : IsGiven d = search rules in
+    let same = λ (rest : List ℕ). c.loop.invariant.same rest ∙ emptied d _ rest given given refl refl refl refl refl refl refl refl ∙ c.next_record.ensures.same rest in
+    none_of _ _ same
 
 pub returns-in-Some-clause-some : goal.returns-in-Some-clause-some
 returns-in-Some-clause-some c = λ rest.
@@ -36,11 +51,9 @@ returns-in-Some-clause-some c = λ rest.
     let at : d.phase ≡ phase.Record = search rules in
     let less : d.next < length items = omega (arith, within.0, within.1, len, length-drop d.next items) in
     let said = ap (λ (r : Record). take_said d.state head.len (drop head.len (drop d.next items)) r) c.in-Other.is ∙ c.in-Some.ensures.taken head.len (drop head.len (drop d.next items)) in
-    let state = c.go_past-in-Some.ensures.state ∙ c.count.ensures in
     c.loop.invariant.same rest
-    ∙ lock_taken_is d c.go_past-in-Some.new.self rest head c.in-Some.line given at (sym (c.in_ok-head.ensures.value ∙ ap (λ (t : List ℕ). record_at t) back)) said less within.0
-    (search rules) (c.go_past-in-Some.ensures.phase ∙ at) state c.go_past-in-Some.ensures.spot c.go_past-in-Some.ensures.bytes c.go_past-in-Some.ensures.next
-    ∙ ap (λ (s : State). line_text s c.in-Some.line ++ still c.go_past-in-Some.new.self rest) (sym state)
+    ∙ lock_taken_is d _ rest head c.in-Some.line given at (sym (c.in_ok-head.ensures.value ∙ ap (λ (t : List ℕ). record_at t) back)) said less within.0
+    (search rules) at refl c.pass-in-Some.ensures refl refl
 
 pub loop-preserved : goal.loop-preserved
 loop-preserved c =
@@ -57,8 +70,8 @@ loop-preserved c =
       same = λ rest. c.loop.invariant.same rest ∙ elim c.match-head.branch [
         | in-Access+in_ok-words-in-Access w ↦
             let h = words_by (is_access d.state w.in-Access.access) (words_at d.state w.in-Access.access) w.in_ok-words-in-Access.words _ w.in_ok-words-in-Access.ensures.words refl in
-            rw w.self-is (access_taken d w.go_past.new.self rest head w.in-Access.access given at is w.in-Access.is less within.0 h.0 (search rules) (w.go_past.ensures.phase ∙ at)
-            (w.go_past.ensures.state ∙ w.pass.ensures ∙ ap (λ (v : Words). passed d.state v) h.1) (w.go_past.ensures.words ∙ h.1) w.go_past.ensures.spot w.go_past.ensures.bytes w.go_past.ensures.next)
-        | in-Other+in_default+in_ok-ok-in-Other w ↦ rw w.self-is (w.next_record.ensures.same rest)
+            rw w.self-is (access_taken d _ rest head w.in-Access.access given at is w.in-Access.is less within.0 h.0 (search rules) at
+            (w.pass.ensures ∙ ap (λ (v : Words). passed d.state v) h.1) h.1 w.pass-in-Access.ensures refl refl)
+        | in-Other+in_default+in_ok-ok-in-Other w ↦ rw w.self-is (emptied d _ rest given given refl refl refl refl refl refl refl refl ∙ w.next_record.ensures.same rest)
       ];
     }

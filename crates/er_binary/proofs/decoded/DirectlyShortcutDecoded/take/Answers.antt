@@ -4,11 +4,11 @@ use Rattle.er_binary.specs.Decoded.{to_come}
 use Rattle.er_binary.specs.Inner.Words.{line_text}
 use Rattle.er_binary.proofs.DecodedLaws.{binary_is, taken_as}
 use Rattle.er_binary.proofs.TextLemmas.{none_then, some_then}
-use Rattle.er_binary.proofs.decoded.Decoded.take.Goals as goal
+use Rattle.er_binary.proofs.decoded.DirectlyShortcutDecoded.take.Goals as goal
 
 pub returns-in-Binary-clause-taken : goal.returns-in-Binary-clause-taken
 returns-in-Binary-clause-taken g c =
-    let d = c.args.self.now in
+    let d = c.args.reader.now in
     let old = c.in-Binary.decoder in
     let new = c.take.new.self in
     taken_as (to_come d) (to_come _) (λ line. line_text new.state line) _ c.take.result

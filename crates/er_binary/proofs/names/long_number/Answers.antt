@@ -2,7 +2,7 @@
 use Rattle.std.proofs.Common.{◌≡◌, ◌<◌, ◌≤◌, ◌-◌, ◌^◌, ◌+◌, ◌*◌, ℕ, suc, length, drop, get_or, ap, ◌∙◌, arith}
 use Rattle.er_binary.specs.Numbers.{number}
 use Rattle.er_binary.proofs.NumberLemmas.{number_step, grows, fits_8}
-use Rattle.er_binary.proofs.names.number.Goals as goal
+use Rattle.er_binary.proofs.names.long_number.Goals as goal
 
 pub overflow_mul-value : goal.overflow_mul-value
 overflow_mul-value c =
