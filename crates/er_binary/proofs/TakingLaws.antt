@@ -2,7 +2,7 @@
 use Rattle.std.proofs.Common.{◌≡◌, ℕ, ◌+◌, ◌*◌, ◌<◌, ◌≤◌, true, zero, suc, List, ◌++◌, length, drop, vec_items, vec_len, Some, refl, sym, ap, ◌∙◌, append_assoc}
 use Rattle.er_lines.specs.declared.ready.ReadyLine.{ReadyLine}
 use Rattle.er_binary.specs.Inner.Decoders.{HasGiven, IsGiven, all_records, still, undecoded}
-use Rattle.er_binary.specs.Inner.Words.{counted, line_text, passed, words_at, words_text}
+use Rattle.er_binary.specs.Inner.Words.{line_text, passed, words_at, words_text}
 use Rattle.er_binary.specs.Meaning.{Taken, past, take_record, take_said}
 use Rattle.er_binary.specs.Numbers.{address_word, plus}
 use Rattle.er_binary.specs.Records.{record_at}
@@ -50,13 +50,11 @@ access_taken d e rest head a given at is says less some right done phase state w
     (sym (passed_lines d.state (words_at d.state a) _ _ _ _))
     ∙ sym (words_left e rest done ∙ rw (phase, state, words, spot, bytes, next) refl)
 
--- a decoder that took a lock event's line
-pub lock_taken_is : (d e : Decoder) (rest : List ℕ) (head : Head) (line : ReadyLine) → IsGiven d → d.phase ≡ phase.Record → record_at (drop d.next (vec_items d.bytes)) ≡ Some head
-    → take_said d.state head.len (drop head.len (drop d.next (vec_items d.bytes))) head.says ≡ Some (record { text = line_text d.state line; state = counted d.state; len = head.len })
-    → d.next < length (vec_items d.bytes) → 1 ≤ head.len → IsGiven e → e.phase ≡ phase.Record → e.state ≡ counted d.state
-    → e.spot ≡ past d.spot head.len → e.bytes ≡ d.bytes → e.next ≡ d.next + head.len → still d rest ≡ line_text d.state line ++ still e rest
-lock_taken_is d e rest head line given at is said less some done phase state spot bytes next =
-    let t : Taken = record { text = line_text d.state line; state = counted d.state; len = head.len } in
+-- a decoder that took another record
+pub other_taken : (d e : Decoder) (rest : List ℕ) (head : Head) (t : Taken) → IsGiven d → d.phase ≡ phase.Record → record_at (drop d.next (vec_items d.bytes)) ≡ Some head
+    → take_said d.state head.len (drop head.len (drop d.next (vec_items d.bytes))) head.says ≡ Some t → d.next < length (vec_items d.bytes) → 1 ≤ t.len → IsGiven e → e.phase ≡ phase.Record
+    → e.state ≡ t.state → e.spot ≡ past d.spot t.len → e.bytes ≡ d.bytes → e.next ≡ d.next + t.len → still d rest ≡ t.text ++ still e rest
+other_taken d e rest head t given at is said less some done phase state spot bytes next =
     record_is d rest given at
     ∙ record_some (plus d.spot.start (16 + vec_len d.bytes)) d.spot d.state (vec_items d.bytes) rest d.next t less (record_taken d.state _ head t is said) some
-    ∙ ap (λ (t : List ℕ). line_text d.state line ++ t) (sym (given_is e rest done ∙ rw (phase, state, spot, bytes, next) refl))
+    ∙ ap (λ (text : List ℕ). t.text ++ text) (sym (given_is e rest done ∙ rw (phase, state, spot, bytes, next) refl))

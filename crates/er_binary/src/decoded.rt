@@ -108,14 +108,24 @@ impl<R: Read> Decoded<R> {
         }
     }
 
-    // Reads the first bytes, if it hasn't yet, and finds out what they begin.
+    // Finds out what the first bytes begin, if it hasn't yet.
     fn begin(&mut self) -> io::Result<()>
         ensures known { OnOk result (self.new.form ≢ form.Unknown) }
         ensures same { Keeps (option_map (to_come self.old) (R.remaining (source_of self.old))) (option_map (to_come self.new) (R.remaining (source_of self.new))) }
     {
-        let Form::Unknown = self.form else {
-            return Ok(());
-        };
+        match self.form {
+            Form::Unknown => self.find_form(),
+            _ => Ok(()),
+        }
+    }
+
+    // Reads the first bytes. A function of its own, since what it has on its stack is cleared at each call.
+    #[inline(never)]
+    fn find_form(&mut self) -> io::Result<()>
+        requires { self.old.form ≡ form.Unknown }
+        ensures known { OnOk result (self.new.form ≢ form.Unknown) }
+        ensures same { Keeps (option_map (to_come self.old) (R.remaining (source_of self.old))) (option_map (to_come self.new) (R.remaining (source_of self.new))) }
+    {
         self.given = 0;
         fill(&mut self.inner, &mut self.first, &mut self.held)?;
         if &self.first[..self.held] != MAGIC.as_slice() {

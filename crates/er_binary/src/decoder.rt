@@ -29,7 +29,6 @@ pub(crate) struct Spot {
 
 impl Spot {
     // Goes on behind a record of so many bytes.
-    #[inline(always)]
     fn pass(&mut self, len: usize)
         ensures { self.new ≡ past self.old len }
     {
@@ -83,19 +82,13 @@ impl Decoder {
     ghost use Rattle.er_binary.specs.declared.decoder.Phase.TheVariants as phase;
 
     /// A decoder behind the first 8 bytes of a trace.
+    #[rattlefmt::skip]
     pub(crate) fn new(alloc: Global) -> Result<Decoder, AllocError>
         ensures { IfOk result (λ d. (bytes : List ℕ) → still d bytes ≡ text_behind bytes) }
     {
         Ok(Decoder {
             state: State::new(alloc),
-            spot: Spot {
-                block: 0,
-                start: 8,
-                at: 0,
-                found: 0,
-                count: 0,
-                sum: 0,
-            },
+            spot: Spot { block: 0, start: 8, at: 0, found: 0, count: 0, sum: 0 },
             phase: Phase::Header,
             header: [0; 16],
             header_held: 0,
@@ -104,12 +97,7 @@ impl Decoder {
             next: 0,
             text: Vec::from_slice(alloc, b"eraser trace 3\n")?,
             given: 0,
-            words: Words {
-                writes: false,
-                node: 0,
-                at: 0,
-                end: 0,
-            },
+            words: Words { writes: false, node: 0, at: 0, end: 0 },
             is_taken: false,
         })
     }
@@ -183,7 +171,12 @@ impl Decoder {
                         self.spot.pass(head.len);
                         return Some(line);
                     }
-                    self.next_record(&mut ()).ok()?;
+                    if self.state.goes_to(kind, number) {
+                        self.next += head.len;
+                        self.spot.pass(head.len);
+                    } else {
+                        self.next_record(&mut ()).ok()?;
+                    }
                 }
             }
         }

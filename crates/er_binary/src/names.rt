@@ -87,22 +87,16 @@ pub fn number(bytes: &[u8]) -> u64
         [a] => u64::from(*a),
         [a, b] => u64::from(u16::from_le_bytes([*a, *b])),
         [a, b, c, d] => u64::from(u32::from_le_bytes([*a, *b, *c, *d])),
-        _ => long_number(bytes),
+        _ => {
+            let mut at = bytes.len();
+            let mut value = 0;
+            while at > 0 {
+                at -= 1;
+                value = value * 256 + u64::from(bytes[at]);
+            }
+            value
+        }
     }
-}
-
-fn long_number(bytes: &[u8]) -> u64
-    requires { length bytes.now ≤ 8 }
-    ensures value { result ≡ number bytes.now }
-    ensures bound { result < 256 ^ length bytes.now }
-{
-    let mut at = bytes.len();
-    let mut value = 0;
-    while at > 0 {
-        at -= 1;
-        value = value * 256 + u64::from(bytes[at]);
-    }
-    value
 }
 
 /// Puts a space and an address.

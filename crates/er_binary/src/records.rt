@@ -74,7 +74,6 @@ pub fn record_at(bytes: &[u8]) -> Option<Head>
     }
 }
 
-#[inline(always)]
 fn access_at(tag: u8, bytes: &[u8]) -> Option<Head>
     ensures value { result ≡ access_at tag bytes.now }
     ensures within { IfSome result (λ head. (1 ≤ head.len) × (head.len ≤ length bytes.now)) }
@@ -104,7 +103,6 @@ fn access_at(tag: u8, bytes: &[u8]) -> Option<Head>
     Some(Head { says, len })
 }
 
-#[inline(always)]
 fn size_of(bits: u8, byte: u8) -> u64
     ensures { result ≡ size_of bits byte }
 {
@@ -116,7 +114,6 @@ fn size_of(bits: u8, byte: u8) -> u64
     }
 }
 
-#[inline(always)]
 fn signed(tag: u8, distance: u64) -> u64
     requires { distance < 2 ^ 48 }
     ensures { result ≡ signed tag distance }
@@ -129,7 +126,6 @@ fn signed(tag: u8, distance: u64) -> u64
     }
 }
 
-#[inline(always)]
 fn other_at(tag: u8, bytes: &[u8]) -> Option<Head>
     requires { 128 ≤ tag }
     ensures value { result ≡ other_at tag bytes.now }
@@ -144,7 +140,6 @@ fn other_at(tag: u8, bytes: &[u8]) -> Option<Head>
     Some(Head { says, len })
 }
 
-#[inline(always)]
 fn kind_of(n: u8) -> Kind
     requires { n < 32 }
     ensures { result ≡ kind_of n }

@@ -1,5 +1,5 @@
 //! Words of an access, and lines that are taken without their text.
-ghost use Rattle.std.specs.Prelude.{◌≡◌, ◌≤◌, ◌<◌, ◌^◌, ◌++◌, ◌/◌, ℕ, List, Some, None, IfSome, length, true, false, if◌then◌else◌};
+ghost use Rattle.std.specs.Prelude.{◌≡◌, ◌≤◌, ◌<◌, ◌^◌, ◌++◌, ◌/◌, ℕ, List, Some, None, IfSome, length, [], true, false, if◌then◌else◌};
 ghost use Rattle.er_binary.specs.Inner.Words.{AreNamed, IsRight, IsSite, behind_first, counted, line_text, is_lock_verb, kind_for, passed, verb_for, words_at, words_text};
 ghost use Rattle.er_binary.specs.Meaning.{take_said};
 ghost use Rattle.er_binary.specs.States.{is_access};
@@ -19,7 +19,6 @@ pub(crate) struct Words {
 }
 
 impl Words {
-    #[inline(always)]
     fn verb(&self) -> ReadyVerb
         ensures { result ≡ verb_for self.now.writes }
     {
@@ -55,7 +54,6 @@ impl State {
     }
 
     /// Goes on behind the access of these words.
-    #[inline(always)]
     pub(crate) fn pass(&mut self, words: &Words)
         ensures { self.new ≡ passed self.old words.now }
     {
@@ -82,7 +80,6 @@ impl State {
     }
 
     // The place that is shown for a node. None if its name isn't known; of node 0 there is none.
-    #[inline(always)]
     fn known_site(&self, node: u64) -> Option<Option<u64>>
         ensures { IfSome result (λ name. AreNamed self.now → IsSite self.now node name) }
     {
@@ -117,9 +114,25 @@ impl State {
     }
 }
 
+impl State {
+    /// Goes on at a thread or a node that there is. Another record changes nothing.
+    #[inline(always)]
+    pub(crate) fn goes_to(&mut self, kind: Kind, number: u64) -> bool
+        ensures taken { result ≡ true → (len : ℕ) (rest : List ℕ) → take_said self.old len rest (said.Other kind number) ≡ Some (record { text = []; state = self.new; len = len }) }
+        ensures other { result ≡ false → self.new ≡ self.old }
+        ensures named { AreNamed self.old → AreNamed self.new }
+    {
+        match kind {
+            Kind::Thread if number < self.threads.len() => self.thread = Some(number),
+            Kind::Node if number <= self.nodes.len() => self.node = number,
+            _ => return false,
+        }
+        true
+    }
+}
+
 impl Kind {
     // What it does to a lock.
-    #[inline(always)]
     fn lock_verb(self) -> Option<ReadyVerb>
         ensures { IfSome result (λ verb. (self ≡ kind_for verb) × (is_lock_verb verb ≡ true)) }
     {

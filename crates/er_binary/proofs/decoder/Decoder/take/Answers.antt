@@ -1,18 +1,18 @@
 -- A line is taken of the words that are still to come, or of a lock event, and another record goes on.
-use Rattle.std.proofs.Common.{◌≡◌, ◌<◌, ℕ, List, length, drop, vec_items, refl, sym, ap, ◌∙◌, arith, rules, length-drop}
+use Rattle.std.proofs.Common.{◌≡◌, ◌<◌, ℕ, List, [], length, drop, vec_items, refl, sym, ap, ◌∙◌, arith, rules, length-drop}
 use Rattle.er_binary.specs.Inner.Decoders.{IsGiven, still}
-use Rattle.er_binary.specs.Inner.Words.{passed, words_at}
-use Rattle.er_binary.specs.Meaning.{take_said}
+use Rattle.er_binary.specs.Inner.Words.{counted, line_text, passed, words_at}
+use Rattle.er_binary.specs.Meaning.{Taken, take_said}
 use Rattle.er_binary.specs.Records.{record_at}
 use Rattle.er_binary.specs.States.{is_access}
 use Rattle.er_binary.specs.declared.decoder.Phase.TheVariants as phase
 use Rattle.er_binary.specs.declared.records.Record.{Record}
 use Rattle.er_binary.specs.declared.words.Words.{Words}
 use Rattle.er_binary.proofs.DecoderLaws.{emptied}
-use Rattle.er_binary.proofs.TakingLaws.{access_taken, lock_taken_is, word_taken}
+use Rattle.er_binary.proofs.TakingLaws.{access_taken, other_taken, word_taken}
 use Rattle.er_binary.proofs.WordsLaws.{words_by}
 use Rattle.er_binary.proofs.TextLemmas.{none_of}
-use Rattle.er_binary.proofs.decoder.Decoder.take.Goals.{in-Access+in_ok-words-in-Access, in-Other+in_default+in_ok-ok-in-Other}
+use Rattle.er_binary.proofs.decoder.Decoder.take.Goals.{in-Access+in_ok-words-in-Access, in-Other+in_default+then-goes_to, in-Other+in_default+else-goes_to+in_ok-ok-in-Other}
 use Rattle.er_binary.proofs.decoder.Decoder.take.Goals as goal
 
 pub loop-init : goal.loop-init
@@ -36,7 +36,7 @@ pub returns-in_err-ok-in-Other-clause-none : goal.returns-in_err-ok-in-Other-cla
 returns-in_err-ok-in-Other-clause-none c =
     let d = c.loop.self in
     let given : IsGiven d = search rules in
-    let same = λ (rest : List ℕ). c.loop.invariant.same rest ∙ emptied d _ rest given given refl refl refl refl refl refl refl refl ∙ c.next_record.ensures.same rest in
+    let same = λ (rest : List ℕ). c.loop.invariant.same rest ∙ emptied d _ rest given given refl (c.goes_to.ensures.other c.if-goes_to.false) refl refl refl refl refl refl ∙ c.next_record.ensures.same rest in
     none_of _ _ same
 
 pub returns-in-Some-clause-some : goal.returns-in-Some-clause-some
@@ -52,7 +52,7 @@ returns-in-Some-clause-some c = λ rest.
     let less : d.next < length items = omega (arith, within.0, within.1, len, length-drop d.next items) in
     let said = ap (λ (r : Record). take_said d.state head.len (drop head.len (drop d.next items)) r) c.in-Other.is ∙ c.in-Some.ensures.taken head.len (drop head.len (drop d.next items)) in
     c.loop.invariant.same rest
-    ∙ lock_taken_is d _ rest head c.in-Some.line given at (sym (c.in_ok-head.ensures.value ∙ ap (λ (t : List ℕ). record_at t) back)) said less within.0
+    ∙ other_taken d _ rest head (record { text = line_text d.state c.in-Some.line; state = counted d.state; len = head.len }) given at (sym (c.in_ok-head.ensures.value ∙ ap (λ (t : List ℕ). record_at t) back)) said less within.0
     (search rules) at refl c.pass-in-Some.ensures refl refl
 
 pub loop-preserved : goal.loop-preserved
@@ -72,6 +72,12 @@ loop-preserved c =
             let h = words_by (is_access d.state w.in-Access.access) (words_at d.state w.in-Access.access) w.in_ok-words-in-Access.words _ w.in_ok-words-in-Access.ensures.words refl in
             rw w.self-is (access_taken d _ rest head w.in-Access.access given at is w.in-Access.is less within.0 h.0 (search rules) at
             (w.pass.ensures ∙ ap (λ (v : Words). passed d.state v) h.1) h.1 w.pass-in-Access.ensures refl refl)
-        | in-Other+in_default+in_ok-ok-in-Other w ↦ rw w.self-is (emptied d _ rest given given refl refl refl refl refl refl refl refl ∙ w.next_record.ensures.same rest)
+        | in-Other+in_default+then-goes_to w ↦
+            let behind = drop head.len (drop d.next items) in
+            let t : Taken = record { text = []; state = w.goes_to.new.self; len = head.len } in
+            let said = ap (λ (r : Record). take_said d.state head.len behind r) w.in-Other.is ∙ w.goes_to.ensures.taken w.if-goes_to.true head.len behind in
+            rw w.self-is (other_taken d _ rest head t given at is said less within.0 given at refl w.pass-then-goes_to.ensures refl refl)
+        | in-Other+in_default+else-goes_to+in_ok-ok-in-Other w ↦
+            rw w.self-is (emptied d _ rest given given refl (w.goes_to.ensures.other w.if-goes_to.false) refl refl refl refl refl refl ∙ w.next_record.ensures.same rest)
       ];
     }

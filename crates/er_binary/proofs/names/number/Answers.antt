@@ -2,7 +2,7 @@
 use Rattle.std.proofs.Common.{◌≡◌, ◌<◌, ◌≤◌, ◌-◌, ◌^◌, ◌+◌, ◌*◌, ℕ, suc, length, drop, get_or, ap, ◌∙◌, arith}
 use Rattle.er_binary.specs.Numbers.{number}
 use Rattle.er_binary.proofs.NumberLemmas.{number_step, grows, fits_8}
-use Rattle.er_binary.proofs.names.long_number.Goals as goal
+use Rattle.er_binary.proofs.names.number.Goals as goal
 
 pub overflow_mul-value : goal.overflow_mul-value
 overflow_mul-value c =
@@ -18,11 +18,11 @@ pub loop-at-preserved : goal.loop-at-preserved
 loop-at-preserved c =
     let bytes = c.args.bytes.now in
     let at = c.loop-at.at in
-    let byte : c.from.result ≡ get_or bytes (at - 1) 0 = c.from.ensures in
-    let small : c.from.result < 256 = omega arith in
+    let byte : c.from-in-loop-at.result ≡ get_or bytes (at - 1) 0 = c.from-in-loop-at.ensures in
+    let small : c.from-in-loop-at.result < 256 = omega arith in
     let more : suc (length bytes - at) ≡ length bytes - (at - 1) = omega arith in
     let power = ap (λ (k : ℕ). 256 ^ k) more in record {
       within = omega arith;
-      value = ap (λ (v : ℕ). v * 256 + c.from.result) c.loop-at.invariant.value ∙ ap (λ (b : ℕ). number (drop at bytes) * 256 + b) byte ∙ number_step bytes at c.loop-at-test.true c.loop-at.invariant.within;
-      bound = omega (arith, power, grows c.loop-at.value c.from.result (length bytes - at) c.loop-at.invariant.bound small);
+      value = ap (λ (v : ℕ). v * 256 + c.from-in-loop-at.result) c.loop-at.invariant.value ∙ ap (λ (b : ℕ). number (drop at bytes) * 256 + b) byte ∙ number_step bytes at c.loop-at-test.true c.loop-at.invariant.within;
+      bound = omega (arith, power, grows c.loop-at.value c.from-in-loop-at.result (length bytes - at) c.loop-at.invariant.bound small);
     }

@@ -1,7 +1,7 @@
 -- The number of the bytes from the place reached on.
 use Rattle.std.proofs.Common.{◌≡◌, ◌<◌, ◌≤◌, ◌^◌, ◌-◌, length, drop}
 use Rattle.er_binary.specs.Numbers.{number}
-use Rattle.er_binary.proofs.names.long_number.Given as goal
+use Rattle.er_binary.proofs.names.number.Given as goal
 
 abbrev pub invariant-loop-at : goal.invariant-loop-at
 invariant-loop-at l = record {

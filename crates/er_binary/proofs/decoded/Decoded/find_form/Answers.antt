@@ -6,13 +6,13 @@ use Rattle.er_binary.specs.Decoded.{to_come}
 use Rattle.er_binary.specs.Meaning.{meant}
 use Rattle.er_binary.proofs.DecodedLaws.{binary_is, meant_binary, meant_text, not_false, not_true, text_is, unknown_is}
 use Rattle.er_binary.proofs.DecoderLaws.{at_end, keeps_by}
-use Rattle.er_binary.proofs.decoded.Decoded.begin.Goals as goal
+use Rattle.er_binary.proofs.decoded.Decoded.find_form.Goals as goal
 
 pub returns-in_err-fill-clause-same : goal.returns-in_err-fill-clause-same
 returns-in_err-fill-clause-same g c =
     let d = c.args.self.now in
     keeps_by (to_come d) (to_come _) (take d.held d.first) (take c.fill.new.held c.fill.new.bytes) _ _ c.fill.ensures.same
-    (λ before after is same. unknown_is _ after c.in-Unknown.is ∙ ap meant same ∙ sym (unknown_is d before c.in-Unknown.is))
+    (λ before after is same. unknown_is _ after c.requires ∙ ap meant same ∙ sym (unknown_is d before c.requires))
 
 pub returns-then-ne-clause-same : goal.returns-then-ne-clause-same
 returns-then-ne-clause-same g c =
@@ -24,13 +24,13 @@ returns-then-ne-clause-same g c =
     keeps_by (to_come d) (to_come _) (take d.held d.first) b _ _ c.fill.ensures.same
     (λ before after is same.
     let end : length b < 8 → after ≡ [] = λ less. at_end _ after is (c.in_ok-fill.ensures.end (omega (arith, less, front, size))) in
-    text_is _ after refl ∙ sym (unknown_is d before c.in-Unknown.is ∙ ap meant (sym same) ∙ meant_text b after fits end (not_true _ (ap (λ (t : List ℕ). not (bytes_eq b t)) (sym c.as_slice.ensures) ∙ sym c.ne.ensures ∙ c.if-ne.true))))
+    text_is _ after refl ∙ sym (unknown_is d before c.requires ∙ ap meant (sym same) ∙ meant_text b after fits end (not_true _ (ap (λ (t : List ℕ). not (bytes_eq b t)) (sym c.as_slice.ensures) ∙ sym c.ne.ensures ∙ c.if-ne.true))))
 
 pub returns-in_err-new-clause-same : goal.returns-in_err-new-clause-same
 returns-in_err-new-clause-same g c =
     let d = c.args.self.now in
     keeps_by (to_come d) (to_come _) (take d.held d.first) (take c.fill.new.held c.fill.new.bytes) _ _ c.fill.ensures.same
-    (λ before after is same. unknown_is _ after c.in-Unknown.is ∙ ap meant same ∙ sym (unknown_is d before c.in-Unknown.is))
+    (λ before after is same. unknown_is _ after c.requires ∙ ap meant same ∙ sym (unknown_is d before c.requires))
 
 pub returns-clause-same : goal.returns-clause-same
 returns-clause-same g c =
@@ -38,4 +38,4 @@ returns-clause-same g c =
     let b = take c.fill.new.held c.fill.new.bytes in
     keeps_by (to_come d) (to_come _) (take d.held d.first) b _ _ c.fill.ensures.same
     (λ before after is same. binary_is _ _ after refl ∙ c.in_ok-new.ensures after
-    ∙ sym (unknown_is d before c.in-Unknown.is ∙ ap meant (sym same) ∙ meant_binary b after (not_false _ (ap (λ (t : List ℕ). not (bytes_eq b t)) (sym c.as_slice.ensures) ∙ sym c.ne.ensures ∙ c.if-ne.false))))
+    ∙ sym (unknown_is d before c.requires ∙ ap meant (sym same) ∙ meant_binary b after (not_false _ (ap (λ (t : List ℕ). not (bytes_eq b t)) (sym c.as_slice.ensures) ∙ sym c.ne.ensures ∙ c.if-ne.false))))
