@@ -8,7 +8,7 @@ use Rattle.er_binary.specs.States.{at_block}
 use Rattle.er_binary.specs.declared.decoder.Phase.{Phase}
 use Rattle.er_binary.proofs.MeaningLaws.{record_end, record_none, record_some}
 use Rattle.er_binary.specs.Inner.Words.{AreTaken, words_text}
-use Rattle.er_binary.specs.declared.words.Words.{Words}
+use Rattle.er_binary.specs.declared.state.Words.{Words}
 use Rattle.er_binary.proofs.LineLemmas.{lines_none}
 use Rattle.er_binary.specs.Inner.Decoders.{HasGiven, IsGiven, all_blocks, all_content, all_records, still, undecoded}
 use Rattle.er_binary.specs.declared.decoder.Decoder.{Decoder}

@@ -14,7 +14,7 @@ use Rattle.er_binary.specs.declared.records.Access.{Access}
 use Rattle.er_binary.specs.declared.records.Head.{Head}
 use Rattle.er_binary.specs.declared.records.Record.TheVariants as said
 use Rattle.er_binary.specs.declared.state.State.{State}
-use Rattle.er_binary.specs.declared.words.Words.{Words}
+use Rattle.er_binary.specs.declared.state.Words.{Words}
 use Rattle.er_binary.proofs.DecoderLaws.{given_is, record_is, words_left}
 use Rattle.er_binary.proofs.MeaningLaws.{record_some, take_some}
 

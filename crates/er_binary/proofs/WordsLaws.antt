@@ -16,7 +16,7 @@ use Rattle.er_binary.specs.declared.records.Kind.{Kind}
 use Rattle.er_binary.specs.declared.records.Kind.TheVariants as kind
 use Rattle.er_binary.specs.Texts.{access_lines, feed, site, thread_does, word as word_of}
 use Rattle.er_binary.specs.declared.state.State.{State}
-use Rattle.er_binary.specs.declared.words.Words.{Words}
+use Rattle.er_binary.specs.declared.state.Words.{Words}
 use Rattle.er_binary.proofs.LineLemmas.{lines_step}
 
 or_not : (b : Bool) → (b ≡ false → true ≡ false) → b ≡ true

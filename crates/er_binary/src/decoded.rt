@@ -93,11 +93,8 @@ impl<R: Read> Decoded<R> {
     ghost use Rattle.er_binary.specs.declared.decoded.Form.TheVariants as form;
 
     /// Reads as [`Read::read`] does. The listener hears each record whose text comes next.
-    pub fn read_with<L: Listener>(
-        &mut self,
-        buffer: &mut [u8],
-        listener: &mut L,
-    ) -> io::Result<usize>
+    #[rattlefmt::skip]
+    pub fn read_with<L: Listener>(&mut self, buffer: &mut [u8], listener: &mut L) -> io::Result<usize>
         ensures bound { ReadsAtMost result buffer.new }
         ensures bytes { ReadConsumes (option_map (to_come self.old) (R.remaining (source_of self.old))) (option_map (to_come self.new) (R.remaining (source_of self.new))) result buffer.new }
     {

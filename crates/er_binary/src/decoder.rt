@@ -8,8 +8,7 @@ ghost use Rattle.std.specs.Io.KnownBytes.{IsAtEnd, Keeps, ReadConsumes, prepend_
 use crate::decoded::Listener;
 use crate::names::{Names, Put, number};
 use crate::records::{Record, record_at};
-use crate::state::State;
-use crate::words::Words;
+use crate::state::{State, Words};
 use er_lines::{ReadyLine, put_number};
 use std::alloc::{AllocError, Global};
 use std::io;
@@ -111,12 +110,8 @@ impl Decoder {
     }
 
     /// Gives text, and reads on where it must. No byte means that the text ended, or that the buffer has no room.
-    pub(crate) fn read<R: Read, L: Listener>(
-        &mut self,
-        reader: &mut R,
-        buffer: &mut [u8],
-        listener: &mut L,
-    ) -> io::Result<usize>
+    #[rattlefmt::skip]
+    pub(crate) fn read<R: Read, L: Listener>(&mut self, reader: &mut R, buffer: &mut [u8], listener: &mut L) -> io::Result<usize>
         ensures bound { ReadsAtMost result buffer.new }
         ensures bytes { ReadConsumes (option_map (still self.old) (R.remaining reader.old)) (option_map (still self.new) (R.remaining reader.new)) result buffer.new }
     {

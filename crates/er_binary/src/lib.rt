@@ -27,4 +27,3 @@ mod nodes;
 mod records;
 mod state;
 mod text;
-mod words;

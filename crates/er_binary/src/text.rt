@@ -7,8 +7,7 @@ ghost use Rattle.er_binary.specs.Texts.{feed, lost_text, operand, site, text_of,
 use crate::names::{Put, number, put_address};
 use crate::records::Kind;
 use crate::records::Kind::*;
-use crate::state::State;
-use crate::words::Words;
+use crate::state::{State, Words};
 use er_lines::put_number;
 
 impl State {

@@ -13,7 +13,7 @@ use Rattle.er_binary.specs.declared.records.Access.{Access}
 use Rattle.er_binary.specs.declared.records.Kind.{Kind}
 use Rattle.er_binary.specs.declared.records.Kind.TheVariants as kind
 use Rattle.er_binary.specs.declared.state.State.{State}
-use Rattle.er_binary.specs.declared.words.Words.{Words}
+use Rattle.er_binary.specs.declared.state.Words.{Words}
 
 -- the words of an access
 abbrev pub words_at : State → Access → Words

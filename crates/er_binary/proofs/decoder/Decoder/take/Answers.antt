@@ -7,7 +7,7 @@ use Rattle.er_binary.specs.Records.{record_at}
 use Rattle.er_binary.specs.States.{is_access}
 use Rattle.er_binary.specs.declared.decoder.Phase.TheVariants as phase
 use Rattle.er_binary.specs.declared.records.Record.{Record}
-use Rattle.er_binary.specs.declared.words.Words.{Words}
+use Rattle.er_binary.specs.declared.state.Words.{Words}
 use Rattle.er_binary.proofs.DecoderLaws.{emptied}
 use Rattle.er_binary.proofs.TakingLaws.{access_taken, other_taken, word_taken}
 use Rattle.er_binary.proofs.WordsLaws.{words_by}

@@ -1,7 +1,7 @@
 use Rattle.std.proofs.Common.{◌++◌, refl, sym, ap, ◌∙◌}
 use Rattle.er_binary.specs.Inner.Words.{passed, words_at, words_text}
 use Rattle.er_binary.specs.States.{is_access}
-use Rattle.er_binary.specs.declared.words.Words.{Words}
+use Rattle.er_binary.specs.declared.state.Words.{Words}
 use Rattle.er_binary.proofs.MeaningLaws.{take_none, take_some}
 use Rattle.er_binary.proofs.WordsLaws.{words_by, words_no}
 use Rattle.er_binary.proofs.state.State.take.Goals as goal
