@@ -53,18 +53,12 @@ impl<R> Decoded<R> {
     ghost use Rattle.er_binary.specs.Decoded.{IsFresh, source_of};
 
     /// A reader of what the other one gives.
+    #[rattlefmt::skip]
     pub fn new(alloc: Global, inner: R) -> Decoded<R>
         ensures source { source_of result ≡ inner }
         ensures fresh { IsFresh result }
     {
-        Decoded {
-            inner,
-            alloc,
-            form: Form::Unknown,
-            first: [0; 8],
-            held: 0,
-            given: 0,
-        }
+        Decoded { inner, alloc, form: Form::Unknown, first: [0; 8], held: 0, given: 0 }
     }
 
     /// Whether it has read the beginning of a binary trace.

@@ -17,11 +17,8 @@ pub(crate) struct Node {
     pub(crate) place: u32,
 }
 
-const NO_NODE: Node = Node {
-    caller: 0,
-    shown: 0,
-    place: 0,
-};
+#[rattlefmt::skip]
+const NO_NODE: Node = Node { caller: 0, shown: 0, place: 0 };
 
 /// Nodes, numbered from 1.
 #[derive(Drop)]

@@ -74,6 +74,7 @@ pub fn record_at(bytes: &[u8]) -> Option<Head>
     }
 }
 
+#[rattlefmt::skip]
 fn access_at(tag: u8, bytes: &[u8]) -> Option<Head>
     ensures value { result ≡ access_at tag bytes.now }
     ensures within { IfSome result (λ head. (1 ≤ head.len) × (head.len ≤ length bytes.now)) }
@@ -94,11 +95,7 @@ fn access_at(tag: u8, bytes: &[u8]) -> Option<Head>
         writes: tag >= 64,
         size,
         distance: signed(tag, number(&bytes[distance_at..node_at])),
-        node: if tag % 4 == 0 {
-            None
-        } else {
-            Some(number(&bytes[node_at..len]))
-        },
+        node: if tag % 4 == 0 { None } else { Some(number(&bytes[node_at..len])) },
     });
     Some(Head { says, len })
 }

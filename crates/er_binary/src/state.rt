@@ -62,21 +62,12 @@ impl Words {
 }
 
 impl State {
+    #[rattlefmt::skip]
     pub(crate) fn new(alloc: Global) -> State
         ensures { result ≡ first_state }
     {
-        State {
-            threads: Names::new(alloc),
-            locks: Names::new(alloc),
-            places: Names::new(alloc),
-            nodes: Nodes::new(alloc),
-            thread: None,
-            node: 0,
-            last: [0; 256],
-            events: 0,
-            lost: 0,
-            ended: false,
-        }
+        let (threads, locks, places) = (Names::new(alloc), Names::new(alloc), Names::new(alloc));
+        State { threads, locks, places, nodes: Nodes::new(alloc), thread: None, node: 0, last: [0; 256], events: 0, lost: 0, ended: false }
     }
 
     pub(crate) fn begin_block(&mut self)
@@ -130,6 +121,7 @@ impl State {
         }
     }
 
+    #[rattlefmt::skip]
     fn node_by(&self, caller: u64, body: &[u8]) -> TreeNode
         requires { length body.now ≡ 5 }
         ensures { result ≡ node_by self.now caller body.now }
@@ -139,11 +131,7 @@ impl State {
         } else {
             self.nodes.len().wrapping_add(1)
         };
-        TreeNode {
-            caller,
-            shown,
-            place: number(&body[0..4]) as u32,
-        }
+        TreeNode { caller, shown, place: number(&body[0..4]) as u32 }
     }
 
     /// Adds another record that may come next. An error changes nothing.
@@ -218,6 +206,7 @@ impl State {
 
     /// The words of an access, if it may come.
     #[inline(always)]
+    #[rattlefmt::skip]
     pub(crate) fn words_of(&self, access: Access) -> Option<Words>
         requires some { 1 ≤ access.size }
         requires size { access.size ≤ 16 }
@@ -230,12 +219,7 @@ impl State {
         if !(self.thread.is_some() && node <= self.nodes.len() && is_below) {
             return None;
         }
-        Some(Words {
-            writes: access.writes,
-            node,
-            at,
-            end: (at + access.size - 1) / 4 + 1,
-        })
+        Some(Words { writes: access.writes, node, at, end: (at + access.size - 1) / 4 + 1 })
     }
 
     /// Goes on behind the access of these words.
