@@ -75,6 +75,7 @@ pub fn record_at(bytes: &[u8]) -> Option<Head>
 }
 
 #[rattlefmt::skip]
+#[inline(always)]
 fn access_at(tag: u8, bytes: &[u8]) -> Option<Head>
     ensures value { result ≡ access_at tag bytes.now }
     ensures within { IfSome result (λ head. (1 ≤ head.len) × (head.len ≤ length bytes.now)) }
@@ -123,6 +124,7 @@ fn signed(tag: u8, distance: u64) -> u64
     }
 }
 
+#[inline(always)]
 fn other_at(tag: u8, bytes: &[u8]) -> Option<Head>
     requires { 128 ≤ tag }
     ensures value { result ≡ other_at tag bytes.now }
