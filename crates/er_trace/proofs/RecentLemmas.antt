@@ -5,7 +5,7 @@ use Rattle.std.proofs.lemmas.List.Elements.{All-weaker}
 use Rattle.er_trace.specs.declared.recent.Slot.{Slot}
 use Rattle.er_trace.specs.declared.recent.RecentNames.{RecentNames}
 use Rattle.er_trace.specs.Names.{number_of, with_name, most_names}
-use Rattle.er_trace.specs.Inner.Recent.{bytes_of, Knows, AreRight}
+use Rattle.er_trace.specs.Inner.Recent.{bytes_of, Knows, IsRight, AreRight}
 use Rattle.er_trace.proofs.NumberLemmas.{given, again, still, kept}
 
 still_knows : (names : List (List ℕ)) (later name : List ℕ) (number : ℕ) → Knows names name number → Knows (with_name names later) name number
@@ -15,9 +15,9 @@ still_knows names later name number knows =
 -- also once this name is there
 pub still_right : (names : List (List ℕ)) (later : List ℕ) (recent : RecentNames) → AreRight names recent → AreRight (with_name names later) recent
 still_right names later recent right =
-    let P : Slot → Type 0 = λ slot. 0 < slot.name.len → Knows names (bytes_of slot.name) slot.number in
-    let Q : Slot → Type 0 = λ slot. 0 < slot.name.len → Knows (with_name names later) (bytes_of slot.name) slot.number in
-    All-weaker P Q (λ slot knows some. still_knows names later (bytes_of slot.name) slot.number (knows some)) recent.slots.items right
+    let P : Slot → Type 0 = λ slot. 0 < slot.name.len → IsRight names slot in
+    let Q : Slot → Type 0 = λ slot. 0 < slot.name.len → IsRight (with_name names later) slot in
+    All-weaker P Q (λ slot right some. record { knows = still_knows names later (bytes_of slot.name) slot.number (right some).knows; plain = (right some).plain }) recent.slots.items right
 
 -- whatever came of it
 pub right_after : (result : Result ℕ AllocError) (old new : List (List ℕ)) (name : List ℕ) (recent : RecentNames) → AreRight old recent

@@ -1,13 +1,13 @@
 //! Numbers for the names of threads, locks and sites.
-ghost use Rattle.std.specs.Prelude.{◌≡◌, ◌+◌, ◌-◌, ◌<◌, ◌≤◌, ℕ, List, [], length, map, Some, slice_get, IsTrue, IsOk, IsErr, IfOk, IfSome, IfNone, OnOk, OnErr, true, false};
+ghost use Rattle.std.specs.Prelude.{◌≡◌, ◌+◌, ◌-◌, ◌<◌, ◌≤◌, ◌++◌, ◌∷◌, ℕ, List, [], length, drop, map, Some, slice_get, IsTrue, IsOk, IsErr, IfOk, IfSome, IfNone, OnOk, OnErr, true, false};
 ghost use Rattle.er_trace.specs.Appended.{AreNumbers, with_names, with_table};
-ghost use Rattle.er_trace.specs.Inner.Recent.{Knows};
+ghost use Rattle.er_trace.specs.Inner.Recent.{Knows, bytes_of};
 ghost use Rattle.er_trace.specs.Inner.Renumbering.{HasMore};
-ghost use Rattle.er_trace.specs.Names.{is_known, number_of, with_name, no_names, most_names};
+ghost use Rattle.er_trace.specs.Names.{is_known, number_of, with_name, no_names, most_names, IsPlain};
 
 use crate::NameKeys;
 use crate::appending::{NewNumbers, NewTable};
-use crate::recent::{RecentNames, ShortName};
+use crate::recent::{RecentNames, ShortName, are_plain};
 use er_event::{LockId, Site, ThreadId};
 use er_keys::{Hints, KeyedHasher};
 use indexmap::IndexSet;
@@ -139,9 +139,9 @@ impl CachedNames {
         ensures full { most_names ≤ length self.old → is_known self.old name.now ≡ false → IsErr result }
     {
         if let Some(short) = ShortName::of(name.as_bytes())
-            && let Some(number) = self.recent.find(short)
+            && let Some(slot) = self.recent.find(short)
         {
-            return Ok(number as usize);
+            return Ok(slot.number as usize);
         }
         self.number_anew(name)
     }
@@ -158,7 +158,8 @@ impl CachedNames {
     {
         if let Some(short) = ShortName::of(name.as_bytes()) {
             let number = self.list.number(name)?;
-            self.recent.remember(short, number as u32);
+            let plain = are_plain(name.as_bytes());
+            self.recent.remember(short, number as u32, plain);
             return Ok(number);
         }
         let ending = ending_of(name);
@@ -169,6 +170,20 @@ impl CachedNames {
         let number = self.list.number(name)?;
         self.hints.note(ending, number);
         Ok(number)
+    }
+
+    /// The number of a name, if it is among the recent short ones and of plain bytes.
+    #[inline(always)]
+    fn plain(&self, name: ShortName) -> Option<u32>
+        requires { (0 < name.len) × (name.len ≤ 8) }
+        ensures plain { IfSome result (λ number. IsPlain self.now (bytes_of name) number) }
+        ensures within { IfSome result (λ number. number < most_names) }
+    {
+        let slot = self.recent.find(name)?;
+        if !slot.plain {
+            return None;
+        }
+        Some(slot.number)
     }
 
     /// The numbers here of all those names, by their numbers there. Those of them that are new come behind, in their order.
@@ -281,6 +296,35 @@ impl Names {
     {
         let number = self.threads.list.find(name)?;
         Some(ThreadId::new(number as u32))
+    }
+
+    /// The thread whose name stands in front of a space, and what follows that, if the name is short, recent and plain.
+    #[inline(always)]
+    pub fn leading_thread<'a>(&self, bytes: &'a [u8]) -> Option<(ThreadId, &'a [u8])>
+        ensures { IfSome result (λ found. (name : List ℕ) × IsPlain self.now.threads name found.0 × (bytes.now ≡ name ++ 32 ∷ found.1.now)) }
+    {
+        let short = ShortName::before_space(bytes)?;
+        let number = self.threads.plain(short)?;
+        Some((ThreadId::new(number), &bytes[short.len + 1..]))
+    }
+
+    /// The lock whose name the last bytes are, if it is short, recent and plain.
+    #[inline(always)]
+    pub fn last_lock(&self, bytes: &[u8], len: usize) -> Option<LockId>
+        ensures { IfSome result (λ lock. IsPlain self.now.locks (drop (length bytes.now - len) bytes.now) lock) }
+    {
+        let number = self.locks.plain(ShortName::at_end(bytes, len)?)?;
+        Some(LockId::new(number))
+    }
+
+    /// The site whose name the last bytes are, if it is short, recent and plain.
+    #[inline(always)]
+    pub fn last_site(&self, bytes: &[u8], len: usize) -> Option<Site>
+        ensures some { IfSome result (λ site. 0 < site) }
+        ensures plain { IfSome result (λ site. IsPlain self.now.sites (drop (length bytes.now - len) bytes.now) (site - 1)) }
+    {
+        let number = self.sites.plain(ShortName::at_end(bytes, len)?)?;
+        Some(Site::new(number + 1))
     }
 
     /// The numbers here of all those names, by their numbers there. Those of them that are new come behind, in their order.

@@ -1,7 +1,8 @@
 //! Short names that appeared lately: they are compared as numbers, and found without a hash.
-ghost use Rattle.std.specs.Prelude.{◌≡◌, ◌<◌, ◌≤◌, ℕ, List, length, IfSome};
-ghost use Rattle.er_trace.specs.Names.{number_of};
-ghost use Rattle.er_trace.specs.Inner.Recent.{unpacked, bytes_of, Knows, AreRight};
+ghost use Rattle.std.specs.Prelude.{◌≡◌, ◌<◌, ◌≤◌, ◌+◌, ◌-◌, ◌++◌, ◌∷◌, ℕ, List, drop, length, true, IfSome};
+ghost use Rattle.std.specs.List.{list_all};
+ghost use Rattle.er_trace.specs.Names.{number_of, is_plain_byte};
+ghost use Rattle.er_trace.specs.Inner.Recent.{unpacked, bytes_of, Knows, IsRight, AreRight};
 
 use std::alloc::Global;
 
@@ -25,10 +26,25 @@ fn packed(bytes: &[u8]) -> u64
     }
 }
 
+/// The place of the first space among eight bytes, seen at once, or 8 and more. It proves nothing: whoever asks looks there.
+#[inline(always)]
+fn space_near(block: u64) -> usize {
+    let others = block ^ 0x2020_2020_2020_2020;
+    let spaces = others.wrapping_sub(0x0101_0101_0101_0101) & !others & 0x8080_8080_8080_8080;
+    spaces.trailing_zeros() as usize / 8
+}
+
+/// Whether these are letters, digits, `_`, `.`, `:`, `/` and `-` alone.
+pub(crate) fn are_plain(bytes: &[u8]) -> bool
+    ensures { result ≡ list_all is_plain_byte bytes.now }
+{
+    bytes.iter().all(|byte| matches!(*byte, b'a'..=b'z' | b'A'..=b'Z' | b'-'..=b':' | b'_'))
+}
+
 /// A name of 1 to 16 bytes: how many there are, the first eight as a number, and the others.
 #[derive(Clone, Copy, Default, PartialEq)]
 pub(crate) struct ShortName {
-    len: usize,
+    pub(crate) len: usize,
     first: u64,
     rest: u64,
 }
@@ -59,6 +75,45 @@ impl ShortName {
         })
     }
 
+    /// The name of at most seven bytes in front of a space.
+    #[inline(always)]
+    pub(crate) fn before_space(bytes: &[u8]) -> Option<ShortName>
+        ensures bytes { IfSome result (λ short. bytes.now ≡ bytes_of short ++ 32 ∷ drop (short.len + 1) bytes.now) }
+        ensures some { IfSome result (λ short. (0 < short.len) × (short.len ≤ 8)) }
+        ensures within { IfSome result (λ short. short.len < length bytes.now) }
+    {
+        if bytes.len() < 8 {
+            return None;
+        }
+        let block = packed(&bytes[..8]);
+        let len = space_near(block);
+        if len == 0 || len >= 8 || bytes[len] != b' ' {
+            return None;
+        }
+        Some(ShortName {
+            len,
+            first: block % (1 << (8 * len)),
+            rest: 0,
+        })
+    }
+
+    /// The name that the last bytes are, if they are at most eight and there are eight.
+    #[inline(always)]
+    pub(crate) fn at_end(bytes: &[u8], len: usize) -> Option<ShortName>
+        ensures bytes { IfSome result (λ short. bytes_of short ≡ drop (length bytes.now - len) bytes.now) }
+        ensures some { IfSome result (λ short. (0 < short.len) × (short.len ≤ 8)) }
+    {
+        if bytes.len() < 8 || len == 0 || len > 8 {
+            return None;
+        }
+        let block = packed(&bytes[bytes.len() - 8..]);
+        Some(ShortName {
+            len,
+            first: block >> (64 - 8 * len),
+            rest: 0,
+        })
+    }
+
     /// The only slot that it can be in.
     #[inline(always)]
     pub(crate) fn slot(self) -> usize {
@@ -68,11 +123,12 @@ impl ShortName {
     }
 }
 
-/// A name and its number. A name of no bytes, as there is by default, stands for none.
+/// A name, its number, and whether it is known to have plain bytes alone. A name of no bytes, as there is by default, stands for none.
 #[derive(Clone, Copy, Default)]
-struct Slot {
+pub(crate) struct Slot {
     name: ShortName,
-    number: u32,
+    pub(crate) number: u32,
+    pub(crate) plain: bool,
 }
 
 /// Names with their numbers, each in a slot of its own. A name takes the slot of another.
@@ -94,21 +150,23 @@ impl RecentNames {
         }
     }
 
-    /// The number of a name, if it has a slot.
+    /// The slot of a name, if it has one.
     #[inline(always)]
-    pub(crate) fn find(&self, name: ShortName) -> Option<u32>
+    pub(crate) fn find(&self, name: ShortName) -> Option<Slot>
         requires { 0 < name.len }
-        ensures { (names : List (List ℕ)) → AreRight names self.now → IfSome result (λ number. Knows names (bytes_of name) number) }
+        ensures name { IfSome result (λ slot. slot.name ≡ name) }
+        ensures right { (names : List (List ℕ)) → AreRight names self.now → IfSome result (λ slot. IsRight names slot) }
     {
         let slot = self.slots.get(name.slot())?;
         if slot.name != name {
             return None;
         }
-        Some(slot.number)
+        Some(*slot)
     }
 
     /// Puts a name into its slot. Without memory for slots it does nothing.
-    pub(crate) fn remember(&mut self, name: ShortName, number: u32)
+    pub(crate) fn remember(&mut self, name: ShortName, number: u32, plain: bool)
+        requires { plain ≡ true → list_all is_plain_byte (bytes_of name) ≡ true }
         ensures { (names : List (List ℕ)) → AreRight names self.old → Knows names (bytes_of name) number → AreRight names self.new }
     {
         if self.slots.is_empty() {
@@ -116,7 +174,11 @@ impl RecentNames {
         }
         let place = name.slot();
         if place < self.slots.len() {
-            self.slots[place] = Slot { name, number };
+            self.slots[place] = Slot {
+                name,
+                number,
+                plain,
+            };
         }
     }
 

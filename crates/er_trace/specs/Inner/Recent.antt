@@ -1,10 +1,10 @@
 -- Names that are kept as numbers, beside the names that have numbers.
-use Rattle.std.specs.Prelude.{◌≡◌, ℕ, zero, suc, ◌<◌, ◌-◌, ◌/◌, ◌%◌, ◌++◌, true, List, [], ◌∷◌, min}
-use Rattle.std.specs.List.{All}
+use Rattle.std.specs.Prelude.{◌≡◌, true, ℕ, zero, suc, ◌<◌, ◌-◌, ◌/◌, ◌%◌, ◌++◌, List, [], ◌∷◌, min}
+use Rattle.std.specs.List.{All, list_all}
 use Rattle.er_trace.specs.declared.recent.ShortName.{ShortName}
 use Rattle.er_trace.specs.declared.recent.Slot.{Slot}
 use Rattle.er_trace.specs.declared.recent.RecentNames.{RecentNames}
-use Rattle.er_trace.specs.Names.{is_known, number_of, most_names}
+use Rattle.er_trace.specs.Names.{is_known, number_of, most_names, is_plain_byte}
 
 -- so many digits of a number to the base 256, the lowest first
 abbrev pub unpacked : ℕ → ℕ → List ℕ
@@ -20,6 +20,11 @@ pub record Knows (names : List (List ℕ)) (name : List ℕ) (number : ℕ) : Ty
   pub is : number_of names name ≡ number
   pub small : number < most_names
 
--- each name in a slot has the number that stands beside it
+-- the name has the number that stands beside it, and plain bytes if that is noted
+pub record IsRight (names : List (List ℕ)) (slot : Slot) : Type 0 where
+  pub knows : Knows names (bytes_of slot.name) slot.number
+  pub plain : slot.plain ≡ true → list_all is_plain_byte (bytes_of slot.name) ≡ true
+
+-- this holds of each name in a slot
 abbrev pub AreRight : List (List ℕ) → RecentNames → Type 0
-AreRight names recent = All (λ (slot : Slot). 0 < slot.name.len → Knows names (bytes_of slot.name) slot.number) recent.slots.items
+AreRight names recent = All (λ (slot : Slot). 0 < slot.name.len → IsRight names slot) recent.slots.items
