@@ -105,7 +105,7 @@ hex_word digits value len front some =
       number = rw (whole, front.digits, test, value_is) refl;
     }
 
-addressed : (bytes digits tail : List ℕ) (len : ℕ) → bytes ≡ codes "0x" ++ digits → drop len digits ≡ tail → bytes ≡ (48 ∷ 120 ∷ take len digits) ++ tail
+pub addressed : (bytes digits tail : List ℕ) (len : ℕ) → bytes ≡ codes "0x" ++ digits → drop len digits ≡ tail → bytes ≡ (48 ∷ 120 ∷ take len digits) ++ tail
 addressed bytes digits tail len is rest =
     is ∙ ap (λ (d : List ℕ). 48 ∷ 120 ∷ d) (sym (take-append-drop len digits) ∙ ap (λ (d : List ℕ). take len digits ++ d) rest)
 

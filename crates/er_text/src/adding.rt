@@ -1,14 +1,14 @@
 //! The steps that a line adds to a trace.
-ghost use Rattle.std.specs.Prelude.{◌≡◌, ◌<◌, length, Some, None, IfOk, OnOk};
+ghost use Rattle.std.specs.Prelude.{◌≡◌, ◌<◌, length, IfOk, OnOk};
 ghost use Rattle.er_trace.specs.Names.{number_of};
 ghost use Rattle.er_trace.specs.Trace.{HasSiteName};
 ghost use Rattle.er_text.specs.Inner.Parsing.{event_line};
 ghost use Rattle.er_lines.specs.Words.{seen_name};
-ghost use Rattle.er_text.specs.Events.{Acquires, Releases, Accesses, with_line, site_number, with_site_of, with_reuses, run_parts};
+ghost use Rattle.er_text.specs.Events.{with_line, site_number, with_site_of, with_reuses, run_parts};
 
 use crate::Put;
 use crate::parsing::{Action, ParsedLine};
-use er_event::{Event, Kind, Mode, Site, Step, Sync, ThreadId, Word, WordRange};
+use er_event::{Event, Site, Step, Sync, ThreadId, WordRange};
 use er_trace::Trace;
 use std::alloc::AllocError;
 
@@ -21,61 +21,6 @@ fn site_number(trace: &mut Trace, site: Option<&str>) -> Result<Site, AllocError
         Some(name) => trace.site(name),
         None => Ok(Site::MISSING),
     }
-}
-
-/// Adds the acquire of a lock. The thread is numbered first.
-#[inline(always)]
-pub(crate) fn add_acquire(trace: &mut Trace, line: u64, thread: &str, lock: &str, mode: Mode) -> Put
-    ensures { OnOk result (trace.new ≡ with_line line (record { thread = thread.now; operation = Acquires lock.now mode }) trace.old) }
-{
-    let thread = trace.thread(thread)?;
-    let lock = trace.lock(lock)?;
-    let event = Event::Acquire(lock, mode);
-    trace.push(Step { thread, event }, line, Site::MISSING)
-}
-
-/// Adds the release of a lock. The thread is numbered first.
-#[inline(always)]
-pub(crate) fn add_release(trace: &mut Trace, line: u64, thread: &str, lock: &str, mode: Mode) -> Put
-    ensures { OnOk result (trace.new ≡ with_line line (record { thread = thread.now; operation = Releases lock.now mode }) trace.old) }
-{
-    let thread = trace.thread(thread)?;
-    let lock = trace.lock(lock)?;
-    let event = Event::Release(lock, mode);
-    trace.push(Step { thread, event }, line, Site::MISSING)
-}
-
-/// Adds an access without a site. The thread is numbered first.
-pub(crate) fn add_lone_access(
-    trace: &mut Trace,
-    line: u64,
-    thread: &str,
-    kind: Kind,
-    word: Word,
-) -> Put
-    ensures { OnOk result (trace.new ≡ with_line line (record { thread = thread.now; operation = Accesses kind word None }) trace.old) }
-{
-    let thread = trace.thread(thread)?;
-    let event = Event::Access(kind, word, Site::MISSING);
-    trace.push(Step { thread, event }, line, Site::MISSING)
-}
-
-/// Adds an access at a site. The thread is numbered first.
-#[inline(always)]
-pub(crate) fn add_access(
-    trace: &mut Trace,
-    line: u64,
-    thread: &str,
-    kind: Kind,
-    word: Word,
-    site: &str,
-) -> Put
-    ensures { OnOk result (trace.new ≡ with_line line (record { thread = thread.now; operation = Accesses kind word (Some site.now) }) trace.old) }
-{
-    let thread = trace.thread(thread)?;
-    let site = trace.site(site)?;
-    let event = Event::Access(kind, word, site);
-    trace.push(Step { thread, event }, line, site)
 }
 
 /// Adds a step for each page of a range, at this site.

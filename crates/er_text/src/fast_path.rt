@@ -6,15 +6,14 @@
 ghost use Rattle.std.specs.Prelude.{◌≡◌, ◌+◌, ◌<◌, ◌≤◌, ◌∷◌, ◌++◌, not, position, length, codes, ℕ, List, IfSome};
 ghost use Rattle.std.specs.List.{position_or_len};
 ghost use Rattle.er_lines.specs.Naming.{is_name_byte};
-ghost use Rattle.er_text.specs.Inner.FastPath.{IsLeadingName, HexSoFar, AreLeadingDigits, IsLeadingWord, IsFastAccess, IsFastLockEvent, IsFastOperation, IsFastLine, AddsOperation, AddsLine, lock_word};
+ghost use Rattle.er_text.specs.Inner.FastPath.{EndsIn, IsLeadingName, IsLeadingThread, HexSoFar, AreLeadingDigits, IsLeadingWord, IsFastAccess, IsFastLockEvent, IsFastOperation, IsFastLine, NumbersLock, NumbersSite, AddsOperation, AddsLine, lock_word};
 ghost use Rattle.er_text.specs.Trace.{kind_word};
 
-use crate::adding::{add_access, add_acquire, add_lone_access, add_release};
 use crate::naming::is_site_word;
 use crate::verbs::Version;
-use er_event::{Kind, Mode, Word};
+use er_event::{Event, Kind, LockId, Mode, Site, Step, ThreadId, Word};
 use er_lines::{class_of, is_lock_name, is_name_byte, name_text, site_text};
-use er_trace::Trace;
+use er_trace::{Names, Trace};
 use std::alloc::AllocError;
 use std::simd::prelude::*;
 
@@ -86,7 +85,6 @@ fn leading_lock_verb(bytes: &[u8]) -> Option<(bool, Mode, &[u8])>
 }
 
 /// The name in front of one space, and what follows that.
-#[inline(always)]
 fn leading_name(bytes: &[u8]) -> Option<(&str, &[u8])>
     ensures { IfSome result (λ parts. IsLeadingName bytes.now parts.0.now parts.1.now) }
 {
@@ -97,6 +95,27 @@ fn leading_name(bytes: &[u8]) -> Option<(&str, &[u8])>
     let (name, rest) = bytes.split_at(len);
     let rest = after_space(rest)?;
     Some((name_text(name), rest))
+}
+
+/// The thread whose name is known and stands in front of one space, and what follows that.
+#[inline(never)]
+fn known_thread<'a>(names: &Names, bytes: &'a [u8]) -> Option<(ThreadId, &'a [u8])>
+    ensures { IfSome result (λ parts. IsLeadingThread names.now.threads bytes.now parts.0 parts.1.now) }
+{
+    let (name, rest) = leading_name(bytes)?;
+    let thread = names.known_thread(name)?;
+    Some((thread, rest))
+}
+
+/// The same, where most names are found by a look at eight bytes.
+#[inline(always)]
+fn leading_thread<'a>(names: &Names, bytes: &'a [u8]) -> Option<(ThreadId, &'a [u8])>
+    ensures { IfSome result (λ parts. IsLeadingThread names.now.threads bytes.now parts.0 parts.1.now) }
+{
+    match names.leading_thread(bytes) {
+        Some(found) => Some(found),
+        None => known_thread(names, bytes),
+    }
 }
 
 /// The value of the hexadecimal digits in front, of which at most 12 are read one by one, and how many these are.
@@ -177,35 +196,64 @@ fn leading_word(bytes: &[u8]) -> Option<(Word, &[u8])>
     Some((Word::new(address / Word::BYTES), &digits[len..]))
 }
 
-/// Adds an access of a word, if nothing or a site follows its address, and says whether it did.
+/// The number of the site that a word at the end of a line names, if it names one.
+#[inline(never)]
+fn number_site(trace: &mut Trace, version: Version, word: &[u8]) -> Result<Option<Site>, AllocError>
+    ensures { (rest : List ℕ) → rest ≡ 32 ∷ word.now → NumbersSite version rest trace.old trace.new result }
+{
+    if !is_site_word(version, word) {
+        return Ok(None);
+    }
+    if word == b"-".as_slice() {
+        return Ok(Some(Site::MISSING));
+    }
+    Ok(Some(trace.site(site_text(word))?))
+}
+
+/// The number of the site behind an address, which is the missing one if the line ends there.
 #[inline(always)]
-fn add_word_access(
+fn site_behind(
     trace: &mut Trace,
     version: Version,
-    line: u64,
-    thread: &str,
-    kind: Kind,
-    word: Word,
+    whole: &[u8],
     rest: &[u8],
-) -> Added
-    ensures { (bytes : List ℕ) → IsLeadingWord bytes word rest.now → AddsOperation (IsFastAccess version kind bytes) line thread.now trace.old trace.new result }
+) -> Result<Option<Site>, AllocError>
+    requires { EndsIn whole.now rest.now }
+    ensures { NumbersSite version rest.now trace.old trace.new result }
 {
     if rest.is_empty() {
-        add_lone_access(trace, line, thread, kind, word)?;
-        return Ok(true);
+        return Ok(Some(Site::MISSING));
     }
-    let Some(site) = after_space(rest) else {
-        return Ok(false);
+    let Some(word) = after_space(rest) else {
+        return Ok(None);
     };
-    if !is_site_word(version, site) {
-        return Ok(false);
+    match trace.names().last_site(whole, word.len()) {
+        Some(site) if word != b"-".as_slice() => Ok(Some(site)),
+        _ => number_site(trace, version, word),
     }
-    if site == b"-".as_slice() {
-        add_lone_access(trace, line, thread, kind, word)?;
-        return Ok(true);
+}
+
+/// The number of the lock that a word at the end of a line names, if it names one.
+#[inline(never)]
+fn number_lock(trace: &mut Trace, word: &[u8]) -> Result<Option<LockId>, AllocError>
+    ensures { NumbersLock word.now trace.old trace.new result }
+{
+    if !is_lock_name(word) {
+        return Ok(None);
     }
-    add_access(trace, line, thread, kind, word, site_text(site))?;
-    Ok(true)
+    Ok(Some(trace.lock(name_text(word))?))
+}
+
+/// The same, where most locks are found by a look at eight bytes.
+#[inline(always)]
+fn last_lock(trace: &mut Trace, whole: &[u8], word: &[u8]) -> Result<Option<LockId>, AllocError>
+    requires { EndsIn whole.now word.now }
+    ensures { NumbersLock word.now trace.old trace.new result }
+{
+    match trace.names().last_lock(whole, word.len()) {
+        Some(lock) if word != b"none".as_slice() => Ok(Some(lock)),
+        _ => number_lock(trace, word),
+    }
 }
 
 /// Adds the access that stands behind its verb, and says whether it did.
@@ -214,16 +262,24 @@ fn add_usual_access(
     trace: &mut Trace,
     version: Version,
     line: u64,
-    thread: &str,
+    thread: ThreadId,
     kind: Kind,
+    whole: &[u8],
     bytes: &[u8],
 ) -> Added
-    ensures { AddsOperation (IsFastAccess version kind bytes.now) line thread.now trace.old trace.new result }
+    requires end { EndsIn whole.now bytes.now }
+    requires thread { thread < length trace.old.names.threads }
+    ensures { AddsOperation (IsFastAccess version kind bytes.now) line thread trace.old trace.new result }
 {
-    match leading_word(bytes) {
-        Some((word, rest)) => add_word_access(trace, version, line, thread, kind, word, rest),
-        None => Ok(false),
-    }
+    let Some(led) = leading_word(bytes) else {
+        return Ok(false);
+    };
+    let Some(site) = site_behind(trace, version, whole, led.1)? else {
+        return Ok(false);
+    };
+    let event = Event::Access(kind, led.0, site);
+    trace.push(Step { thread, event }, line, site)?;
+    Ok(true)
 }
 
 /// Adds the acquire or the release of the lock that stands behind the verb, and says whether it did.
@@ -231,21 +287,26 @@ fn add_usual_access(
 fn add_usual_lock_event(
     trace: &mut Trace,
     line: u64,
-    thread: &str,
+    thread: ThreadId,
     acquires: bool,
     mode: Mode,
+    whole: &[u8],
     bytes: &[u8],
 ) -> Added
-    ensures { AddsOperation (IsFastLockEvent acquires mode bytes.now) line thread.now trace.old trace.new result }
+    requires end { EndsIn whole.now bytes.now }
+    requires thread { thread < length trace.old.names.threads }
+    ensures { AddsOperation (IsFastLockEvent acquires mode bytes.now) line thread trace.old trace.new result }
 {
-    if !is_lock_name(bytes) {
+    let Some(lock) = last_lock(trace, whole, bytes)? else {
         return Ok(false);
-    }
+    };
     if acquires {
-        add_acquire(trace, line, thread, name_text(bytes), mode)?;
-    } else {
-        add_release(trace, line, thread, name_text(bytes), mode)?;
+        let event = Event::Acquire(lock, mode);
+        trace.push(Step { thread, event }, line, Site::MISSING)?;
+        return Ok(true);
     }
+    let event = Event::Release(lock, mode);
+    trace.push(Step { thread, event }, line, Site::MISSING)?;
     Ok(true)
 }
 
@@ -255,23 +316,26 @@ fn add_usual_operation(
     trace: &mut Trace,
     version: Version,
     line: u64,
-    thread: &str,
+    thread: ThreadId,
+    whole: &[u8],
     bytes: &[u8],
 ) -> Added
-    ensures { AddsOperation (IsFastOperation version bytes.now) line thread.now trace.old trace.new result }
+    requires end { EndsIn whole.now bytes.now }
+    requires thread { thread < length trace.old.names.threads }
+    ensures { AddsOperation (IsFastOperation version bytes.now) line thread trace.old trace.new result }
 {
     if let Some((kind, rest)) = leading_kind(bytes) {
-        return add_usual_access(trace, version, line, thread, kind, rest);
+        return add_usual_access(trace, version, line, thread, kind, whole, rest);
     }
     match leading_lock_verb(bytes) {
         Some((acquires, mode, rest)) => {
-            add_usual_lock_event(trace, line, thread, acquires, mode, rest)
+            add_usual_lock_event(trace, line, thread, acquires, mode, whole, rest)
         }
         None => Ok(false),
     }
 }
 
-/// Adds the step of a line in its usual form, and says whether it did. A line of another form adds nothing.
+/// Adds the step of a line in its usual form, if its thread is known, and says whether it did. A line of another form adds nothing.
 ///
 /// It makes no value of an enum with names in it: such a value is copied in pieces that are wider than its parts, and each copy
 /// waits until the parts are written.
@@ -279,8 +343,8 @@ fn add_usual_operation(
 pub(crate) fn add_usual(trace: &mut Trace, version: Version, line: u64, bytes: &[u8]) -> Added
     ensures { AddsLine (IsFastLine version bytes.now) line trace.old trace.new result }
 {
-    match leading_name(bytes) {
-        Some((thread, rest)) => add_usual_operation(trace, version, line, thread, rest),
+    match leading_thread(trace.names(), bytes) {
+        Some(led) => add_usual_operation(trace, version, line, led.0, bytes, led.1),
         None => Ok(false),
     }
 }

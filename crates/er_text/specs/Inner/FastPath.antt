@@ -1,5 +1,5 @@
 -- What is known of an event line in its usual form. No public clause cites this module.
-use Rattle.std.specs.Prelude.{◌≡◌, ℕ, ◌+◌, ◌*◌, ◌/◌, ◌^◌, ◌<◌, ◌≤◌, Bool, true, false, List, ◌∷◌, ◌++◌, Option, Some, None, Result, Ok, Err, length, take, drop, codes, if◌then◌else◌}
+use Rattle.std.specs.Prelude.{◌≡◌, ℕ, ◌+◌, ◌*◌, ◌/◌, ◌^◌, ◌<◌, ◌≤◌, Bool, true, false, List, [], ◌∷◌, ◌++◌, Option, Some, None, Result, Ok, Err, length, take, drop, codes, if◌then◌else◌}
 use Rattle.std.specs.List.{list_all}
 use Rattle.std.specs.Char.{is_digit}
 use Rattle.std.specs.Str.Parse.{digits_value}
@@ -10,16 +10,27 @@ use Rattle.er_text.specs.declared.stages.Stage.{Stage}
 use Rattle.er_lines.specs.Lines.{words, word_at, has_bytes, is_ascii, is_comment}
 use Rattle.er_lines.specs.Number.{number_of}
 use Rattle.er_lines.specs.Naming.{is_name, is_lock_name}
-use Rattle.er_trace.specs.Trace.{Recording}
-use Rattle.er_trace.specs.Names.{number_of as place_of}
-use Rattle.er_text.specs.Events.{Operation, Acquires, Releases, Accesses, EventLine, with_operation, with_line}
+use Rattle.er_trace.specs.Trace.{Recording, with_lock_name}
+use Rattle.er_trace.specs.Names.{is_known, number_of as place_of}
+use Rattle.er_text.specs.Events.{Operation, Acquires, Releases, Accesses, EventLine, site_number, with_site_of, with_operation, with_line}
 use Rattle.er_text.specs.Trace.{IsSite, IsOperation, Says, acquire_word, release_word}
 use Rattle.er_text.specs.Inner.Idle.{other_thread, last_actor}
 use Rattle.er_text.specs.Inner.Traces.{at_line, plain_at}
 
+-- the line ends with these bytes
+abbrev pub EndsIn : List ℕ → List ℕ → Type 0
+EndsIn whole bytes = (front : List ℕ) × (whole ≡ front ++ bytes)
+
 -- a name, one space, and the rest
 abbrev pub IsLeadingName : List ℕ → List ℕ → List ℕ → Type 0
 IsLeadingName bytes name rest = (bytes ≡ name ++ 32 ∷ rest) × (is_name name ≡ true)
+
+-- the same, of a thread that has this number
+pub record IsLeadingThread (names : List (List ℕ)) (bytes : List ℕ) (thread : ℕ) (rest : List ℕ) : Type 0 where
+  pub name : List ℕ
+  pub front : IsLeadingName bytes name rest
+  pub known : is_known names name ≡ true
+  pub is : thread ≡ place_of names name
 
 -- so many hexadecimal digits, as far as they were read
 pub record HexSoFar (bytes : List ℕ) (value i : ℕ) : Type 0 where
@@ -84,9 +95,26 @@ pub record IsFastLine (v : Version) (line : List ℕ) (s : EventLine) : Type 0 w
   pub alone : other_thread s.operation ≡ None
   pub one : (number : ℕ) (r : Recording) → last_actor (with_line number s r).steps ≡ Some (place_of r.names.threads s.thread)
 
--- an operation of this kind was added to a thread's, or nothing was, or memory ran out
-abbrev pub AddsOperation : {E : Type 0} → (Operation → Type 0) → ℕ → List ℕ → Recording → Recording → Result Bool E → Type 0
-AddsOperation Is line thread old new (Ok true) = (operation : Operation) × Is operation × (new ≡ with_line line (record { thread = thread; operation = operation }) old)
+-- nothing behind an address, or one space and a word that names a site or is `-`
+pub data IsSiteBehind (v : Version) (rest : List ℕ) (s : Option (List ℕ)) : Type 0 where
+  Nothing : rest ≡ [] → s ≡ None → IsSiteBehind v rest s
+  Named : (site : List ℕ) → rest ≡ 32 ∷ site → IsSite v (site ∷ []) s → IsSiteBehind v rest s
+
+-- the site behind an address was numbered, or there was no site, or memory ran out
+abbrev pub NumbersSite : {E : Type 0} → Version → List ℕ → Recording → Recording → Result (Option ℕ) E → Type 0
+NumbersSite v rest old new (Ok (Some site)) = (s : Option (List ℕ)) × IsSiteBehind v rest s × (site ≡ site_number old s) × (new ≡ with_site_of old s)
+NumbersSite v rest old new (Ok None) = new ≡ old
+NumbersSite v rest old new (Err e) = Unit {0}
+
+-- the same of a lock
+abbrev pub NumbersLock : {E : Type 0} → List ℕ → Recording → Recording → Result (Option ℕ) E → Type 0
+NumbersLock word old new (Ok (Some lock)) = (is_lock_name word ≡ true) × (lock ≡ place_of old.names.locks word) × (new ≡ with_lock_name old word)
+NumbersLock word old new (Ok None) = new ≡ old
+NumbersLock word old new (Err e) = Unit {0}
+
+-- an operation of this kind was added to those of a thread, or nothing was, or memory ran out
+abbrev pub AddsOperation : {E : Type 0} → (Operation → Type 0) → ℕ → ℕ → Recording → Recording → Result Bool E → Type 0
+AddsOperation Is line thread old new (Ok true) = (operation : Operation) × Is operation × (new ≡ with_operation line thread operation old)
 AddsOperation Is line thread old new (Ok false) = new ≡ old
 AddsOperation Is line thread old new (Err e) = Unit {0}
 
