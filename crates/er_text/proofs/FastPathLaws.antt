@@ -1,24 +1,24 @@
 -- Lines in their usual form say what the grammar says of their words.
-use Rattle.std.proofs.Common.{◌≡◌, ◌+◌, ◌==◌, ℕ, Bool, zero, suc, append-nil, ◌^◌, ◌≤◌, true, false, not, ◌&&◌, cond, List, [], ◌∷◌, ◌++◌, length, take, drop, get_or, filter, Option, Some, None, Ok, nat_lt, nat_le, ◌/◌, codes, refl, sym, ap, ◌∙◌, subst, arith}
-use Rattle.std.specs.List.{list_all, slice_split, All}
+use Rattle.std.proofs.Common.{◌≡◌, ◌+◌, ◌<◌, ◌==◌, ℕ, Bool, zero, suc, append-nil, ◌^◌, ◌≤◌, true, false, not, ◌&&◌, cond, List, [], ◌∷◌, ◌++◌, length, take, drop, length-drop, get_or, filter, unwrap_or, Option, Some, None, Ok, nat_lt, nat_le, ◌/◌, codes, refl, sym, ap, ◌∙◌, subst, arith}
+use Rattle.std.specs.List.{list_all, slice_split, position_or_len, All}
 use Rattle.std.specs.Char.{is_digit}
 use Rattle.std.specs.Str.{bytes_eq}
 use Rattle.std.specs.Str.Parse.{digits_value}
 use Rattle.std.proofs.lemmas.Bool.{and_parts}
 use Rattle.std.proofs.lemmas.Bool.Decides.{nat_tests}
-use Rattle.std.proofs.lemmas.List.{take-append-drop, length-take}
+use Rattle.std.proofs.lemmas.List.{take-append-drop, drop_more}
 use Rattle.std.proofs.lemmas.List.Elements.{All-cons}
 use Rattle.std.proofs.lemmas.List.Folds.{list_all-append}
 use Rattle.std.proofs.lemmas.List.Splits.{slice_split_at, slice_split_none}
-use Rattle.std.proofs.lemmas.List.Sums.{AllPass-from_list_all, list_all-from_AllPass}
+use Rattle.std.proofs.lemmas.List.Sums.{AllPass-from_list_all, list_all-from_AllPass, passes_at_first}
 use Rattle.er_event.specs.declared.steps.Kind.{Kind}
 use Rattle.er_event.specs.declared.steps.Kind.TheVariants.{Read, Write}
 use Rattle.er_event.specs.declared.steps.Mode.{Mode}
 use Rattle.er_event.specs.declared.steps.Mode.TheVariants as mode
 use Rattle.er_text.specs.declared.verbs.Version.{Version}
-use Rattle.er_lines.specs.Lines.{is_gap, is_ascii, is_comment, has_bytes, words, word_at}
+use Rattle.er_lines.specs.Lines.{is_gap, is_space, before_space, behind_space, is_ascii, is_comment, has_bytes, words, word_at}
 use Rattle.er_lines.specs.Number.{number_of}
-use Rattle.er_lines.specs.Naming.{is_name_byte, is_name, is_lock_name, is_site_byte}
+use Rattle.er_lines.specs.Naming.{is_name_byte, is_name, is_lock_name, is_site_byte, name_of}
 use Rattle.er_text.specs.Naming.{is_site_word}
 use Rattle.er_text.specs.Events.{Operation, Acquires, Releases, Accesses, EventLine, with_operation, with_line}
 use Rattle.er_text.specs.declared.stages.Stage.{Stage}
@@ -230,16 +230,28 @@ named_site v site dash named other is =
     let test : bytes_eq site (codes "-") ≡ false = ap (λ (w : List ℕ). bytes_eq site w) (sym is) ∙ sym other in
     (named, rw test refl)
 
-most_name : (len : ℕ) (bytes : List ℕ) → len ≤ 128 → nat_le (length (take len bytes)) 128 ≡ true
-most_name len bytes few = let size = length-take len bytes in grind (arith, nat_tests, size, few)
+is_spaced : (b : ℕ) → is_space b ≡ true → b ≡ 32
+is_spaced b e = grind (arith, nat_tests, e)
 
--- the name bytes in front, and one space behind them
-pub front_found : (bytes name back rest told : List ℕ) (len : ℕ) → list_all is_name_byte (take len bytes) ≡ true → (len ≡ 0 → ⊥) → len ≤ 128 → len ≤ length bytes
-    → name ≡ take len bytes → back ≡ drop len bytes → back ≡ 32 ∷ rest → told ≡ name → IsLeadingName bytes told rest
-front_found bytes name back rest told len all some few within front behind space same = (
-  sym (take-append-drop len bytes) ∙ ap (λ (b : List ℕ). take len bytes ++ b) (sym behind ∙ space) ∙ ap (λ (n : List ℕ). n ++ 32 ∷ rest) (sym (same ∙ front)),
-  ap is_name (same ∙ front) ∙ (rw (some_taken len bytes some within, most_name len bytes few, all) refl),
-)
+-- what stands before the first space and behind it, if anything is behind it
+spaced_word : (bytes : List ℕ) → (length (behind_space bytes) ≡ 0 → ⊥) → bytes ≡ before_space bytes ++ 32 ∷ behind_space bytes
+spaced_word bytes some =
+    let n = position_or_len is_space bytes in
+    let size = length-drop (n + 1) bytes in
+    let within : n < length bytes = omega (arith, size, some) in
+    let space : get_or bytes n 0 ≡ 32 = is_spaced (get_or bytes n 0) (passes_at_first is_space bytes 0 within) in
+    let behind : drop n bytes ≡ 32 ∷ drop (n + 1) bytes = drop_more bytes n 0 within ∙ ap (λ (b : ℕ). b ∷ drop (n + 1) bytes) space in
+    sym (take-append-drop n bytes) ∙ ap (λ (b : List ℕ). take n bytes ++ b) behind
+
+seen_cases : (word seen : List ℕ) (b : Bool) → Some seen ≡ cond b (Some word) None → (b ≡ true) × (seen ≡ word)
+seen_cases word seen true e = (refl, ap (λ (o : Option (List ℕ)). unwrap_or o []) e)
+seen_cases word seen false e = absurd (cc)
+
+-- a name in front of the first space
+pub front_found : (bytes word rest seen : List ℕ) → word ≡ before_space bytes → rest ≡ behind_space bytes → (length rest ≡ 0 → ⊥) → Some seen ≡ name_of word → IsLeadingName bytes seen rest
+front_found bytes word rest seen front behind some named =
+    let is = seen_cases word seen (is_name word) named in
+    (rw (is.1, front, behind) (spaced_word bytes (rw (← behind) some)), rw is.1 is.0)
 
 no_mark : (b : ℕ) → is_name_byte b ≡ true → (b == 35) ≡ false
 no_mark b e = grind (arith, nat_tests, e)

@@ -3,36 +3,20 @@
 //! two of them. What a site may be depends on the version of the text.
 //!
 //! The steps are those of `parsing` and `adding`, in less than half the time. A line of any other form is left to `parsing`.
-ghost use Rattle.std.specs.Prelude.{◌≡◌, ◌+◌, ◌<◌, ◌≤◌, ◌∷◌, ◌++◌, not, position, length, codes, ℕ, List, IfSome};
-ghost use Rattle.std.specs.List.{position_or_len};
-ghost use Rattle.er_lines.specs.Naming.{is_name_byte};
-ghost use Rattle.er_text.specs.Inner.FastPath.{EndsIn, IsLeadingName, IsLeadingThread, HexSoFar, AreLeadingDigits, IsLeadingWord, IsFastAccess, IsFastLockEvent, IsFastOperation, IsFastLine, NumbersLock, NumbersSite, AddsOperation, AddsLine, lock_word};
+ghost use Rattle.std.specs.Prelude.{◌≡◌, ◌+◌, ◌<◌, ◌≤◌, ◌∷◌, ◌++◌, length, codes, ℕ, List, IfSome};
+ghost use Rattle.er_text.specs.Inner.FastPath.{EndsIn, IsLeadingThread, HexSoFar, AreLeadingDigits, IsLeadingWord, IsFastAccess, IsFastLockEvent, IsFastOperation, IsFastLine, NumbersLock, NumbersSite, AddsOperation, AddsLine, lock_word};
 ghost use Rattle.er_text.specs.Trace.{kind_word};
 
 use crate::naming::is_site_word;
 use crate::verbs::Version;
 use er_event::{Event, Kind, LockId, Mode, Site, Step, ThreadId, Word};
-use er_lines::{class_of, is_lock_name, is_name_byte, name_text, site_text};
+use er_lines::{class_of, is_name, name_of, name_text, site_text, split_at_space};
 use er_trace::{Names, Trace};
 use std::alloc::AllocError;
 use std::simd::prelude::*;
 
 /// Whether a step was added, unless memory was refused.
 type Added = Result<bool, AllocError>;
-
-fn find_name_end(bytes: &[u8]) -> Option<usize>
-    ensures { result ≡ position (λ byte. not (is_name_byte byte)) bytes.now }
-{
-    bytes.iter().position(|byte| !is_name_byte(*byte))
-}
-
-/// How many name bytes stand in front.
-fn name_len(bytes: &[u8]) -> usize
-    ensures place { result ≡ position_or_len (λ byte. not (is_name_byte byte)) bytes.now }
-    ensures bound { result ≤ length bytes.now }
-{
-    find_name_end(bytes).unwrap_or(bytes.len())
-}
 
 /// What follows a space in front.
 #[inline(always)]
@@ -84,38 +68,20 @@ fn leading_lock_verb(bytes: &[u8]) -> Option<(bool, Mode, &[u8])>
     }
 }
 
-/// The name in front of one space, and what follows that.
-fn leading_name(bytes: &[u8]) -> Option<(&str, &[u8])>
-    ensures { IfSome result (λ parts. IsLeadingName bytes.now parts.0.now parts.1.now) }
-{
-    let len = name_len(bytes);
-    if len == 0 || len > 128 {
-        return None;
-    }
-    let (name, rest) = bytes.split_at(len);
-    let rest = after_space(rest)?;
-    Some((name_text(name), rest))
-}
-
-/// The thread whose name is known and stands in front of one space, and what follows that.
-#[inline(never)]
-fn known_thread<'a>(names: &Names, bytes: &'a [u8]) -> Option<(ThreadId, &'a [u8])>
-    ensures { IfSome result (λ parts. IsLeadingThread names.now.threads bytes.now parts.0 parts.1.now) }
-{
-    let (name, rest) = leading_name(bytes)?;
-    let thread = names.known_thread(name)?;
-    Some((thread, rest))
-}
-
-/// The same, where most names are found by a look at eight bytes.
+/// The thread whose name is known and stands in front of one space, and what follows that. Most are found by a look at eight bytes.
 #[inline(always)]
 fn leading_thread<'a>(names: &Names, bytes: &'a [u8]) -> Option<(ThreadId, &'a [u8])>
-    ensures { IfSome result (λ parts. IsLeadingThread names.now.threads bytes.now parts.0 parts.1.now) }
+    ensures { IfSome result (λ led. IsLeadingThread names.now.threads bytes.now led.0 led.1.now) }
 {
-    match names.leading_thread(bytes) {
-        Some(found) => Some(found),
-        None => known_thread(names, bytes),
+    if let Some(led) = names.leading_thread(bytes) {
+        return Some(led);
     }
+    let (word, rest) = split_at_space(bytes);
+    if rest.is_empty() {
+        return None;
+    }
+    let thread = names.known_thread(name_of(word)?)?;
+    Some((thread, rest))
 }
 
 /// The value of the hexadecimal digits in front, of which at most 12 are read one by one, and how many these are.
@@ -196,21 +162,7 @@ fn leading_word(bytes: &[u8]) -> Option<(Word, &[u8])>
     Some((Word::new(address / Word::BYTES), &digits[len..]))
 }
 
-/// The number of the site that a word at the end of a line names, if it names one.
-#[inline(never)]
-fn number_site(trace: &mut Trace, version: Version, word: &[u8]) -> Result<Option<Site>, AllocError>
-    ensures { (rest : List ℕ) → rest ≡ 32 ∷ word.now → NumbersSite version rest trace.old trace.new result }
-{
-    if !is_site_word(version, word) {
-        return Ok(None);
-    }
-    if word == b"-".as_slice() {
-        return Ok(Some(Site::MISSING));
-    }
-    Ok(Some(trace.site(site_text(word))?))
-}
-
-/// The number of the site behind an address, which is the missing one if the line ends there.
+/// The number of the site behind an address, which is the missing one if the line ends there. None: it is no site.
 #[inline(always)]
 fn site_behind(
     trace: &mut Trace,
@@ -227,33 +179,34 @@ fn site_behind(
     let Some(word) = after_space(rest) else {
         return Ok(None);
     };
-    match trace.names().last_site(whole, word.len()) {
-        Some(site) if word != b"-".as_slice() => Ok(Some(site)),
-        _ => number_site(trace, version, word),
+    if word == b"-".as_slice() {
+        return Ok(Some(Site::MISSING));
     }
-}
-
-/// The number of the lock that a word at the end of a line names, if it names one.
-#[inline(never)]
-fn number_lock(trace: &mut Trace, word: &[u8]) -> Result<Option<LockId>, AllocError>
-    ensures { NumbersLock word.now trace.old trace.new result }
-{
-    if !is_lock_name(word) {
+    if let Some(site) = trace.names().last_site(whole, word.len()) {
+        return Ok(Some(site));
+    }
+    if !is_site_word(version, word) {
         return Ok(None);
     }
-    Ok(Some(trace.lock(name_text(word))?))
+    Ok(Some(trace.site(site_text(word))?))
 }
 
-/// The same, where most locks are found by a look at eight bytes.
+/// The number of the lock whose name ends a line. None: the word is no name of a lock.
 #[inline(always)]
 fn last_lock(trace: &mut Trace, whole: &[u8], word: &[u8]) -> Result<Option<LockId>, AllocError>
     requires { EndsIn whole.now word.now }
     ensures { NumbersLock word.now trace.old trace.new result }
 {
-    match trace.names().last_lock(whole, word.len()) {
-        Some(lock) if word != b"none".as_slice() => Ok(Some(lock)),
-        _ => number_lock(trace, word),
+    if word == b"none".as_slice() {
+        return Ok(None);
     }
+    if let Some(lock) = trace.names().last_lock(whole, word.len()) {
+        return Ok(Some(lock));
+    }
+    if !is_name(word) {
+        return Ok(None);
+    }
+    Ok(Some(trace.lock(name_text(word))?))
 }
 
 /// Adds the access that stands behind its verb, and says whether it did.

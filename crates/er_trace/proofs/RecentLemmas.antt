@@ -1,11 +1,14 @@
 -- Names in slots keep their numbers while names are added.
-use Rattle.std.proofs.Common.{◌≡◌, ℕ, ◌<◌, List, Result, Ok, Err, OnOk, OnErr, sym, ◌∙◌, subst}
+use Rattle.std.specs.List.{list_all}
+use Rattle.std.proofs.Common.{◌≡◌, ℕ, ◌<◌, ◌≤◌, true, List, Option, Some, None, IfSome, Result, Ok, Err, OnOk, OnErr, sym, ◌∙◌, subst, arith}
 use Rattle.std.specs.declared.alloc.AllocError.{AllocError}
 use Rattle.std.proofs.lemmas.List.Elements.{All-weaker}
+use Rattle.er_trace.specs.declared.recent.ShortName.{ShortName}
 use Rattle.er_trace.specs.declared.recent.Slot.{Slot}
 use Rattle.er_trace.specs.declared.recent.RecentNames.{RecentNames}
-use Rattle.er_trace.specs.Names.{number_of, with_name, most_names}
+use Rattle.er_trace.specs.Names.{number_of, with_name, most_names, is_plain_byte, IsPlain}
 use Rattle.er_trace.specs.Inner.Recent.{bytes_of, Knows, IsRight, AreRight}
+use Rattle.er_trace.proofs.DigitLemmas.{bytes_size}
 use Rattle.er_trace.proofs.NumberLemmas.{given, again, still, kept}
 
 still_knows : (names : List (List ℕ)) (later name : List ℕ) (number : ℕ) → Knows names name number → Knows (with_name names later) name number
@@ -15,8 +18,8 @@ still_knows names later name number knows =
 -- also once this name is there
 pub still_right : (names : List (List ℕ)) (later : List ℕ) (recent : RecentNames) → AreRight names recent → AreRight (with_name names later) recent
 still_right names later recent right =
-    let P : Slot → Type 0 = λ slot. 0 < slot.name.len → IsRight names slot in
-    let Q : Slot → Type 0 = λ slot. 0 < slot.name.len → IsRight (with_name names later) slot in
+    let P : Slot → Type 0 = λ slot. 0 < slot.name.len → IsRight names (bytes_of slot.name) slot.number in
+    let Q : Slot → Type 0 = λ slot. 0 < slot.name.len → IsRight (with_name names later) (bytes_of slot.name) slot.number in
     All-weaker P Q (λ slot right some. record { knows = still_knows names later (bytes_of slot.name) slot.number (right some).knows; plain = (right some).plain }) recent.slots.items right
 
 -- whatever came of it
@@ -31,8 +34,20 @@ right_after (Err e) old new name recent right ok err =
 
 -- the name itself is known then
 pub knows_new : (old new : List (List ℕ)) (name bytes : List ℕ) (number : ℕ) → new ≡ with_name old name → bytes ≡ name → number ≡ number_of old name → number < most_names
-    → Knows new bytes number
-knows_new old new name bytes number ok same is within =
-    let P : List (List ℕ) → Type 0 = λ names. Knows names bytes number in
-    let Q : List ℕ → Type 0 = λ word. Knows (with_name old name) word number in
-    subst P (sym ok) (subst Q (sym same) (record { known = given old name; is = again old name ∙ sym is; small = within }))
+    → list_all is_plain_byte name ≡ true → IsRight new bytes number
+knows_new old new name bytes number ok same is within plain =
+    let P : List (List ℕ) → Type 0 = λ names. IsRight names bytes number in
+    let Q : List ℕ → Type 0 = λ word. IsRight (with_name old name) word number in
+    subst P (sym ok) (subst Q (sym same) (record { knows = record { known = given old name; is = again old name ∙ sym is; small = within }; plain = plain }))
+
+-- a short name that is found is a plain one
+pub plain_found : (names : List (List ℕ)) (name : ShortName) (found : Option ℕ) → (0 < name.len) × (name.len ≤ 16) → IfSome found (λ number. IsRight names (bytes_of name) number)
+    → IfSome found (λ number. IsPlain names (bytes_of name) number)
+plain_found names name None some right = tt
+plain_found names name (Some number) some right =
+    let size = bytes_size name in
+    record { known = right.knows.known; is = sym right.knows.is; some = omega (arith, size, some.0); short = omega (arith, size, some.1); plain = right.plain }
+
+pub small_found : (names : List (List ℕ)) (name : ShortName) (found : Option ℕ) → IfSome found (λ number. IsRight names (bytes_of name) number) → IfSome found (λ number. number < most_names)
+small_found names name None right = tt
+small_found names name (Some number) right = right.knows.small

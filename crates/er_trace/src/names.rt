@@ -128,8 +128,7 @@ impl CachedNames {
         }
     }
 
-    /// The place of a name, which is a new one if the name is new.
-    #[inline(always)]
+    /// The place of a name, which is a new one if the name is new. From then on it is found without a hash.
     fn number(&mut self, name: &str) -> Result<usize, AllocError>
         ensures number { IfOk result (λ n. n ≡ number_of self.old name.now) }
         ensures ok { OnOk result (self.new ≡ with_name self.old name.now) }
@@ -139,27 +138,13 @@ impl CachedNames {
         ensures full { most_names ≤ length self.old → is_known self.old name.now ≡ false → IsErr result }
     {
         if let Some(short) = ShortName::of(name.as_bytes())
-            && let Some(slot) = self.recent.find(short)
+            && are_plain(name.as_bytes())
         {
-            return Ok(slot.number as usize);
-        }
-        self.number_anew(name)
-    }
-
-    /// The same of a name that isn't among the recent short ones, after which it is found without a hash.
-    #[inline(never)]
-    fn number_anew(&mut self, name: &str) -> Result<usize, AllocError>
-        ensures number { IfOk result (λ n. n ≡ number_of self.old name.now) }
-        ensures ok { OnOk result (self.new ≡ with_name self.old name.now) }
-        ensures err { OnErr result (self.new ≡ self.old) }
-        ensures known { IsTrue (is_known self.old name.now) → IsOk result }
-        ensures within { IfOk result (λ n. n < most_names) }
-        ensures full { most_names ≤ length self.old → is_known self.old name.now ≡ false → IsErr result }
-    {
-        if let Some(short) = ShortName::of(name.as_bytes()) {
+            if let Some(number) = self.recent.find(short) {
+                return Ok(number as usize);
+            }
             let number = self.list.number(name)?;
-            let plain = are_plain(name.as_bytes());
-            self.recent.remember(short, number as u32, plain);
+            self.recent.remember(short, number as u32);
             return Ok(number);
         }
         let ending = ending_of(name);
@@ -175,15 +160,11 @@ impl CachedNames {
     /// The number of a name, if it is among the recent short ones and of plain bytes.
     #[inline(always)]
     fn plain(&self, name: ShortName) -> Option<u32>
-        requires { (0 < name.len) × (name.len ≤ 8) }
+        requires { (0 < name.len) × (name.len ≤ 16) }
         ensures plain { IfSome result (λ number. IsPlain self.now (bytes_of name) number) }
         ensures within { IfSome result (λ number. number < most_names) }
     {
-        let slot = self.recent.find(name)?;
-        if !slot.plain {
-            return None;
-        }
-        Some(slot.number)
+        self.recent.find(name)
     }
 
     /// The numbers here of all those names, by their numbers there. Those of them that are new come behind, in their order.
@@ -203,10 +184,8 @@ impl CachedNames {
 
 // A number for the last 16 bytes of a name, in which long names of sites and locks differ most.
 fn ending_of(name: &str) -> u64 {
-    let Some(ending) = name.as_bytes().last_chunk::<16>() else {
-        return 0;
-    };
-    match ShortName::of(ending) {
+    let bytes = name.as_bytes();
+    match ShortName::of(&bytes[bytes.len().saturating_sub(16)..]) {
         Some(ending) => ending.slot() as u64,
         None => 0,
     }
@@ -294,6 +273,11 @@ impl Names {
         ensures some { IfSome result (λ thread. (thread ≡ number_of self.now.threads name.now) × (is_known self.now.threads name.now ≡ true)) }
         ensures none { IfNone result (is_known self.now.threads name.now ≡ false) }
     {
+        if let Some(short) = ShortName::of(name.as_bytes())
+            && let Some(number) = self.threads.plain(short)
+        {
+            return Some(ThreadId::new(number));
+        }
         let number = self.threads.list.find(name)?;
         Some(ThreadId::new(number as u32))
     }

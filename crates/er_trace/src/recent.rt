@@ -1,8 +1,8 @@
-//! Short names that appeared lately: they are compared as numbers, and found without a hash.
-ghost use Rattle.std.specs.Prelude.{◌≡◌, ◌<◌, ◌≤◌, ◌+◌, ◌-◌, ◌++◌, ◌∷◌, ℕ, List, drop, length, true, IfSome};
+//! Short names of plain bytes that appeared lately: they are compared as numbers, and found without a hash.
+ghost use Rattle.std.specs.Prelude.{◌≡◌, ◌<◌, ◌≤◌, ◌+◌, ◌-◌, ◌++◌, ◌∷◌, ℕ, List, drop, length, IfSome};
 ghost use Rattle.std.specs.List.{list_all};
 ghost use Rattle.er_trace.specs.Names.{number_of, is_plain_byte};
-ghost use Rattle.er_trace.specs.Inner.Recent.{unpacked, bytes_of, Knows, IsRight, AreRight};
+ghost use Rattle.er_trace.specs.Inner.Recent.{unpacked, bytes_of, IsRight, AreRight};
 
 use std::alloc::Global;
 
@@ -54,7 +54,7 @@ impl ShortName {
     #[inline(always)]
     pub(crate) fn of(bytes: &[u8]) -> Option<ShortName>
         ensures bytes { IfSome result (λ short. bytes_of short ≡ bytes.now) }
-        ensures some { IfSome result (λ short. 0 < short.len) }
+        ensures some { IfSome result (λ short. (0 < short.len) × (short.len ≤ 16)) }
     {
         let len = bytes.len();
         if len == 0 || len > 16 {
@@ -87,7 +87,7 @@ impl ShortName {
         }
         let block = packed(&bytes[..8]);
         let len = space_near(block);
-        if len == 0 || len >= 8 || bytes[len] != b' ' {
+        if len.wrapping_sub(1) >= 7 || bytes[len] != b' ' {
             return None;
         }
         Some(ShortName {
@@ -123,12 +123,11 @@ impl ShortName {
     }
 }
 
-/// A name, its number, and whether it is known to have plain bytes alone. A name of no bytes, as there is by default, stands for none.
+/// A name of plain bytes and its number. A name of no bytes, as there is by default, stands for none.
 #[derive(Clone, Copy, Default)]
-pub(crate) struct Slot {
+struct Slot {
     name: ShortName,
-    pub(crate) number: u32,
-    pub(crate) plain: bool,
+    number: u32,
 }
 
 /// Names with their numbers, each in a slot of its own. A name takes the slot of another.
@@ -150,35 +149,29 @@ impl RecentNames {
         }
     }
 
-    /// The slot of a name, if it has one.
+    /// The number of a name, if it has a slot.
     #[inline(always)]
-    pub(crate) fn find(&self, name: ShortName) -> Option<Slot>
+    pub(crate) fn find(&self, name: ShortName) -> Option<u32>
         requires { 0 < name.len }
-        ensures name { IfSome result (λ slot. slot.name ≡ name) }
-        ensures right { (names : List (List ℕ)) → AreRight names self.now → IfSome result (λ slot. IsRight names slot) }
+        ensures { (names : List (List ℕ)) → AreRight names self.now → IfSome result (λ number. IsRight names (bytes_of name) number) }
     {
         let slot = self.slots.get(name.slot())?;
         if slot.name != name {
             return None;
         }
-        Some(*slot)
+        Some(slot.number)
     }
 
     /// Puts a name into its slot. Without memory for slots it does nothing.
-    pub(crate) fn remember(&mut self, name: ShortName, number: u32, plain: bool)
-        requires { plain ≡ true → list_all is_plain_byte (bytes_of name) ≡ true }
-        ensures { (names : List (List ℕ)) → AreRight names self.old → Knows names (bytes_of name) number → AreRight names self.new }
+    pub(crate) fn remember(&mut self, name: ShortName, number: u32)
+        ensures { (names : List (List ℕ)) → AreRight names self.old → IsRight names (bytes_of name) number → AreRight names self.new }
     {
         if self.slots.is_empty() {
             self.make_slots();
         }
         let place = name.slot();
         if place < self.slots.len() {
-            self.slots[place] = Slot {
-                name,
-                number,
-                plain,
-            };
+            self.slots[place] = Slot { name, number };
         }
     }
 

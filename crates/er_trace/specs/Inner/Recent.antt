@@ -20,11 +20,11 @@ pub record Knows (names : List (List ℕ)) (name : List ℕ) (number : ℕ) : Ty
   pub is : number_of names name ≡ number
   pub small : number < most_names
 
--- the name has the number that stands beside it, and plain bytes if that is noted
-pub record IsRight (names : List (List ℕ)) (slot : Slot) : Type 0 where
-  pub knows : Knows names (bytes_of slot.name) slot.number
-  pub plain : slot.plain ≡ true → list_all is_plain_byte (bytes_of slot.name) ≡ true
+-- the same of a name of plain bytes
+pub record IsRight (names : List (List ℕ)) (name : List ℕ) (number : ℕ) : Type 0 where
+  pub knows : Knows names name number
+  pub plain : list_all is_plain_byte name ≡ true
 
--- this holds of each name in a slot
+-- this holds of each name in a slot and the number beside it
 abbrev pub AreRight : List (List ℕ) → RecentNames → Type 0
-AreRight names recent = All (λ (slot : Slot). 0 < slot.name.len → IsRight names slot) recent.slots.items
+AreRight names recent = All (λ (slot : Slot). 0 < slot.name.len → IsRight names (bytes_of slot.name) slot.number) recent.slots.items

@@ -3,4 +3,4 @@ use Rattle.er_trace.proofs.DigitLemmas.{before_space}
 use Rattle.er_trace.proofs.recent.ShortName.before_space.Goals as goal
 
 pub returns-clause-bytes : goal.returns-clause-bytes
-returns-clause-bytes c = before_space c.args.bytes.now c.packed-block.result c.space_near-len.result (search rules) (omega (arith, c.if-bytes-lt8.false)) (omega (arith, c.if-len-ge8.false)) (search rules)
+returns-clause-bytes c = before_space c.args.bytes.now c.packed-block.result c.space_near-len.result (search rules) (omega (arith, c.if-bytes-lt8.false)) (omega (arith, c.if-len-ge7.false, c.space_near-len.type_inv)) (search rules)

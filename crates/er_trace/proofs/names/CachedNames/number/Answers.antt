@@ -1,17 +1,20 @@
-use Rattle.std.proofs.Common.{◌≡◌, List, ℕ, sym, subst, ◌∙◌}
+use Rattle.std.proofs.Common.{◌≡◌, List, ℕ, true, sym, subst, ◌∙◌, rules}
+use Rattle.std.specs.List.{list_all}
+use Rattle.er_trace.specs.Names.{is_plain_byte}
 use Rattle.er_trace.specs.Inner.Recent.{bytes_of, AreRight}
 use Rattle.er_trace.proofs.RecentLemmas.{still_right, knows_new, right_after}
-use Rattle.er_trace.proofs.names.CachedNames.number_anew.Goals as goal
-
-pub invariant_of-self-in-Some : goal.invariant_of-self-in-Some
-invariant_of-self-in-Some c =
-    let done = c.in_ok-number.ensures in
-    let bytes : bytes_of c.in-Some.short ≡ c.args.name.now = c.in-Some.ensures.bytes ∙ c.as_bytes.ensures.value in
-    let P : List (List ℕ) → Type 0 = λ names. AreRight names c.self.inside.recent in
-    c.remember.ensures c.number.new.self
-    (subst P (sym done.ok) (still_right c.self.inside.list c.args.name.now c.self.inside.recent c.self.invariant))
-    (knows_new c.self.inside.list c.number.new.self c.args.name.now (bytes_of c.in-Some.short) c.in_ok-number.number done.ok bytes done.number done.within)
+use Rattle.er_trace.proofs.names.CachedNames.number.Goals as goal
 
 pub invariant_of-self-2 : goal.invariant_of-self-2
 invariant_of-self-2 c =
+    let done = c.in_ok-number.ensures in
+    let bytes : bytes_of c.in-Some.short ≡ c.args.name.now = c.in-Some.ensures.bytes ∙ c.as_bytes.ensures.value in
+    let plain : list_all is_plain_byte c.args.name.now ≡ true = search rules in
+    let P : List (List ℕ) → Type 0 = λ names. AreRight names c.self.inside.recent in
+    c.remember.ensures c.number.new.self
+    (subst P (sym done.ok) (still_right c.self.inside.list c.args.name.now c.self.inside.recent c.self.invariant))
+    (knows_new c.self.inside.list c.number.new.self c.args.name.now (bytes_of c.in-Some.short) c.in_ok-number.number done.ok bytes done.number done.within plain)
+
+pub invariant_of-self-3 : goal.invariant_of-self-3
+invariant_of-self-3 c =
     right_after c.number-2.result c.self.inside.list c.number-2.new.self c.args.name.now c.self.inside.recent c.self.invariant c.number-2.ensures.ok c.number-2.ensures.err
