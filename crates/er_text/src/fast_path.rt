@@ -29,17 +29,6 @@ fn after_space(bytes: &[u8]) -> Option<&[u8]>
     }
 }
 
-/// What follows `0x` in front.
-#[inline(always)]
-fn after_hex(bytes: &[u8]) -> Option<&[u8]>
-    ensures { IfSome result (λ rest. bytes.now ≡ codes "0x" ++ rest.now) }
-{
-    match bytes {
-        [b'0', b'x', rest @ ..] => Some(rest),
-        _ => None,
-    }
-}
-
 /// The kind of the access whose verb and a space stand in front, and what follows them.
 #[inline(always)]
 fn leading_kind(bytes: &[u8]) -> Option<(Kind, &[u8])>
@@ -154,7 +143,9 @@ fn leading_digits(bytes: &[u8]) -> (u64, usize)
 fn leading_word(bytes: &[u8]) -> Option<(Word, &[u8])>
     ensures { IfSome result (λ parts. IsLeadingWord bytes.now parts.0 parts.1.now) }
 {
-    let digits = after_hex(bytes)?;
+    let [b'0', b'x', digits @ ..] = bytes else {
+        return None;
+    };
     let (address, len) = leading_digits(digits);
     if len == 0 {
         return None;

@@ -185,10 +185,11 @@ impl CachedNames {
 // A number for the last 16 bytes of a name, in which long names of sites and locks differ most.
 fn ending_of(name: &str) -> u64 {
     let bytes = name.as_bytes();
-    match ShortName::of(&bytes[bytes.len().saturating_sub(16)..]) {
-        Some(ending) => ending.slot() as u64,
-        None => 0,
-    }
+    let short = match bytes.last_chunk::<16>() {
+        Some(ending) => ShortName::of(ending),
+        None => ShortName::of(bytes),
+    };
+    short.map_or(0, |short| short.slot() as u64)
 }
 
 /// The names of threads, locks and sites, each sort numbered by first appearance. Threads and locks count from 0, sites from 1.
