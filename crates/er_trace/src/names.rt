@@ -229,7 +229,6 @@ impl Names {
 
     /// The thread of this name, which is a new one if the name is new. `AllocError`: memory was refused, or the name is new and there are
     /// 2^30 others. The names are then as they were.
-    #[inline(always)]
     pub fn thread(&mut self, name: &str) -> Result<ThreadId, AllocError>
         ensures number { IfOk result (λ thread. thread ≡ number_of self.old.threads name.now) }
         ensures ok { OnOk result (self.new ≡ record self.old { threads = with_name self.old.threads name.now }) }
@@ -243,7 +242,6 @@ impl Names {
 
     /// The lock of this name, which is a new one if the name is new. `AllocError`: memory was refused, or the name is new and there are
     /// 2^30 others. The names are then as they were.
-    #[inline(always)]
     pub fn lock(&mut self, name: &str) -> Result<LockId, AllocError>
         ensures number { IfOk result (λ lock. lock ≡ number_of self.old.locks name.now) }
         ensures ok { OnOk result (self.new ≡ record self.old { locks = with_name self.old.locks name.now }) }
@@ -257,7 +255,6 @@ impl Names {
 
     /// The site of this name, which is a new one if the name is new. `AllocError`: memory was refused, or the name is new and there are
     /// 2^30 others. The names are then as they were.
-    #[inline(always)]
     pub fn site(&mut self, name: &str) -> Result<Site, AllocError>
         ensures number { IfOk result (λ site. site ≡ number_of self.old.sites name.now + 1) }
         ensures ok { OnOk result (self.new ≡ record self.old { sites = with_name self.old.sites name.now }) }

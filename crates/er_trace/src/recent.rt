@@ -60,14 +60,7 @@ impl ShortName {
         if len == 0 || len > 16 {
             return None;
         }
-        if len <= 8 {
-            return Some(ShortName {
-                len,
-                first: packed(bytes),
-                rest: 0,
-            });
-        }
-        let (first, rest) = bytes.split_at(8);
+        let (first, rest) = bytes.split_at(len.min(8));
         Some(ShortName {
             len,
             first: packed(first),

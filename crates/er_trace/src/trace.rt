@@ -208,7 +208,6 @@ impl Trace {
 
     /// The thread of this name, which is a new one if the name is new. `AllocError`: memory was refused, or the name is new and there are
     /// 2^30 others. The trace is then as it was.
-    #[inline(always)]
     pub fn thread(&mut self, name: &str) -> Result<ThreadId, AllocError>
         ensures number { IfOk result (λ thread. thread ≡ number_of self.old.names.threads name.now) }
         ensures ok { OnOk result (self.new ≡ with_thread_name self.old name.now) }
@@ -221,7 +220,6 @@ impl Trace {
 
     /// The lock of this name, which is a new one if the name is new. `AllocError`: memory was refused, or the name is new and there are
     /// 2^30 others. The trace is then as it was.
-    #[inline(always)]
     pub fn lock(&mut self, name: &str) -> Result<LockId, AllocError>
         ensures number { IfOk result (λ lock. lock ≡ number_of self.old.names.locks name.now) }
         ensures ok { OnOk result (self.new ≡ with_lock_name self.old name.now) }
@@ -234,7 +232,6 @@ impl Trace {
 
     /// The site of this name, which is a new one if the name is new. `AllocError`: memory was refused, or the name is new and there are
     /// 2^30 others. The trace is then as it was.
-    #[inline(always)]
     pub fn site(&mut self, name: &str) -> Result<Site, AllocError>
         ensures number { IfOk result (λ site. site ≡ number_of self.old.names.sites name.now + 1) }
         ensures ok { OnOk result (self.new ≡ with_site_name self.old name.now) }
