@@ -16,7 +16,7 @@ use Rattle.er_trace.specs.Names.{is_known, number_of, with_name, IsPlain}
 use Rattle.er_text.specs.Events.{Operation, Accesses, EventLine, site_number, with_site_of, with_operation, with_line}
 use Rattle.er_text.specs.Inner.Idle.{last_actor, without_idle}
 use Rattle.er_text.specs.Inner.Traces.{at_line, plain_at}
-use Rattle.er_text.specs.Inner.FastPath.{EndsIn, IsLeadingThread, IsLeadingWord, IsFastAccess, IsFastOperation, IsFastLine, IsSiteBehind, Nothing, Named, NumbersSite, AddsOperation, AddsLine}
+use Rattle.er_text.specs.Inner.FastPath.{EndsIn, IsLeadingThread, IsLeadingWord, IsFastAccess, IsFastOperation, IsFastLine, IsSiteBehind, Nothing, Named, AddsOperation, AddsLine}
 use Rattle.er_text.proofs.AddingLemmas.{number_below}
 use Rattle.er_text.proofs.SiteLemmas.{name_word}
 use Rattle.er_text.proofs.FastPathLaws.{addressed, access_alone, access_site, line_says, usual_reads}

@@ -1,5 +1,5 @@
 -- Bytes as the digits of a number to the base 256, the first of them the lowest.
-use Rattle.std.proofs.Common.{◌≡◌, ℕ, zero, suc, ◌+◌, ◌-◌, ◌*◌, ◌/◌, ◌%◌, ◌<◌, ◌≤◌, ◌^◌, List, [], ◌∷◌, ◌++◌, length, take, drop, get_or, min, refl, sym, ap, ◌∙◌, append-nil, length-append, arith}
+use Rattle.std.proofs.Common.{◌≡◌, ℕ, zero, suc, ◌+◌, ◌-◌, ◌*◌, ◌/◌, ◌%◌, ◌<◌, ◌≤◌, ◌^◌, List, [], ◌∷◌, ◌++◌, length, take, drop, get_or, min, refl, sym, ap, ◌∙◌, append-nil, append_assoc, length-append, arith}
 use Rattle.std.proofs.lemmas.List.{take-take, drop-drop, drop_more, take-append-drop}
 use Rattle.std.proofs.lemmas.Nat.{mod-pow-add, pow-add}
 use Rattle.std.proofs.Math.Nat.{div-div-eq-div-mul}
@@ -69,22 +69,39 @@ bytes_size name =
     let both = length-append (unpacked (min name.len 8) name.first) (unpacked (name.len - 8) name.rest) in
     omega (arith, both, unpacked_size (min name.len 8) name.first, unpacked_size (name.len - 8) name.rest)
 
-bytes_small : (len first : ℕ) → len ≤ 8 → bytes_of (record { len = len; first = first; rest = 0 }) ≡ unpacked len first
-bytes_small len first few =
-    let one : min len 8 ≡ len = omega (arith, few) in
-    let none : len - 8 ≡ 0 = omega (arith, few) in
-    rw (one, none) (append-nil (unpacked len first))
+bytes_small : (name : ShortName) → name.len ≤ 8 → bytes_of name ≡ unpacked name.len name.first
+bytes_small name few =
+    let one : min name.len 8 ≡ name.len = omega (arith, few) in
+    let none : name.len - 8 ≡ 0 = omega (arith, few) in
+    rw (one, none) (append-nil (unpacked name.len name.first))
 
 -- the bytes in front of a space are the lowest digits of the first eight
-pub before_space : (bytes : List ℕ) (block len : ℕ) → unpacked 8 block ≡ take 8 bytes → 8 ≤ length bytes → len < 8 → get_or bytes len 0 ≡ 32
+pub near_space : (bytes : List ℕ) (block len : ℕ) → unpacked 8 block ≡ take 8 bytes → 8 ≤ length bytes → len < 8 → get_or bytes len 0 ≡ 32
     → bytes ≡ bytes_of (record { len = len; first = block % (1 * 2 ^ (8 * len) % 18446744073709551616); rest = 0 }) ++ 32 ∷ drop (len + 1) bytes
-before_space bytes block len front long few space =
+near_space bytes block len front long few space =
     let most : 2 ^ (8 * len) ≤ 2 ^ 56 = pow_mono {i = 8 * len} {j = 56} (omega (arith, few)) in
     let mask : 1 * 2 ^ (8 * len) % 18446744073709551616 ≡ 2 ^ (8 * len) = omega (arith, most) in
     let digits : unpacked len (block % 2 ^ (8 * len)) ≡ take len bytes =
     unpacked_low len block ∙ sym (unpacked_take len 8 block (omega (arith, few))) ∙ ap (take len) front ∙ take-take len 8 bytes (omega (arith, few)) in
     let behind : drop len bytes ≡ 32 ∷ drop (len + 1) bytes = drop_more bytes len 0 (omega (arith, few, long)) ∙ ap (λ (b : ℕ). b ∷ drop (len + 1) bytes) space in
-    rw mask (rw (bytes_small len (block % 2 ^ (8 * len)) (omega (arith, few)), digits, ← behind) (sym (take-append-drop len bytes)))
+    rw mask (rw (bytes_small (record { len = len; first = block % 2 ^ (8 * len); rest = 0 }) (omega (arith, few)), digits, ← behind) (sym (take-append-drop len bytes)))
+
+-- eight bytes, and those behind them in front of a space
+pub far_space : (bytes : List ℕ) (first : ℕ) (last : ShortName) → unpacked 8 first ≡ take 8 bytes → last.len ≤ 8 → drop 8 bytes ≡ bytes_of last ++ 32 ∷ drop (last.len + 1) (drop 8 bytes)
+    → bytes ≡ bytes_of (record { len = 8 + last.len; first = first; rest = last.first }) ++ 32 ∷ drop (8 + last.len + 1) bytes
+far_space bytes first last front few behind =
+    let k = last.len in
+    let one : min (8 + k) 8 ≡ 8 = omega arith in
+    let two : 8 + k - 8 ≡ k = omega arith in
+    let shape : 8 + k + 1 ≡ 8 + (k + 1) = omega arith in
+    let left = 32 ∷ drop (k + 1) (drop 8 bytes) in
+    let whole : bytes ≡ take 8 bytes ++ (unpacked k last.first ++ left) =
+    sym (take-append-drop 8 bytes) ∙ ap (λ (b : List ℕ). take 8 bytes ++ b) (behind ∙ ap (λ (w : List ℕ). w ++ left) (bytes_small last few)) in
+    let told : bytes ≡ (unpacked 8 first ++ unpacked k last.first) ++ 32 ∷ drop (8 + (k + 1)) bytes =
+    whole ∙ sym (append_assoc (take 8 bytes) (unpacked k last.first) left)
+    ∙ ap (λ (w : List ℕ). (w ++ unpacked k last.first) ++ left) (sym front)
+    ∙ ap (λ (d : List ℕ). (unpacked 8 first ++ unpacked k last.first) ++ 32 ∷ d) (drop-drop (k + 1) 8 bytes) in
+    rw (one, two, shape) told
 
 -- and the last bytes the highest digits of the last eight
 pub at_end : (bytes : List ℕ) (block len : ℕ) → unpacked 8 block ≡ drop (length bytes - 8) bytes → 8 ≤ length bytes → len ≤ 8
@@ -92,4 +109,4 @@ pub at_end : (bytes : List ℕ) (block len : ℕ) → unpacked 8 block ≡ drop 
 at_end bytes block len back long few =
     let shape : 64 - 8 * len ≡ 8 * (8 - len) = omega (arith, few) in
     let place : (length bytes - 8) + (8 - len) ≡ length bytes - len = omega (arith, few, long) in
-    rw (bytes_small len (block / 2 ^ (64 - 8 * len)) few, shape, ← unpacked_drop (8 - len) len 8 block (omega (arith, few)), back, drop-drop (8 - len) (length bytes - 8) bytes, place) refl
+    rw (bytes_small (record { len = len; first = block / 2 ^ (64 - 8 * len); rest = 0 }) few, shape, ← unpacked_drop (8 - len) len 8 block (omega (arith, few)), back, drop-drop (8 - len) (length bytes - 8) bytes, place) refl

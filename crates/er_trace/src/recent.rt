@@ -68,25 +68,43 @@ impl ShortName {
         })
     }
 
-    /// The name of at most seven bytes in front of a space.
+    /// The bytes in front of a space, if they are at most seven.
     #[inline(always)]
-    pub(crate) fn before_space(bytes: &[u8]) -> Option<ShortName>
+    fn near_space(bytes: &[u8]) -> Option<ShortName>
         ensures bytes { IfSome result (λ short. bytes.now ≡ bytes_of short ++ 32 ∷ drop (short.len + 1) bytes.now) }
-        ensures some { IfSome result (λ short. (0 < short.len) × (short.len ≤ 8)) }
-        ensures within { IfSome result (λ short. short.len < length bytes.now) }
+        ensures within { IfSome result (λ short. (short.len ≤ 8) × (short.len < length bytes.now)) }
     {
         if bytes.len() < 8 {
             return None;
         }
         let block = packed(&bytes[..8]);
         let len = space_near(block);
-        if len.wrapping_sub(1) >= 7 || bytes[len] != b' ' {
+        if len >= 8 || bytes[len] != b' ' {
             return None;
         }
         Some(ShortName {
             len,
             first: block % (1 << (8 * len)),
             rest: 0,
+        })
+    }
+
+    /// The name of at most 15 bytes in front of a space, most often of at most seven.
+    #[inline(always)]
+    pub(crate) fn before_space(bytes: &[u8]) -> Option<ShortName>
+        ensures bytes { IfSome result (λ short. bytes.now ≡ bytes_of short ++ 32 ∷ drop (short.len + 1) bytes.now) }
+        ensures some { IfSome result (λ short. (0 < short.len) × (short.len ≤ 16)) }
+        ensures within { IfSome result (λ short. short.len < length bytes.now) }
+    {
+        if let Some(short) = ShortName::near_space(bytes) {
+            return if short.len > 0 { Some(short) } else { None };
+        }
+        let (front, back) = bytes.split_at_checked(8)?;
+        let last = ShortName::near_space(back)?;
+        Some(ShortName {
+            len: 8 + last.len,
+            first: packed(front),
+            rest: last.first,
         })
     }
 

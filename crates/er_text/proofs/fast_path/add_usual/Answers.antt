@@ -1,4 +1,4 @@
-use Rattle.std.proofs.Common.{List, subst}
+use Rattle.std.proofs.Common.{subst}
 use Rattle.er_trace.specs.Names.{NameTable}
 use Rattle.er_text.specs.Inner.FastPath.{IsLeadingThread}
 use Rattle.er_text.proofs.UsualLemmas.{adds_line, ends_line, thread_below}

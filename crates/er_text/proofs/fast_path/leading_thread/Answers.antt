@@ -1,5 +1,5 @@
 -- The name of a known thread stands before the first space.
-use Rattle.std.proofs.Common.{◌≡◌, length, arith, rules}
+use Rattle.std.proofs.Common.{◌≡◌, length, rules}
 use Rattle.er_text.proofs.FastPathLaws.{front_found}
 use Rattle.er_text.proofs.fast_path.leading_thread.Goals as goal
 

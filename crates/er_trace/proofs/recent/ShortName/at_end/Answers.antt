@@ -1,4 +1,4 @@
-use Rattle.std.proofs.Common.{◌≡◌, ℕ, List, ◌-◌, length, take, drop, length-drop, subst, arith, rules}
+use Rattle.std.proofs.Common.{◌≡◌, ℕ, List, ◌-◌, length, take, drop, length-drop, subst, arith}
 use Rattle.std.proofs.Math.Seq.{take-length}
 use Rattle.er_trace.specs.Inner.Recent.{unpacked}
 use Rattle.er_trace.proofs.DigitLemmas.{at_end}
