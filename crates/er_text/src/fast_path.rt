@@ -2,7 +2,8 @@
 //! hexadecimal digits and perhaps a site, or a name, `lock`, `unlock`, `rlock` or `runlock`, and a lock, with one space between any
 //! two of them. What a site may be depends on the version of the text.
 //!
-//! The steps are those of `parsing` and `adding`, in less than half the time. A line of any other form is left to `parsing`.
+//! The steps are those of `parsing` and `adding`, in less than half the time. A line of any other form, or of a new thread, is left to
+//! `parsing`. A name that is found among the recent ones of the trace needs no look at its bytes.
 ghost use Rattle.std.specs.Prelude.{◌≡◌, ◌+◌, ◌<◌, ◌≤◌, ◌∷◌, ◌++◌, length, codes, ℕ, List, IfSome};
 ghost use Rattle.er_text.specs.Inner.FastPath.{EndsIn, IsLeadingThread, HexSoFar, AreLeadingDigits, IsLeadingWord, IsFastAccess, IsFastLockEvent, IsFastOperation, IsFastLine, NumbersLock, NumbersSite, AddsOperation, AddsLine, lock_word};
 ghost use Rattle.er_text.specs.Trace.{kind_word};
