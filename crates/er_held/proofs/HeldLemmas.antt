@@ -1,5 +1,6 @@
 -- How a thread's two sets of locks keep their shape as locks come and go and as the level changes.
 use Rattle.std.proofs.Common.{◌≡◌, ℕ, zero, suc, ◌+◌, ◌-◌, ◌<◌, ◌≤◌, Bool, true, false, not, ◌&&◌, ◌||◌, cond, ◌==◌, nat_lt, List, [], ◌∷◌, ◌++◌, filter, length, get_or, take, drop, refl, ap, sym, ◌∙◌, arith, add-one}
+use Rattle.std.proofs.lemmas.Bool.Decides.{nat_tests}
 use Rattle.std.proofs.lemmas.Bool.{eqb-true, eq-eqb, or_left, or_right}
 use Rattle.std.proofs.lemmas.List.Folds.{list_any-append}
 use Rattle.std.specs.List.Sorted.{IsStrictlyIncreasing}
@@ -57,6 +58,18 @@ ends-remove : (level l : ℕ) (locks : List ℕ) → is_level_lock l ≡ false �
 unfolding without_lock
 ends-remove level l locks plain it = record { rises = rising-filter (λ x. not (l == x)) locks it.rises; ends = level-remove l level locks plain it.ends }
 
+not_less : (m n : ℕ) → nat_lt m n ≡ false → n ≤ m
+not_less m n e = grind (arith, nat_tests)
+
+-- a filter that keeps as many as there are keeps all
+filter_whole : (p : ℕ → Bool) (xs : List ℕ) → length xs ≤ length (filter p xs) → filter p xs ≡ xs
+filter_whole p [] long = refl
+filter_whole p (x ∷ xs) long = by (p x) (filter_whole p xs) long
+  where
+    by : (b : Bool) → (length xs ≤ length (filter p xs) → filter p xs ≡ xs) → suc (length xs) ≤ length (cond b (x ∷ filter p xs) (filter p xs)) → cond b (x ∷ filter p xs) (filter p xs) ≡ x ∷ xs
+    by true rest more = ap (λ ys. x ∷ ys) (rest (omega arith))
+    by false rest more = let few = length_filter p xs in absurd (omega (arith, few, more))
+
 -- how many locks are acquired
 module _ (any write : List ℕ) (level : ℕ) (it : IsHolding any write level) where
   pub holding-room : level ≤ length any
@@ -71,12 +84,23 @@ module _ (any write : List ℕ) (level : ℕ) (it : IsHolding any write level) w
   pub write_room : level ≤ length write
   write_room = level-room write level it.write.ends
 
-  -- the write-held locks are no more than the held ones
+  -- the write-held locks are some of the held ones, and all if they are as many
+  part : write ≡ filter (has write) any
+  part = same-rising write (filter (has write) any) it.write.rises (rising-filter (has write) any it.any.rises)
+      (λ l. sym (has-filtered (has write) any l ∙ and_known (has write l) (has any l) (it.within l)))
+
   pub fewer : length write ≤ length any
-  fewer =
-      let part : write ≡ filter (has write) any = same-rising write (filter (has write) any) it.write.rises (rising-filter (has write) any it.any.rises)
-      (λ l. sym (has-filtered (has write) any l ∙ and_known (has write l) (has any l) (it.within l))) in
-      rw part (length_filter (has write) any)
+  fewer = rw part (length_filter (has write) any)
+
+  pub apart : cond (nat_lt (length write) (length any)) write any ≡ write
+  apart = by (nat_lt (length write) (length any)) refl
+    where
+      by : (b : Bool) → nat_lt (length write) (length any) ≡ b → cond b write any ≡ write
+      by true e = refl
+      by false e =
+          let many : length any ≤ length write = not_less (length write) (length any) e in
+          let whole : filter (has write) any ≡ any = filter_whole (has write) any (rw part at many) in
+          sym (part ∙ whole)
 
 -- a lock more
 module _ (any write : List ℕ) (level l : ℕ) (it : IsHolding any write level) (plain : is_level_lock l ≡ false) where

@@ -12,20 +12,23 @@ use std::marker::Model;
 #[derive(Drop)]
 pub struct Held {
     any_mode: Lockset,
+    // The locks that are held in write mode, if these are kept apart. Otherwise all are held in write mode, as in most programs.
     write_mode: Lockset,
+    is_apart: bool,
     level: Level,
     depth: u8,
 }
 
 impl Model for Held {
+    ghost use Rattle.std.specs.Prelude.{cond};
     ghost use Rattle.er_model.specs.Holdings.{Holdings};
     ghost use Rattle.er_held.specs.Inner.Holding.{IsHolding};
 
     ghost Value = { Holdings };
 
-    ghost view = { λ h. record { held = h.any_mode; write_held = h.write_mode; level = h.level; depth = h.depth } };
+    ghost view = { λ h. record { held = h.any_mode; write_held = cond h.is_apart h.write_mode h.any_mode; level = h.level; depth = h.depth } };
 
-    ghost invariant = { λ h. IsHolding h.any_mode h.write_mode h.level };
+    ghost invariant = { λ h. IsHolding h.any_mode (cond h.is_apart h.write_mode h.any_mode) h.level };
 }
 
 impl Held {
@@ -42,6 +45,7 @@ impl Held {
         Held {
             any_mode: Lockset::new(alloc),
             write_mode: Lockset::new(alloc),
+            is_apart: false,
             level: Level::default(),
             depth: 0,
         }
@@ -60,7 +64,11 @@ impl Held {
     pub fn write_held(&self) -> &Lockset
         ensures { result.now ≡ self.now.write_held }
     {
-        &self.write_mode
+        if self.is_apart {
+            &self.write_mode
+        } else {
+            &self.any_mode
+        }
     }
 
     /// The interrupt level.
@@ -99,7 +107,10 @@ impl Held {
         match self.refusal_of_acquire(lock, mode) {
             Some(why) => Err(why),
             None => {
-                self.add(lock, mode)?;
+                match mode {
+                    Mode::Read => self.add_read(lock)?,
+                    Mode::Write => self.add_write(lock)?,
+                }
                 Ok(())
             }
         }
@@ -132,24 +143,39 @@ impl Held {
         self.any_mode.len() - usize::from(self.level.number())
     }
 
-    fn add(&mut self, lock: LockId, mode: Mode) -> Result<(), AllocError>
+    fn add_read(&mut self, lock: LockId) -> Result<(), AllocError>
+        requires plain { IsFalse (is_level_lock lock) }
+        requires room { length (acquired_among self.old.held) < 64 }
+        ensures ok { OnOk result (self.new ≡ changed_by self.old (Event.Acquire lock Mode.Read)) }
+        ensures err { OnErr result (self.new ≡ self.old) }
+        ensures inline { length self.old.held < 8 → IsOk result }
+    {
+        if !self.is_apart {
+            self.write_mode = self.any_mode.copy()?;
+            self.is_apart = true;
+        }
+        self.any_mode.insert(lock)?;
+        Ok(())
+    }
+
+    fn add_write(&mut self, lock: LockId) -> Result<(), AllocError>
         requires plain { IsFalse (is_level_lock lock) }
         requires free { IsFalse (has self.old.held lock) }
         requires room { length (acquired_among self.old.held) < 64 }
-        ensures ok { OnOk result (self.new ≡ changed_by self.old (Event.Acquire lock mode)) }
+        ensures ok { OnOk result (self.new ≡ changed_by self.old (Event.Acquire lock Mode.Write)) }
         ensures err { OnErr result (self.new ≡ self.old) }
         ensures inline { length self.old.held < 8 → IsOk result }
     {
         self.any_mode.insert(lock)?;
-        match mode {
-            Mode::Read => Ok(()),
-            Mode::Write => match self.write_mode.insert(lock) {
-                Ok(()) => Ok(()),
-                Err(refused) => {
-                    self.any_mode.remove(lock);
-                    Err(refused)
-                }
-            },
+        if !self.is_apart {
+            return Ok(());
+        }
+        match self.write_mode.insert(lock) {
+            Ok(()) => Ok(()),
+            Err(refused) => {
+                self.any_mode.remove(lock);
+                Err(refused)
+            }
         }
     }
 
@@ -187,7 +213,7 @@ impl Held {
     fn mode_of(&self, lock: LockId) -> Option<Mode>
         ensures { result ≡ mode_of self.now lock }
     {
-        if self.write_mode.contains(lock) {
+        if self.write_held().contains(lock) {
             Some(Mode::Write)
         } else if self.any_mode.contains(lock) {
             Some(Mode::Read)
@@ -201,7 +227,10 @@ impl Held {
         ensures { self.new ≡ changed_by self.old (Event.Release lock Mode.Read) }
     {
         self.any_mode.remove(lock);
-        self.write_mode.remove(lock);
+        if self.is_apart {
+            self.write_mode.remove(lock);
+            self.is_apart = self.write_mode.len() < self.any_mode.len();
+        }
     }
 
     /// Opens an ignore bracket. It takes no memory.
@@ -264,7 +293,7 @@ impl Held {
     }
 
     /// Makes the change of one event, or refuses it. An access, a reuse, a show and an order event change nothing and are never refused.
-    #[inline]
+    #[inline(always)]
     pub fn change(&mut self, event: Event) -> Result<(), Refusal>
         ensures refused { (why : Refusal) → refused_by self.old event ≡ Some why → result ≡ Err why }
         ensures accepted { OnOk result (refused_by self.old event ≡ None) }
@@ -304,7 +333,9 @@ impl Held {
     {
         let fewer = usize::from(self.level.number() - level.number());
         self.any_mode.truncate(self.any_mode.len() - fewer);
-        self.write_mode.truncate(self.write_mode.len() - fewer);
+        if self.is_apart {
+            self.write_mode.truncate(self.write_mode.len() - fewer);
+        }
         self.level = level;
     }
 
@@ -318,9 +349,11 @@ impl Held {
         let more = &locks[usize::from(self.level.number())..usize::from(level.number())];
         let before = self.any_mode.len();
         self.any_mode.extend(more)?;
-        if let Err(refused) = self.write_mode.extend(more) {
-            self.any_mode.truncate(before);
-            return Err(refused);
+        if self.is_apart {
+            if let Err(refused) = self.write_mode.extend(more) {
+                self.any_mode.truncate(before);
+                return Err(refused);
+            }
         }
         self.level = level;
         Ok(())

@@ -248,8 +248,8 @@ impl<'t> Machine<'t> {
             return Ok((Brief::Ignored, false));
         };
         // Without this a full table would refuse an access of a word that has no candidates left. No clause sees that, but tests/probe/steps.txt.
-        if self.words.is_settled(thread, word, kind, locks) {
-            return Ok((Brief::Quiet, false));
+        if let Some(changed) = self.words.access_quickly(thread, word, kind, locks) {
+            return Ok((Brief::Quiet, changed));
         }
         let noted = self.words.access_noting(rt, thread, word, kind, locks)?;
         let brief = if noted.is_race {
@@ -277,17 +277,11 @@ impl<'t> Machine<'t> {
         ensures { self.new ≡ self.old }
     {
         let end = at.saturating_add(Machine::AHEAD).min(steps.len());
-        let mut words = [Word::new(0); Machine::AHEAD];
-        let mut count = 0;
-        for place in at..end {
-            if let Event::Access(_, word, _) = steps[place].event
-                && count < Machine::AHEAD
-            {
-                words[count] = word;
-                count += 1;
+        for step in &steps[at.min(end)..end] {
+            if let Event::Access(_, word, _) = step.event {
+                self.words.look_ahead(word);
             }
         }
-        self.words.look_ahead(&words[..count]);
     }
 
     /// What a thread holds after the steps so far.

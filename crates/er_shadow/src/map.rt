@@ -1,5 +1,5 @@
 //! Every word's state.
-ghost use Rattle.std.specs.Prelude.{◌≡◌, ◌<◌, ◌%◌, ℕ, nat_eq, slice_get, Some, None, IsTrue, IsOk, IfOk, IfSome, IfNone, false, OnOk, OnErr, IsErrOf};
+ghost use Rattle.std.specs.Prelude.{◌≡◌, ◌<◌, ◌%◌, ℕ, nat_eq, slice_get, Some, None, IsTrue, IsOk, IsSome, IfOk, IfSome, IfNone, false, OnOk, OnErr, IsErrOf};
 ghost use Rattle.indexmap.specs.IndexMap.{keys, index_map_len, IsUnique};
 ghost use Rattle.er_event.specs.declared.steps.WordState.TheVariants.{Virgin, Exclusive};
 ghost use Rattle.er_journal.specs.Journals.{stamped};
@@ -19,9 +19,6 @@ use indexmap::IndexMap;
 use std::alloc::{AllocError, Global};
 use std::marker::Model;
 use std::sync::Wait;
-
-/// How many words `look_ahead` reads.
-const MOST_AHEAD: usize = 16;
 
 /// What a counted access did.
 #[derive(Clone, Copy)]
@@ -148,22 +145,30 @@ impl<'t> ShadowMap<'t> {
         }
     }
 
-    /// Whether an access leaves its word as it is, and reports nothing. If the answer is no, it may do so all the same. It is quicker
-    /// than the access, and most accesses of a program are such.
+    /// Takes an access if that is quick, and returns whether it changed its word: the first access of a word whose page is there, or one that
+    /// leaves its word as it is. None of these is a race, and most accesses of a program are such. `None`: it isn't taken, and nothing has changed.
     #[inline(always)]
-    pub fn is_settled(&self, thread: ThreadId, word: Word, kind: Kind, locks: &Lockset) -> bool
-        ensures same { IsTrue result → (w : ℕ) → moved (states self.now w) w (Counted thread kind word locks.now) ≡ states self.now w }
-        ensures quiet { IsTrue result → reports (states self.now word) (advanced (states self.now word) thread kind locks.now) ≡ false }
+    pub fn access_quickly(
+        &mut self,
+        thread: ThreadId,
+        word: Word,
+        kind: Kind,
+        locks: &Lockset,
+    ) -> Option<bool>
+        ensures taken { IsSome result → (w : ℕ) → states self.new w ≡ moved (states self.old w) w (Counted thread kind word locks.now) }
+        ensures quiet { IsSome result → reports (states self.old word) (advanced (states self.old word) thread kind locks.now) ≡ false }
+        ensures unchanged { IfSome result (λ changed. changed ≡ false → (w : ℕ) → states self.new w ≡ states self.old w) }
+        ensures none { IfNone result (self.new ≡ self.old) }
     {
         let number = word.page();
         let place = place_of(word);
-        match index_near(&self.pages, self.places.hint(number), number) {
-            Some(index) => {
-                let shadow = self.pages[index].get(place);
-                is_settled(&self.known, shadow, thread, kind, locks)
-            }
-            None => false,
+        let index = index_near(&self.pages, self.places.hint(number), number)?;
+        let shadow = self.pages[index].get(place);
+        if shadow == Shadow::virgin() {
+            self.pages[index].set(place, Shadow::exclusive(thread));
+            return Some(true);
         }
+        is_settled(&self.known, shadow, thread, kind, locks).then_some(false)
     }
 
     /// The access of a stamp, as `access_noting` takes it. Returns whether it is reported as a race.
@@ -183,32 +188,19 @@ impl<'t> ShadowMap<'t> {
         Ok(reply_to(noted.is_race))
     }
 
-    /// Reads what stands for some words that will be accessed soon, 16 at most. Nothing waits for what is read, so words of several pages come
-    /// from memory side by side, and are at hand at their accesses. All pages are found first: so no look for a page keeps a word waiting.
-    #[inline]
-    pub fn look_ahead(&mut self, words: &[Word])
-        ensures { self.new ≡ self.old }
-    {
-        let count = words.len().min(MOST_AHEAD);
-        let mut places = [0; MOST_AHEAD];
-        for i in 0..count {
-            places[i] = self.find_page(words[i]);
-        }
-        self.ahead ^= bits_of(&self.pages, &places, words);
-    }
-
-    // Where the page of a word stands, or some other place if it has none.
+    /// Reads what stands for a word that will be accessed soon. Nothing waits for what is read, so if several words are looked at, they come
+    /// from memory side by side, and are at hand at their accesses.
     #[inline(always)]
-    fn find_page(&mut self, word: Word) -> usize
+    pub fn look_ahead(&mut self, word: Word)
         ensures { self.new ≡ self.old }
     {
         let number = word.page();
-        match index_of(&self.pages, self.places.hint(number), number) {
-            Some(index) => {
+        let hint = self.places.hint(number);
+        if let Some(index) = index_of(&self.pages, hint, number) {
+            if index != hint {
                 self.places.note(number, index);
-                index
             }
-            None => 0,
+            self.ahead ^= self.pages[index].get(place_of(word)).bits();
         }
     }
 
@@ -243,22 +235,6 @@ impl<'t> ShadowMap<'t> {
             None => Shadow::virgin(),
         }
     }
-}
-
-// What stands for a word on each of these pages, all in one.
-#[inline(always)]
-fn bits_of(
-    pages: &IndexMap<u64, Page, NumberHasher>,
-    places: &[usize; MOST_AHEAD],
-    words: &[Word],
-) -> u32 {
-    let mut bits = 0;
-    for (place, word) in places.iter().zip(words) {
-        if let Some((_, page)) = pages.as_slice().get_index(*place) {
-            bits ^= page.get(place_of(*word)).bits();
-        }
-    }
-    bits
 }
 
 // Where the page of this number stands, if it stands at `hint`.

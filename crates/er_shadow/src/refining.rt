@@ -7,7 +7,7 @@ ghost use Rattle.er_owner.specs.Numbering.{state_in, IsNumbered, IsNumberOf, IsN
 ghost use Rattle.er_table.specs.Sets.{KeepsNumbers, set_at};
 
 use crate::Hints;
-use er_event::{Kind, Lockset, NoRoom, ThreadId, WordState};
+use er_event::{Kind, LockId, Lockset, NoRoom, ThreadId, WordState};
 use er_owner::{Need, NumberedState, Shadow, advance, need};
 use er_table::Known;
 use std::alloc::AllocError;
@@ -31,8 +31,7 @@ pub(crate) fn step<R: Wait>(
     ensures refusals { ¬ IsErrOf result NoRoom.JournalFull }
     ensures free { need_of shadow thread ≡ Need.Nothing → IsOk result }
 {
-    let key = key_of(thread, kind);
-    let set = refined(rt, known, covers, key, need(shadow, thread, kind), locks)?;
+    let set = refined(rt, known, covers, need(shadow, thread, kind), locks)?;
     Ok(advance(shadow, thread, kind, set))
 }
 
@@ -56,14 +55,28 @@ pub(crate) fn is_settled(
     }
 }
 
-// Whether these locks are the candidates, or there is no candidate: then all candidates are among them.
+// Whether all candidates are among these locks.
 #[inline(always)]
 fn covers_all(known: &Known, candidates: u32, locks: &Lockset) -> bool
     requires { candidates < length known.now }
     ensures { IsTrue result → meet (set_at known.now candidates) locks.now ≡ set_at known.now candidates }
 {
     let set = known.set(candidates);
-    candidates == 0 || set == locks
+    candidates == 0 || are_among(set.as_slice(), locks.as_slice())
+}
+
+// Whether the locks of one list are in another, if both rise.
+#[inline(always)]
+fn are_among(some: &[LockId], all: &[LockId]) -> bool
+    ensures { IsTrue result → meet some.now all.now ≡ some.now }
+{
+    let mut found = 0;
+    for lock in all {
+        if found < some.len() && some[found] == *lock {
+            found += 1;
+        }
+    }
+    found == some.len()
 }
 
 // The number of the set that is needed. The thread's locks go into the table before what they have in common with the candidates.
@@ -71,7 +84,6 @@ fn refined<R: Wait>(
     rt: &R,
     known: &mut Known,
     covers: &mut Hints,
-    key: u64,
     need: Need,
     locks: &Lockset,
 ) -> Result<u32, NoRoom>
@@ -84,9 +96,9 @@ fn refined<R: Wait>(
 {
     let set = match need {
         Need::Nothing => return Ok(0),
-        Need::Fresh => number_near(rt, known, covers, key, locks)?,
+        Need::Fresh => number_near(rt, known, covers, locks)?,
         Need::Meet(candidates) => {
-            let held = number_beside(rt, known, covers, key, candidates, locks)?;
+            let held = number_beside(rt, known, covers, candidates, locks)?;
             known.intersect(rt, candidates, held)?
         }
     };
@@ -100,7 +112,6 @@ fn number_beside<R: Wait>(
     rt: &R,
     known: &mut Known,
     covers: &mut Hints,
-    key: u64,
     candidates: u32,
     locks: &Lockset,
 ) -> Result<u32, NoRoom>
@@ -113,17 +124,16 @@ fn number_beside<R: Wait>(
     if known.set(candidates) == locks {
         Ok(candidates)
     } else {
-        number_near(rt, known, covers, key, locks)
+        number_near(rt, known, covers, locks)
     }
 }
 
-// The number of a thread's locks. They seldom change from one access to the next of the same kind, so the number that they had then is
-// tried first: two short lists are compared sooner than one is found by its hash.
+// The number of a thread's locks. The number that was found last for them, or for others with the same key, is tried first: two short lists
+// are compared sooner than one is found by its hash.
 fn number_near<R: Wait>(
     rt: &R,
     known: &mut Known,
     covers: &mut Hints,
-    key: u64,
     locks: &Lockset,
 ) -> Result<u32, NoRoom>
     ensures number { IfOk result (λ n. n < length known.new) }
@@ -132,6 +142,7 @@ fn number_near<R: Wait>(
     ensures kept { KeepsNumbers known.old known.new }
     ensures refusals { ¬ IsErrOf result NoRoom.JournalFull }
 {
+    let key = key_of(locks.as_slice());
     let hint = covers.hint(key);
     if hint < known.count() as usize && known.set(hint as u32) == locks {
         return Ok(hint as u32);
@@ -141,9 +152,14 @@ fn number_near<R: Wait>(
     Ok(number)
 }
 
-// The key of a thread's accesses of a kind.
-fn key_of(thread: ThreadId, kind: Kind) -> u64 {
-    u64::from(thread.number()) * 2 + u64::from(kind == Kind::Read)
+// A key of these locks. Few other sets of the same trace have it.
+fn key_of(locks: &[LockId]) -> u64 {
+    match (locks.first(), locks.last()) {
+        (Some(first), Some(last)) => {
+            u64::from(first.number()) + 8 * u64::from(last.number()) + 64 * (locks.len() as u64 % 8)
+        }
+        _ => 0,
+    }
 }
 
 /// The state, with the set for its number.

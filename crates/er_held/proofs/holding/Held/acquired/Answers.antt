@@ -4,9 +4,9 @@ use Rattle.er_held.proofs.holding.Held.acquired.Goals as goal
 
 pub overflow_sub-result : goal.overflow_sub-result
 overflow_sub-result c =
-    omega (arith, holding-room c.self.inside.any_mode c.self.inside.write_mode c.self.inside.level c.self.invariant, c.len.ensures, c.from.ensures, c.number.ensures.value)
+    omega (arith, holding-room c.self.inside.any_mode _ c.self.inside.level c.self.invariant, c.len.ensures, c.from.ensures, c.number.ensures.value)
 
 pub returns : goal.returns
 returns c =
-    let counted = holding-counted c.self.inside.any_mode c.self.inside.write_mode c.self.inside.level c.self.invariant in
+    let counted = holding-counted c.self.inside.any_mode _ c.self.inside.level c.self.invariant in
     rw (← c.self.view_is) (omega (arith, counted, c.len.ensures, c.from.ensures, c.number.ensures.value))

@@ -1,6 +1,6 @@
--- No more words than there is room for.
-use Rattle.std.proofs.Common.{◌≤◌}
+use Rattle.std.proofs.Common.{◌≡◌}
 use Rattle.er_replay.proofs.machine.Machine.read_ahead.Given as goal
 
-abbrev pub invariant-loop-place : goal.invariant-loop-place
-invariant-loop-place l = l.count ≤ 16
+-- nothing changes that contracts see
+abbrev pub invariant-loop-step : goal.invariant-loop-step
+invariant-loop-step l = record { threads : l.self-inside.threads ≡ l.initial.self-inside.threads; words : l.self-inside.words ≡ l.initial.self-inside.words }

@@ -8,7 +8,7 @@ use Rattle.er_owner.specs.Numbering.{IsNumbered, state_in}
 use Rattle.er_table.specs.Sets.{KeepsNumbers}
 use Rattle.er_shadow.specs.Shadows.{Shadows, states, needs_set}
 use Rattle.er_shadow.specs.declared.map.ShadowMap.TheInside.{Inside}
-use Rattle.er_shadow.proofs.Moves.{found_word, state_found, state_absent, unwritten_page, written_page, made_page, all_numbered, all_kept, states_kept, states_put, needs_from_need, own_needs_nothing, put_same}
+use Rattle.er_shadow.proofs.Moves.{found_word, state_found, state_absent, unwritten_page, written_page, made_page, all_numbered, all_kept, states_kept, states_put, needs_from_need, own_needs_nothing, put_same, keeps_all}
 use Rattle.er_event.proofs.Results.{on_err_of}
 use Rattle.er_keys.proofs.MapLemmas.{entry_found, entry_put}
 use Rattle.indexmap.specs.IndexMap.{with_value_at}
@@ -17,9 +17,6 @@ use Rattle.er_shadow.proofs.map.ShadowMap.access_noting.Goals as goal
 -- what contracts see of the fields
 abbrev seen : Inside → Shadows
 seen inside = record { pages = inside.pages.entries; sets = inside.known }
-
-keeps_all : (sets : List (List ℕ)) → KeepsNumbers sets sets
-keeps_all sets = record { longer = omega arith; kept = λ n within. refl }
 
 pub step-requires : goal.step-requires
 step-requires g c =
