@@ -267,20 +267,8 @@ impl<'t> Machine<'t> {
         ensures { self.new ≡ self.old }
     {
         if at % Machine::AHEAD == 0 {
-            self.read_ahead(steps, at);
-        }
-    }
-
-    // It is called, so that a step that isn't the first of its few costs one comparison.
-    #[inline(never)]
-    fn read_ahead(&mut self, steps: &[Step], at: usize)
-        ensures { self.new ≡ self.old }
-    {
-        let end = at.saturating_add(Machine::AHEAD).min(steps.len());
-        for step in &steps[at.min(end)..end] {
-            if let Event::Access(_, word, _) = step.event {
-                self.words.look_ahead(word);
-            }
+            let end = at.saturating_add(Machine::AHEAD).min(steps.len());
+            self.words.look_ahead(&steps[at.min(end)..end]);
         }
     }
 

@@ -10,7 +10,7 @@ ghost use Rattle.er_shadow.specs.Replies.{reply_if};
 use crate::Hints;
 use crate::page::{Page, WORDS};
 use crate::refining::{is_settled, named, step};
-use er_event::{Kind, Lockset, NoRoom, PageRange, Reply, ThreadId, Word, WordState};
+use er_event::{Event, Kind, Lockset, NoRoom, PageRange, Reply, Step, ThreadId, Word, WordState};
 use er_journal::Stamp;
 use er_keys::{HashKeys, NumberHasher, index_of};
 use er_owner::Shadow;
@@ -19,6 +19,9 @@ use indexmap::IndexMap;
 use std::alloc::{AllocError, Global};
 use std::marker::Model;
 use std::sync::Wait;
+
+/// How many words `look_ahead` reads.
+const MOST_AHEAD: usize = 16;
 
 /// What a counted access did.
 #[derive(Clone, Copy)]
@@ -188,19 +191,41 @@ impl<'t> ShadowMap<'t> {
         Ok(reply_to(noted.is_race))
     }
 
-    /// Reads what stands for a word that will be accessed soon. Nothing waits for what is read, so if several words are looked at, they come
-    /// from memory side by side, and are at hand at their accesses.
+    /// Reads what stands for the words that these steps access, the first 16 at most. Nothing waits for what is read, so words of several
+    /// pages come from memory side by side, and are at hand at their accesses. All pages are found first: so no look for a page keeps a word
+    /// waiting.
+    #[inline(never)]
+    pub fn look_ahead(&mut self, steps: &[Step])
+        ensures { self.new ≡ self.old }
+    {
+        let mut near = [(0, Word::new(0)); MOST_AHEAD];
+        let mut count = 0;
+        for step in steps {
+            if let Event::Access(_, word, _) = step.event
+                && count < MOST_AHEAD
+            {
+                near[count] = (self.find_page(word), word);
+                count += 1;
+            }
+        }
+        self.ahead ^= bits_of(&self.pages, &near[..count]);
+    }
+
+    // Where the page of a word stands, or some other place if it has none.
     #[inline(always)]
-    pub fn look_ahead(&mut self, word: Word)
+    fn find_page(&mut self, word: Word) -> usize
         ensures { self.new ≡ self.old }
     {
         let number = word.page();
         let hint = self.places.hint(number);
-        if let Some(index) = index_of(&self.pages, hint, number) {
-            if index != hint {
-                self.places.note(number, index);
+        match index_of(&self.pages, hint, number) {
+            Some(index) => {
+                if index != hint {
+                    self.places.note(number, index);
+                }
+                index
             }
-            self.ahead ^= self.pages[index].get(place_of(word)).bits();
+            None => 0,
         }
     }
 
@@ -235,6 +260,18 @@ impl<'t> ShadowMap<'t> {
             None => Shadow::virgin(),
         }
     }
+}
+
+// What stands for a word on each of these pages, all in one.
+#[inline(always)]
+fn bits_of(pages: &IndexMap<u64, Page, NumberHasher>, near: &[(usize, Word)]) -> u32 {
+    let mut bits = 0;
+    for (place, word) in near {
+        if let Some((_, page)) = pages.as_slice().get_index(*place) {
+            bits ^= page.get(place_of(*word)).bits();
+        }
+    }
+    bits
 }
 
 // Where the page of this number stands, if it stands at `hint`.
