@@ -106,13 +106,10 @@ impl Held {
     {
         match self.refusal_of_acquire(lock, mode) {
             Some(why) => Err(why),
-            None => {
-                match mode {
-                    Mode::Read => self.add_read(lock)?,
-                    Mode::Write => self.add_write(lock)?,
-                }
-                Ok(())
-            }
+            None => Ok(match mode {
+                Mode::Read => self.add_read(lock)?,
+                Mode::Write => self.add_write(lock)?,
+            }),
         }
     }
 

@@ -56,9 +56,6 @@ impl<'t> Model for Machine<'t> {
 impl<'t> Machine<'t> {
     ghost use Rattle.er_replay.specs.Standing.{holding, states, state_shown, in_full, Stands, found_no_room};
 
-    // How many steps are looked at together.
-    const AHEAD: usize = 16;
-
     /// A machine that has taken no step. The sets of locks that its words need go into the table. Whoever chooses the pages that are accessed,
     /// or the threads that take locks, can make it slow: see [`keyed`](Machine::keyed).
     pub fn new(alloc: Global, table: &'t LocksetTable) -> Result<Machine<'t>, AllocError>
@@ -266,8 +263,8 @@ impl<'t> Machine<'t> {
     pub fn look_ahead(&mut self, steps: &[Step], at: usize)
         ensures { self.new ≡ self.old }
     {
-        if at % Machine::AHEAD == 0 {
-            let end = at.saturating_add(Machine::AHEAD).min(steps.len());
+        if at % ShadowMap::AHEAD == 0 {
+            let end = at.saturating_add(ShadowMap::AHEAD).min(steps.len());
             self.words.look_ahead(&steps[at.min(end)..end]);
         }
     }

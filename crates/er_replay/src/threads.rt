@@ -1,6 +1,5 @@
 //! Every thread's holdings.
 ghost use Rattle.std.specs.Prelude.{◌≡◌, ◌&&◌, ℕ, nat_eq, cond, IsTrue, IfErr, OnOk, OnErr, Err, None, Some};
-ghost use Rattle.std.specs.Map.{lookup};
 ghost use Rattle.er_event.specs.Lockset.{has};
 ghost use Rattle.er_model.specs.Holdings.{refused_by, changed_by};
 ghost use Rattle.er_held.specs.Held.{nothing_held};
@@ -85,26 +84,14 @@ impl Threads {
                 let held = &mut self.held[index];
                 held.change(event)
             }
-            None => self.change_first(key, event),
+            None => {
+                let mut held = Held::new(self.alloc);
+                held.change(event)?;
+                self.places.note(key, self.held.len());
+                self.held.insert(key, held)?;
+                Ok(())
+            }
         }
-    }
-
-    // Makes a place for a thread, if its event is accepted. It is called, so that no place is cleared at the events of the other threads.
-    #[inline(never)]
-    fn change_first(&mut self, key: u64, event: Event) -> Result<(), Refusal>
-        requires absent { lookup (nat_eq key) self.old ≡ None }
-        requires changes { IsTrue (changes_holdings event) }
-        ensures accepted { OnOk result (refused_by nothing_held event ≡ None) }
-        ensures ok { OnOk result ((t : ℕ) → holding_among self.new t ≡ cond (nat_eq key t) (changed_by nothing_held event) (holding_among self.old t)) }
-        ensures err { OnErr result ((t : ℕ) → holding_among self.new t ≡ holding_among self.old t) }
-        ensures refused { (why : Refusal) → refused_by nothing_held event ≡ Some why → result ≡ Err why }
-        ensures memory { refused_by nothing_held event ≡ None → IfErr result (λ why. IsTrue (wants_memory event && is_no_memory why)) }
-    {
-        let mut held = Held::new(self.alloc);
-        held.change(event)?;
-        self.places.note(key, self.held.len());
-        self.held.insert(key, held)?;
-        Ok(())
     }
 }
 

@@ -20,9 +20,6 @@ use std::alloc::{AllocError, Global};
 use std::marker::Model;
 use std::sync::Wait;
 
-/// How many words `look_ahead` reads.
-const MOST_AHEAD: usize = 16;
-
 /// What a counted access did.
 #[derive(Clone, Copy)]
 pub struct Noted {
@@ -59,6 +56,9 @@ impl<'t> Model for ShadowMap<'t> {
 impl<'t> ShadowMap<'t> {
     ghost use Rattle.er_owner.specs.Numbering.{IsNumbered};
     ghost use Rattle.er_shadow.specs.Shadows.{numbered_state, states, needs_set};
+
+    /// How many words `look_ahead` reads at most.
+    pub const AHEAD: usize = 16;
 
     /// A map whose words are all virgin. Its sets of locks go into the table. Whoever chooses the pages that are accessed can make it slow: see
     /// [`keyed`](ShadowMap::keyed).
@@ -188,27 +188,35 @@ impl<'t> ShadowMap<'t> {
             Kind::Write => stamp.write_held(),
         };
         let noted = self.access_noting(rt, stamp.thread(), stamp.word(), stamp.kind(), locks)?;
-        Ok(reply_to(noted.is_race))
+        Ok(if noted.is_race {
+            Reply::Race
+        } else {
+            Reply::Quiet
+        })
     }
 
-    /// Reads what stands for the words that these steps access, the first 16 at most. Nothing waits for what is read, so words of several
+    /// Reads what stands for the words that these steps access, the first [`AHEAD`](ShadowMap::AHEAD) at most. Nothing waits for what is read, so words of several
     /// pages come from memory side by side, and are at hand at their accesses. All pages are found first: so no look for a page keeps a word
     /// waiting.
     #[inline(never)]
     pub fn look_ahead(&mut self, steps: &[Step])
         ensures { self.new ≡ self.old }
     {
-        let mut near = [(0, Word::new(0)); MOST_AHEAD];
-        let mut count = 0;
-        for step in steps {
-            if let Event::Access(_, word, _) = step.event
-                && count < MOST_AHEAD
-            {
-                near[count] = (self.find_page(word), word);
-                count += 1;
+        let mut places = [0; ShadowMap::AHEAD];
+        for i in 0..steps.len().min(ShadowMap::AHEAD) {
+            if let Event::Access(_, word, _) = steps[i].event {
+                places[i] = self.find_page(word);
             }
         }
-        self.ahead ^= bits_of(&self.pages, &near[..count]);
+        let mut bits = 0;
+        for (place, step) in places.iter().zip(steps) {
+            if let Event::Access(_, word, _) = step.event
+                && let Some((_, page)) = self.pages.as_slice().get_index(*place)
+            {
+                bits ^= page.get(place_of(word)).bits();
+            }
+        }
+        self.ahead ^= bits;
     }
 
     // Where the page of a word stands, or some other place if it has none.
@@ -218,15 +226,11 @@ impl<'t> ShadowMap<'t> {
     {
         let number = word.page();
         let hint = self.places.hint(number);
-        match index_of(&self.pages, hint, number) {
-            Some(index) => {
-                if index != hint {
-                    self.places.note(number, index);
-                }
-                index
-            }
-            None => 0,
+        let place = index_of(&self.pages, hint, number).unwrap_or(hint);
+        if place != hint {
+            self.places.note(number, place);
         }
+        place
     }
 
     /// Makes the words of a range virgin. It takes no memory.
@@ -262,18 +266,6 @@ impl<'t> ShadowMap<'t> {
     }
 }
 
-// What stands for a word on each of these pages, all in one.
-#[inline(always)]
-fn bits_of(pages: &IndexMap<u64, Page, NumberHasher>, near: &[(usize, Word)]) -> u32 {
-    let mut bits = 0;
-    for (place, word) in near {
-        if let Some((_, page)) = pages.as_slice().get_index(*place) {
-            bits ^= page.get(place_of(*word)).bits();
-        }
-    }
-    bits
-}
-
 // Where the page of this number stands, if it stands at `hint`.
 #[inline(always)]
 fn index_near(pages: &IndexMap<u64, Page, NumberHasher>, hint: usize, number: u64) -> Option<usize>
@@ -285,14 +277,6 @@ fn index_near(pages: &IndexMap<u64, Page, NumberHasher>, hint: usize, number: u6
         Some((key, _page)) => (*key == number).then_some(hint),
         None => None,
     }
-}
-
-// What an access is answered.
-#[inline]
-fn reply_to(race: bool) -> Reply
-    ensures { result ≡ reply_if race }
-{
-    if race { Reply::Race } else { Reply::Quiet }
 }
 
 // Where a word stands on its page.

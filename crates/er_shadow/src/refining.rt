@@ -98,34 +98,12 @@ fn refined<R: Wait>(
         Need::Nothing => return Ok(0),
         Need::Fresh => number_near(rt, known, covers, locks)?,
         Need::Meet(candidates) => {
-            let held = number_beside(rt, known, covers, candidates, locks)?;
+            let held = number_near(rt, known, covers, locks)?;
             known.intersect(rt, candidates, held)?
         }
     };
     prove!(set < known.count());
     Ok(set)
-}
-
-// The number of a thread's locks. Where they are the candidates themselves, as in a program that keeps to one lock for a word,
-// their number is at hand and nothing is looked up.
-fn number_beside<R: Wait>(
-    rt: &R,
-    known: &mut Known,
-    covers: &mut Hints,
-    candidates: u32,
-    locks: &Lockset,
-) -> Result<u32, NoRoom>
-    requires { candidates < length known.old }
-    ensures number { IfOk result (λ n. n < length known.new) }
-    ensures names { IfOk result (λ n. set_at known.new n ≡ locks.now) }
-    ensures kept { KeepsNumbers known.old known.new }
-    ensures refusals { ¬ IsErrOf result NoRoom.JournalFull }
-{
-    if known.set(candidates) == locks {
-        Ok(candidates)
-    } else {
-        number_near(rt, known, covers, locks)
-    }
 }
 
 // The number of a thread's locks. The number that was found last for them, or for others with the same key, is tried first: two short lists
