@@ -1,6 +1,7 @@
 -- A worker that has gone one step further in a batch.
 use Rattle.std.proofs.Common.{IsTrue, IsFalse, OnOk, ◌≡◌, ℕ, zero, suc, ◌+◌, ◌-◌, ◌%◌, ◌<◌, ◌≤◌, ◌==◌, Bool, true, false, cond, List, [], ◌∷◌, ◌++◌, length, slice_get, Option, Some, None, Result, Ok, Err, refl, ap, sym, subst, ◌∙◌, arith, ⊎_elim, ◌⊎◌, inl, inr}
 use Rattle.std.proofs.lemmas.List.{length-append}
+use Rattle.std.proofs.lemmas.Nat.{mod_below}
 use Rattle.std.proofs.lemmas.Option.{same_Some}
 use Rattle.er_event.specs.Refusal.{refusal_of}
 use Rattle.er_event.specs.declared.refusals.NoRoom.{NoRoom}
@@ -29,7 +30,7 @@ use Rattle.er_parallel.specs.Crews.{IsAmong, IsAnswered, HasFollowed, LeavesWord
 use Rattle.er_parallel.specs.Faults.{AsksForSet}
 use Rattle.er_parallel.specs.Usual.{usual}
 use Rattle.er_parallel.specs.Inner.Taking.{AreIdle, HasCome, HasDone, IsFoundSoFar, IsIdle, IsKept, IsOwn}
-use Rattle.er_parallel.specs.Tasks.{worker_for}
+use Rattle.er_parallel.specs.Tasks.{shard_for, worker_for}
 use Rattle.er_parallel.specs.declared.worker.Share.{Share}
 use Rattle.er_parallel.specs.declared.worker.Unusual.{Unusual}
 use Rattle.er_parallel.proofs.FollowingLemmas.{apart, replied-same, asks-same}
@@ -349,3 +350,11 @@ idle-on share from at batch step there last idle = λ k other low high is.
     ⊎_elim (λ below. idle k other low below is)
     (λ same. subst (λ (s : Step). IsIdle share s.event) (same_Some step other (sym there ∙ rw (← same) is)) last)
     (below_or_at k at (omega (arith, high)))
+
+-- the only worker answers all steps
+below_one : (a b w : ℕ) → w ≡ 1 → a < w → b < w → a ≡ b
+below_one a b w one less below = omega (arith, one, less, below)
+
+pub all-own : (share : Share) (event : Event) → share.workers ≡ 1 → share.worker < share.workers → IsOwn share event
+all-own share event one below =
+    below_one (shard_for share.shards event % share.workers) share.worker share.workers one (mod_below (shard_for share.shards event) share.workers (omega (arith, one))) below

@@ -109,6 +109,9 @@ fn answer_all<R: Wait>(
     ensures done { (past : List Steps) → HasFollowed share.shards share.workers share.worker past machine.old → OnOk result (HasDone past steps.now share found.new.items machine.new) }
     ensures fault { (past : List Steps) → HasFollowed share.shards share.workers share.worker past machine.old → IfErr result (λ fault. MayBeFull (past ++ steps.now) fault) }
 {
+    if share.workers == 1 {
+        return answer_alone(rt, alloc, steps, share, machine, found);
+    }
     let mut at = next_busy(steps, share, 0);
     while at < steps.len() {
         let step = &steps[at];
@@ -117,6 +120,32 @@ fn answer_all<R: Wait>(
             return Err(WorkFault { shard, cause });
         }
         at = next_busy(steps, share, at + 1);
+    }
+    Ok(())
+}
+
+// The same for a worker that is the only one, so that all steps are its own. It looks at none twice, and reads the words of the next few ahead.
+fn answer_alone<R: Wait>(
+    rt: &R,
+    alloc: Global,
+    steps: &[Step],
+    share: Share,
+    machine: &mut Machine<'_>,
+    found: &mut VecDeque<Unusual>,
+) -> Result<(), WorkFault>
+    requires share { IsShare share }
+    requires alone { share.workers ≡ 1 }
+    requires empty { found.old.items ≡ [] }
+    ensures done { (past : List Steps) → HasFollowed share.shards share.workers share.worker past machine.old → OnOk result (HasDone past steps.now share found.new.items machine.new) }
+    ensures fault { (past : List Steps) → HasFollowed share.shards share.workers share.worker past machine.old → IfErr result (λ fault. MayBeFull (past ++ steps.now) fault) }
+{
+    for at in 0..steps.len() {
+        machine.look_ahead(steps, at);
+        let step = &steps[at];
+        if let Err(cause) = answer_own(rt, alloc, steps, share, at, step, machine, found) {
+            let shard = shard_for(share.shards, step.event);
+            return Err(WorkFault { shard, cause });
+        }
     }
     Ok(())
 }
@@ -150,8 +179,9 @@ fn is_idle(share: Share, step: &Step) -> bool
     is_access(step) && worker_for(share.shards, share.workers, step.event) != share.worker
 }
 
-// Takes the next step of a batch, and keeps its answer unless it is another worker's step, or a plain one.
-#[inline(always)]
+// Takes the next step of a batch, and keeps its answer unless it is another worker's step, or a plain one. It is called, so that the loop over the steps
+// stays short.
+#[inline(never)]
 fn go_on<R: Wait>(
     rt: &R,
     alloc: Global,
@@ -174,9 +204,8 @@ fn go_on<R: Wait>(
     answer_own(rt, alloc, steps, share, at, step, machine, found)
 }
 
-// Takes the next step of a batch, which is the worker's own, and keeps its answer unless it is a plain one. It is called, so that the loop over the
-// steps stays short.
-#[inline(never)]
+// Takes the next step of a batch, which is the worker's own, and keeps its answer unless it is a plain one.
+#[inline(always)]
 fn answer_own<R: Wait>(
     rt: &R,
     alloc: Global,

@@ -21,8 +21,8 @@ use std::io::Read;
 use std::marker::Model;
 use std::thread::Threads;
 
-/// How many bytes are read ahead, to be cut into pieces.
-const WINDOW_BYTES: usize = 4_194_304;
+/// How many bytes are read ahead for each thread that reads a piece. What is read of that many stays in a processor's cache.
+const PIECE_WINDOW_BYTES: usize = 393_216;
 
 /// How many bytes are read ahead if one thread reads them line by line.
 const LINE_WINDOW_BYTES: usize = 65_536;
@@ -34,7 +34,7 @@ const FIRST_LINES: u32 = 64;
 const LINES_OF_ONE: u32 = 1_024;
 
 /// How many lines a batch has if there are several threads and the lines aren't read in pieces.
-const BATCH_LINES: u32 = 131_072;
+const BATCH_LINES: u32 = 16_384;
 
 /// A reader of a trace text that gives its steps batch by batch, and reads each batch by several threads.
 ///
@@ -80,7 +80,7 @@ impl PieceReader {
         let size = if readers == 1 {
             LINE_WINDOW_BYTES
         } else {
-            WINDOW_BYTES
+            PIECE_WINDOW_BYTES * readers as usize
         };
         let lines = TraceReader::with_window(alloc, limit, size)?;
         let mut pieces = Vec::with_capacity(alloc, readers as usize)?;

@@ -35,7 +35,8 @@ type Analysts<'t, 'r> = Pair<
     Inspection,
 >;
 
-/// The report by the lockset rule of a replay by several workers, over this table. Half of them answer while the others read.
+/// The report by the lockset rule of a replay by several workers, over this table. A quarter of them answer while the others read, since of several that
+/// answer each goes over all steps.
 pub(crate) fn report_by_crew<R: Threads + Wait + Sync, D: Read, S: Shortcut<D>, V: Watch>(
     rt: &R,
     alloc: Global,
@@ -50,8 +51,8 @@ pub(crate) fn report_by_crew<R: Threads + Wait + Sync, D: Read, S: Shortcut<D>, 
     ensures replay { IsReplayOf (D.remaining (inner_of reader.old)) options.now (targets_of suppressions.now) Lockset (taken_of reader.old) (taken_of reader.new) (has_failed reader.new) result }
     ensures whole { IfOk result (λ found. IfSome found.reports.lockset (λ report. report.stop ≡ None)) }
 {
-    let answering = (options.workers / 2).max(1);
-    let readers = options.workers.div_ceil(2);
+    let answering = (options.workers / 4).max(1);
+    let readers = (options.workers - answering).max(1);
     let crew = CrewAnalyst::new(rt, alloc, table, suppressions, options, answering)?;
     let inspection = Inspection::new(alloc, options.strict);
     let all = Pair {
