@@ -216,8 +216,8 @@ def reads_given_up(record):
 
 
 def workers(record, preloaded):
-    # Long enough for a piece for each of eight threads that read.
-    trace = ["eraser trace 1", *["t1 write 0x1000"] * 140_000]
+    # Long enough for a piece for each of twelve threads that read, and short enough for one batch of three.
+    trace = ["eraser trace 1", *["t1 write 0x1000"] * 60_000]
     short = trace[:3]
     with tempfile.TemporaryDirectory() as folder:
         library, noted = preloaded(folder, "refuse_thread"), pathlib.Path(folder) / "noted"
@@ -228,18 +228,19 @@ def workers(record, preloaded):
             env = {**os.environ, "LD_PRELOAD": str(library), "REFUSE_THREAD": str(nth), "THREADS_NOTED": str(noted)}
             return run(["replay", "--workers", count, "-"], text_of(trace), env=env), noted.read_text()
 
-        # Half of them read a batch while the others answer the one before.
+        # A quarter of them answer a batch while the others read the next one.
         started = []
         for count in range(4, 17):
             found, notes = noting(count, trace, 0)
             record(f"limits: {count} workers", found == (text_of([totals(trace)]), b"", 0), f"{found}")
             started.append(notes.count("s"))
         record("limits: each worker has threads of its own", all(fewer < more for fewer, more in zip(started, started[1:])), f"{started}")
-        # Half of them answer, each of which is made in a thread of its own. A later thread's work is done by the one that asked for it.
+        # Each of those that answer is made in a thread of its own. A later thread's work is done by the one that asked for it.
         for count in (2, 3, 8, 16):
-            for nth in {1, count // 2, count // 2 + 1}:
+            answering = max(1, count // 4)
+            for nth in {1, answering, answering + 1}:
                 for lines in (short, trace):
-                    refused = (b"", b"worker not started\n", 3) if nth <= count // 2 else (text_of([totals(lines)]), b"", 0)
+                    refused = (b"", b"worker not started\n", 3) if nth <= answering else (text_of([totals(lines)]), b"", 0)
                     for last, wanted in (([], refused), (["t1 hop"], (b"", f"line {len(lines) + 1}: bad verb\n".encode(), 2))):
                         found, notes = noting(count, [*lines, *last], nth)
                         is_right = found == wanted and "r" in notes and notes.count("s") == notes.count("j")

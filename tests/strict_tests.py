@@ -191,12 +191,12 @@ def all_traces(record):
 
 def batches(record):
     """Damage on both sides of the ends of batches of one worker and of several, and behind them."""
-    # One worker reads 1,024 lines at a time, several 64 lines and then 4 MB.
-    several = 64 + (4 << 20) // len(b"t1 write 0\n")
-    for size in (1022, 1023, 1024, 2047, several - 2, several - 1, several, several + 1):
+    # One worker reads 1,024 lines at a time, one of two 16,384, and three of four 64 lines and then 384 KiB each.
+    several = 64 + (3 * 384 << 10) // len(b"t1 write 0\n")
+    for size in (1022, 1023, 1024, 2047, 16382, 16383, 16384, several - 2, several - 1, several, several + 1):
         text = HEAD + b"t1 lock m\n" * 1 + b"t1 write 0\n" * (size - 1) + b"t2 lock m\nt2 unlock n\n"
         wanted = (b"", b"line %d: refused step\nline %d: lock held twice\n" % (size + 3, size + 2), 2)
-        for crew in ([], ["--workers", "2"]):
+        for crew in ([], ["--workers", "2"], ["--workers", "4"]):
             record(f"strict: {size} lines before damage {crew}", run(["replay", "--strict", *crew, "-"], text) == wanted)
     text = HEAD + b"".join(b"t%d rlock m\n" % n for n in range(3000)) + b"".join(b"t%d runlock m\n" % n for n in range(2999))
     record("strict: the last of many readers is left", run(["replay", "--strict", "-"], text + b"t lock m\n")[:2] == (b"", b"line 6001: lock held twice\n"))
