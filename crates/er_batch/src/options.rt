@@ -15,8 +15,8 @@ pub struct Options {
     pub explain: bool,
     /// In how many shards the words are if there are several workers, from 1 to 64.
     pub shards: u32,
-    /// How many workers there are, from 1 to 16. By the lockset rule half of them answer the steps of a batch while the others read the next
-    /// one, and by another analysis all of them read. One worker alone has all words in one shard.
+    /// How many workers there are, from 1 to 16. By the lockset rule a quarter of them, but at least one, answer the steps of a batch while the
+    /// others read the next one, and by another analysis all of them read. One worker alone has all words in one shard.
     pub workers: u32,
     /// Whether a damaged trace is a fault.
     pub strict: bool,

@@ -103,9 +103,10 @@ fn write_found<W: Write>(
 /// The text is read to its end, and the steps of each batch of lines are forgotten once they are answered, so that memory goes by the words,
 /// the names and the lines of the reports. With `explain` each race that is printed has its reasons, and each word has a book of the
 /// accesses that a reason may name. A strict replay of a damaged trace returns its damage. Beside a report by happens-before, that of the
-/// lockset rule is whole: a step that finds no room is a fault. By the lockset rule alone half of several workers answer a batch while the
-/// others read the next one; by another analysis all of them read, and one answers. If one thread reads, the shortcut may have lines ready. The
-/// watcher is told behind each batch how far the replay has come, and called once more at the end. What it does changes nothing of what is returned.
+/// lockset rule is whole: a step that finds no room is a fault. By the lockset rule alone a quarter of several workers, but at least one, answer
+/// a batch while the others read the next one; by another analysis all of them read, and one answers. If one thread reads, the shortcut may have
+/// lines ready. The watcher is told behind each batch how far the replay has come, and called once more at the end. What it does changes nothing
+/// of what is returned.
 ///
 /// # Errors
 /// `Read`: the text has a fault, a read failed, or memory was refused to the reader or to a step. `Replay`: the table of locksets is full, or
