@@ -1,13 +1,14 @@
 -- The first rule whose words have both of two, or of a site, while rules are added one by one.
-use Rattle.std.proofs.Common.{◌≡◌, ◌∙◌, ℕ, ◌+◌, ◌-◌, ◌≤◌, ◌<◌, max, Bool, true, false, ◌&&◌, cond, zero, suc, nat_le, List, [], ◌∷◌, ◌++◌, length, take, drop, get_or, Option, Some, None, ◌⊎◌, inl, inr, refl, sym, ap, subst, arith, take-append-drop}
+use Rattle.std.proofs.Common.{string_bytes, ◌≡◌, ◌∙◌, ℕ, ◌+◌, ◌-◌, ◌≤◌, ◌<◌, max, Bool, true, false, ◌&&◌, cond, zero, suc, nat_le, List, [], ◌∷◌, ◌++◌, length, take, drop, get_or, Option, Some, None, ◌⊎◌, inl, inr, refl, sym, ap, subst, arith, take-append-drop}
 use Rattle.std.specs.Option.{option_or}
 use Rattle.std.proofs.lemmas.List.{take_more, drop_more, take_all, get_or_append_left, get_or_push, length_push}
 use Rattle.std.proofs.lemmas.Bool.Decides.{nat_tests}
 use Rattle.er_event.specs.Span.{Span}
 use Rattle.er_rules.specs.declared.index.Entry.{Entry}
+use Rattle.er_rules.specs.declared.index.Pattern.{Pattern}
 use Rattle.er_rules.specs.declared.reach.Border.{Border}
-use Rattle.er_rules.specs.Targets.{span_of}
-use Rattle.er_rules.specs.Inner.Index.{first_of, has_both}
+use Rattle.er_rules.specs.Targets.{span_of, takes_name}
+use Rattle.er_rules.specs.Inner.Index.{first_of, first_taking, has_both, least_of}
 use Rattle.er_rules.specs.Inner.Reach.{end_at}
 
 pub or-none : (a : Option ℕ) → option_or a None ≡ a
@@ -165,3 +166,52 @@ first_false false b is = refl
 pub second_false : (a b : Bool) → b ≡ false → (a && b) ≡ false
 second_false true b is = is
 second_false false b is = refl
+
+-- the first rule of a pattern that takes a site's name
+taking-append : (patterns others : List Pattern) (site : Option (List ℕ)) → first_taking (patterns ++ others) site ≡ option_or (first_taking patterns site) (first_taking others site)
+unfolding first_taking
+taking-append [] others site = refl
+taking-append (p ∷ patterns) others site =
+    chosen (takes_name (string_bytes p.bytes) site) p.rule (first_taking (patterns ++ others) site) (first_taking patterns site) (first_taking others site) (taking-append patterns others site)
+
+taking-one : (p : Pattern) (site : Option (List ℕ)) → first_taking (p ∷ []) site ≡ cond (takes_name (string_bytes p.bytes) site) (Some p.rule) None
+unfolding first_taking
+taking-one p site = refl
+
+pub taking-push : (patterns : List Pattern) (p : Pattern) (site : Option (List ℕ)) → first_taking (patterns ++ p ∷ []) site ≡ option_or (first_taking patterns site) (cond (takes_name (string_bytes p.bytes) site) (Some p.rule) None)
+taking-push patterns p site = taking-append patterns (p ∷ []) site ∙ ap (λ o. option_or (first_taking patterns site) o) (taking-one p site)
+
+pub taking-nowhere : (patterns : List Pattern) → first_taking patterns None ≡ None
+unfolding first_taking
+taking-nowhere [] = refl
+taking-nowhere (p ∷ patterns) = taking-nowhere patterns
+
+least-none : (o : Option ℕ) → o ≡ least_of o None
+least-none None = refl
+least-none (Some n) = refl
+
+pub least-nowhere : (o words : Option ℕ) (patterns : List Pattern) → least_of o words ≡ least_of (least_of o (first_taking patterns None)) words
+least-nowhere o words patterns = ap (λ x. least_of x words) (least-none o ∙ ap (least_of o) (sym (taking-nowhere patterns)))
+
+pub taking-none : (patterns : List Pattern) (site : Option (List ℕ)) → patterns ≡ [] → first_taking patterns site ≡ None
+unfolding first_taking
+taking-none patterns site none = ap (λ ps. first_taking ps site) none
+
+taking-front : (p : Pattern) (others : List Pattern) (site : Option (List ℕ)) → takes_name (string_bytes p.bytes) site ≡ true → first_taking (p ∷ others) site ≡ Some p.rule
+unfolding first_taking
+taking-front p others site takes = ap (λ b. cond b (Some p.rule) (first_taking others site)) takes
+
+pub taking-more : (patterns : List Pattern) (i : ℕ) (site : Option (List ℕ)) (d : Pattern) → i < length patterns → first_taking (take i patterns) site ≡ None → takes_name (string_bytes (get_or patterns i d).bytes) site ≡ false
+    → first_taking (take (i + 1) patterns) site ≡ None
+taking-more patterns i site d within none fails =
+    ap (λ ps. first_taking ps site) (take_more patterns i d within)
+    ∙ (taking-push (take i patterns) (get_or patterns i d) site ∙ (λ k. option_or (none k) (cond (fails k) (Some (get_or patterns i d).rule) None)))
+
+pub taking-found : (patterns : List Pattern) (i : ℕ) (site : Option (List ℕ)) (d : Pattern) → i < length patterns → first_taking (take i patterns) site ≡ None → takes_name (string_bytes (get_or patterns i d).bytes) site ≡ true
+    → Some (get_or patterns i d).rule ≡ first_taking patterns site
+taking-found patterns i site d within none takes = sym
+    (ap (λ ps. first_taking ps site) (sym (take-append-drop i patterns)) ∙ (taking-append (take i patterns) (drop i patterns) site
+    ∙ ((λ k. option_or (none k) (first_taking (drop_more patterns i d within k) site)) ∙ taking-front (get_or patterns i d) (drop (i + 1) patterns) site takes)))
+
+pub taking-all : (patterns : List Pattern) (i : ℕ) (site : Option (List ℕ)) → length patterns ≤ i → first_taking (take i patterns) site ≡ None → None ≡ first_taking patterns site
+taking-all patterns i site all none = sym (ap (λ ps. first_taking ps site) (sym (take_all i patterns all)) ∙ none)

@@ -9,8 +9,9 @@ use borrow.Author.Tests.{eqb-true, eqb-false, lt-ltb, le-ltb}
 use Rattle.er_rules.specs.declared.rules.Rule.{Rule}
 use Rattle.std.proofs.lemmas.Bool.Decides.{nat_tests}
 use Rattle.std.specs.Str.{bytes_eq}
-use Rattle.er_rules.specs.Targets.{Target, AtSite, AtWords, target_of, same_site, is_among, takes, takes_reuse, matching_rule, matching_reuse_rule}
-use Rattle.er_rules.specs.Inner.Index.{least_of, is_of_site, is_of_words}
+use Rattle.er_rules.specs.Targets.{Target, AtSite, AtSites, AtWords, target_of, same_site, takes_name, is_among, takes, takes_reuse, matching_rule, matching_reuse_rule}
+use Rattle.er_rules.specs.Patterns.{pattern_takes}
+use Rattle.er_rules.specs.Inner.Index.{least_of, is_of_pattern, is_of_site, is_of_words}
 
 one_more : (n l : ℕ) (passes same : Bool) → n ≤ l → nat_eq n l ≡ same
     → cond (nat_lt (cond same (l + cond passes 0 1) n) (l + 1)) (Some (cond same (l + cond passes 0 1) n)) None ≡ option_or (cond (nat_lt n l) (Some n) None) (cond passes (Some l) None)
@@ -34,7 +35,7 @@ position-pushed p rules rule =
     ap (λ ts. position p ts) (map_push target_of rules rule) ∙ (position-push p (map target_of rules) (target_of rule)
     ∙ ap (λ n. option_or (position p (map target_of rules)) (cond (p (target_of rule)) (Some n) None)) (length-map rules target_of))
 
-abbrev later : Option ℕ → Option ℕ
+abbrev pub later : Option ℕ → Option ℕ
 later o = option_map (λ n. 1 + n) o
 
 later-cond : (t : Bool) (i : ℕ) → cond t (Some (1 + i)) None ≡ later (cond t (Some i) None)
@@ -45,7 +46,7 @@ step : (b : Bool) (i l : ℕ) → cond (nat_lt (cond (not b) (1 + i) 0) (suc l))
 step true i l = ap (λ t. cond t (Some 0) None) (lt-ltb 0 (suc l) (omega arith))
 step false i l = let same : nat_lt (1 + i) (suc l) ≡ nat_lt i l = grind (arith, nat_tests) in ap (λ t. cond t (Some (1 + i)) None) same ∙ later-cond (nat_lt i l) i
 
-position-cons : {X : Type 0} (p : X → Bool) (x : X) (xs : List X) → position p (x ∷ xs) ≡ cond (p x) (Some 0) (later (position p xs))
+pub position-cons : {X : Type 0} (p : X → Bool) (x : X) (xs : List X) → position p (x ∷ xs) ≡ cond (p x) (Some 0) (later (position p xs))
 position-cons p x xs = step (p x) (position_or_len p xs) (length xs)
 
 either : (a b : Bool) (m n : Option ℕ) → cond (a || b) (Some 0) (later (least_of m n)) ≡ least_of (cond a (Some 0) (later m)) (cond b (Some 0) (later n))
@@ -73,18 +74,21 @@ and-same : (b : Bool) → b ≡ (b && b)
 and-same true = refl
 and-same false = refl
 
-takes_is : (t : Target) (site : Option (List ℕ)) (word : ℕ) → takes t site word ≡ (is_of_site t site || is_of_words t word word)
-takes_is (AtSite name) site word = or-false (same_site name site)
+takes_is : (t : Target) (site : Option (List ℕ)) (word : ℕ) → takes t site word ≡ ((is_of_site t site || is_of_pattern t site) || is_of_words t word word)
+takes_is (AtSite name) site word = or-false (same_site name site) ∙ or-false (same_site name site || false)
+takes_is (AtSites pattern) site word = or-false (takes_name pattern site)
 takes_is (AtWords words) site word = and-same (is_among words word)
 
-reuse_is : (t : Target) (site : List ℕ) (lo hi : ℕ) → takes_reuse t (Some site) lo hi ≡ (is_of_site t (Some site) || is_of_words t lo hi)
+reuse_is : (t : Target) (site : List ℕ) (lo hi : ℕ) → takes_reuse t (Some site) lo hi ≡ ((is_of_site t (Some site) || is_of_pattern t (Some site)) || is_of_words t lo hi)
 reuse_is (AtSite None) site lo hi = refl
-reuse_is (AtSite (Some name)) site lo hi = or-false (bytes_eq name site)
+reuse_is (AtSite (Some name)) site lo hi = or-false (bytes_eq name site) ∙ or-false (bytes_eq name site || false)
+reuse_is (AtSites pattern) site lo hi = or-false (pattern_takes pattern site)
 reuse_is (AtWords words) site lo hi = refl
 
 nowhere_is : (t : Target) (lo hi : ℕ) → takes_reuse t None lo hi ≡ is_of_words t lo hi
 nowhere_is (AtSite None) lo hi = refl
 nowhere_is (AtSite (Some name)) lo hi = refl
+nowhere_is (AtSites pattern) lo hi = refl
 nowhere_is (AtWords words) lo hi = refl
 
 abbrev pub first_by_site : List Target → Option (List ℕ) → Option ℕ
@@ -93,16 +97,28 @@ first_by_site targets site = position (λ target. is_of_site target site) target
 abbrev pub first_by_words : List Target → ℕ → ℕ → Option ℕ
 first_by_words targets lo hi = position (λ target. is_of_words target lo hi) targets
 
--- the first rule that takes a race, by the first of its site and the first of its words
-pub matching_is : (targets : List Target) (site : Option (List ℕ)) (word : ℕ) → least_of (first_by_site targets site) (first_by_words targets word word) ≡ matching_rule targets site word
-matching_is targets site word = sym ((λ k. position (λ t. takes_is t site word k) targets) ∙ position-or (λ t. is_of_site t site) (λ t. is_of_words t word word) targets)
+abbrev pub first_by_pattern : List Target → Option (List ℕ) → Option ℕ
+first_by_pattern targets site = position (λ target. is_of_pattern target site) targets
 
-matching_reuse_is : (targets : List Target) (site : List ℕ) (lo hi : ℕ) → least_of (first_by_site targets (Some site)) (first_by_words targets lo hi) ≡ matching_reuse_rule targets (Some site) lo hi
-matching_reuse_is targets site lo hi = sym ((λ k. position (λ t. reuse_is t site lo hi k) targets) ∙ position-or (λ t. is_of_site t (Some site)) (λ t. is_of_words t lo hi) targets)
+-- the first rule of a site, of a pattern that takes its name, or of words
+abbrev pub first_by_any : List Target → Option (List ℕ) → ℕ → ℕ → Option ℕ
+first_by_any targets site lo hi = least_of (least_of (first_by_site targets site) (first_by_pattern targets site)) (first_by_words targets lo hi)
+
+any_is : (targets : List Target) (site : Option (List ℕ)) (lo hi : ℕ) → position (λ t. (is_of_site t site || is_of_pattern t site) || is_of_words t lo hi) targets ≡ first_by_any targets site lo hi
+any_is targets site lo hi =
+    position-or (λ t. is_of_site t site || is_of_pattern t site) (λ t. is_of_words t lo hi) targets
+    ∙ ap (λ o. least_of o (first_by_words targets lo hi)) (position-or (λ t. is_of_site t site) (λ t. is_of_pattern t site) targets)
+
+-- the first rule that takes a race, by the first of each sort
+pub matching_is : (targets : List Target) (site : Option (List ℕ)) (word : ℕ) → first_by_any targets site word word ≡ matching_rule targets site word
+matching_is targets site word = sym ((λ k. position (λ t. takes_is t site word k) targets) ∙ any_is targets site word word)
+
+matching_reuse_is : (targets : List Target) (site : List ℕ) (lo hi : ℕ) → first_by_any targets (Some site) lo hi ≡ matching_reuse_rule targets (Some site) lo hi
+matching_reuse_is targets site lo hi = sym ((λ k. position (λ t. reuse_is t site lo hi k) targets) ∙ any_is targets (Some site) lo hi)
 
 pub matching_nowhere_is : (targets : List Target) (lo hi : ℕ) → first_by_words targets lo hi ≡ matching_reuse_rule targets None lo hi
 matching_nowhere_is targets lo hi = sym (λ k. position (λ t. nowhere_is t lo hi k) targets)
 
-pub matching_reuse_at : (targets : List Target) (site : Option (List ℕ)) (name : List ℕ) (lo hi : ℕ) → site ≡ Some name → least_of (first_by_site targets site) (first_by_words targets lo hi) ≡ matching_reuse_rule targets site lo hi
+pub matching_reuse_at : (targets : List Target) (site : Option (List ℕ)) (name : List ℕ) (lo hi : ℕ) → site ≡ Some name → first_by_any targets site lo hi ≡ matching_reuse_rule targets site lo hi
 matching_reuse_at targets site name lo hi is =
-    subst (λ (s : Option (List ℕ)). least_of (first_by_site targets s) (first_by_words targets lo hi) ≡ matching_reuse_rule targets s lo hi) (sym is) (matching_reuse_is targets name lo hi)
+    subst (λ (s : Option (List ℕ)). first_by_any targets s lo hi ≡ matching_reuse_rule targets s lo hi) (sym is) (matching_reuse_is targets name lo hi)

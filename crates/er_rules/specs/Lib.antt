@@ -1,4 +1,5 @@
 pub mod Inner
+pub mod Patterns
 pub mod Rules
 pub mod Targets
 pub mod Texts

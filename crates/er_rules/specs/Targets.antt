@@ -1,13 +1,15 @@
 -- What rules say, and the races that they take.
 use Rattle.std.specs.Prelude.{ℕ, nat_le, Bool, true, false, ◌&&◌, List, position, Option, Some, None, is_some, option_map, bytes_eq, string_bytes}
 use Rattle.er_event.specs.Span.{Span}
+use Rattle.er_rules.specs.Patterns.{pattern_takes}
 use Rattle.er_rules.specs.declared.rules.Rule.{Rule}
-use Rattle.er_rules.specs.declared.rules.Rule.TheVariants.{Site, Words}
+use Rattle.er_rules.specs.declared.rules.Rule.TheVariants.{Site, Sites, Words}
 use Rattle.er_rules.specs.declared.rules.WordSpan.{WordSpan}
 
--- what a rule aims at: the site of this name or the missing site, or the words of a run or none
+-- what a rule aims at: the site of this name or the missing site, the sites whose names a pattern takes, or the words of a run or none
 pub data Target : Type 0 where
   AtSite : (name : Option (List ℕ)) → Target
+  AtSites : (pattern : List ℕ) → Target
   AtWords : (words : Option Span) → Target
 
 abbrev pub span_of : WordSpan → Span
@@ -15,6 +17,7 @@ span_of words = record { first = words.first; last = words.last }
 
 abbrev pub target_of : Rule → Target
 target_of (Site name) = AtSite (option_map string_bytes name)
+target_of (Sites pattern) = AtSites (string_bytes pattern)
 target_of (Words words) = AtWords (option_map span_of words)
 
 -- the names of two sites are equal, or both are the missing site
@@ -24,6 +27,11 @@ same_site None (Some other) = false
 same_site (Some name) None = false
 same_site (Some name) (Some other) = bytes_eq name other
 
+-- the site has a name, and the pattern takes it
+abbrev pub takes_name : List ℕ → Option (List ℕ) → Bool
+takes_name pattern None = false
+takes_name pattern (Some name) = pattern_takes pattern name
+
 -- the word is one of the run
 abbrev pub is_among : Option Span → ℕ → Bool
 is_among None word = false
@@ -32,12 +40,14 @@ is_among (Some s) word = nat_le s.first word && nat_le word s.last
 -- whether a rule takes a race of an access at the site to the word
 abbrev pub takes : Target → Option (List ℕ) → ℕ → Bool
 takes (AtSite name) site word = same_site name site
+takes (AtSites pattern) site word = takes_name pattern site
 takes (AtWords words) site word = is_among words word
 
--- whether a rule takes a race of a reuse, at the site, of the words from lo to hi: it is of that site, which isn't missing, or its words
--- have them all
+-- whether a rule takes a race of a reuse, at the site, of the words from lo to hi: it is of that site, which isn't missing, or takes its
+-- name, or its words have them all
 abbrev pub takes_reuse : Target → Option (List ℕ) → ℕ → ℕ → Bool
 takes_reuse (AtSite name) site lo hi = is_some name && same_site name site
+takes_reuse (AtSites pattern) site lo hi = takes_name pattern site
 takes_reuse (AtWords words) site lo hi = is_among words lo && is_among words hi
 
 -- the place of the first rule that takes a race of an access

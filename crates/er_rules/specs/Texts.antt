@@ -1,15 +1,16 @@
--- The grammar of suppression texts, and the fault of a text that is none. It speaks of whole lines, and knows no reading.
-use Rattle.std.specs.Prelude.{◌≡◌, ℕ, ◌+◌, ◌^◌, ◌<◌, ◌≤◌, ◌||◌, ◌==◌, Bool, true, not, List, [], ◌∷◌, Option, Some, None, Result, Ok, Err, length, drop, filter, nat_lt, nat_le, codes, if◌then◌else◌}
+-- The grammar of suppression texts, in two editions, and the fault of a text that is none. It speaks of whole lines, and knows no reading.
+use Rattle.std.specs.Prelude.{◌≡◌, ◌⊎◌, ℕ, ◌+◌, ◌^◌, ◌<◌, ◌≤◌, ◌&&◌, ◌||◌, ◌==◌, Bool, true, false, not, List, [], ◌∷◌, Option, Some, None, Result, Ok, Err, length, drop, filter, nat_lt, nat_le, codes, if◌then◌else◌}
 use Rattle.std.specs.List.{AllByRecursion}
 use Rattle.std.specs.Str.{bytes_eq}
-use Rattle.er_rules.specs.Rules.{Target, AtSite, AtWords, targets_of}
+use Rattle.er_rules.specs.Rules.{Target, AtSite, AtSites, AtWords, targets_of}
 use Rattle.er_rules.specs.declared.rules.Suppressions.{Suppressions}
 use Rattle.er_lines.specs.declared.faults.TextKind.{TextKind}
 use Rattle.er_lines.specs.declared.faults.TextKind.TheVariants.{BadName, MissingOperand, BadVerb, ExtraOperand, BadNumber, AddressOutOfRange}
 use Rattle.er_lines.specs.declared.faults.TextFault.{TextFault}
 use Rattle.er_lines.specs.declared.faults.ReadFault.{ReadFault}
 use Rattle.er_lines.specs.declared.faults.ReadFault.TheVariants as fault
-use Rattle.er_lines.specs.Lines.{Placed, placed, has_content, words, word_at}
+use Rattle.er_lines.specs.Lines.{Placed, placed, has_bytes, has_content, words, word_at}
+use Rattle.er_rules.specs.Patterns.{has_star}
 use Rattle.er_lines.specs.FirstFault.{IsPlain, IsFirstFaulty}
 use Rattle.er_lines.specs.Number.{number_of, number_at, is_number_at}
 use Rattle.er_lines.specs.Naming.{is_site_name}
@@ -19,21 +20,52 @@ use Rattle.er_event.specs.Span.{Span, span_of_bytes}
 abbrev pub run_of : ℕ → ℕ → Option Span
 run_of address size = if size == 0 then None else Some (span_of_bytes address size)
 
--- the words that write a rule: a site as in a trace text 3, which has the sites of the others too, of which `-` is none, or an address and a
--- size in bytes
-abbrev pub IsRule : List (List ℕ) → Target → Type 0
-IsRule words (AtSite site) =
-    (name : List ℕ) × (words ≡ codes "site" ∷ name ∷ []) × (is_site_name name ≡ true) × (site ≡ (if bytes_eq name (codes "-") then None else Some name))
-IsRule words (AtWords run) =
+-- what a site of a rule aims at: `-` is the missing site, and in the second edition a name with a star is a pattern
+abbrev pub site_target : Bool → List ℕ → Target
+site_target is_second name =
+    if bytes_eq name (codes "-") then AtSite None
+    else if is_second && has_star name then AtSites name
+    else AtSite (Some name)
+
+-- the words that write a rule of sites: a site as in a trace text 3, which has the sites of the others too
+abbrev pub IsSiteRule : Bool → List (List ℕ) → Target → Type 0
+IsSiteRule is_second words target = (name : List ℕ) × (words ≡ codes "site" ∷ name ∷ []) × (is_site_name name ≡ true) × (target ≡ site_target is_second name)
+
+-- those that write a rule of words: an address and a size in bytes
+abbrev pub IsRunRule : List (List ℕ) → Target → Type 0
+IsRunRule words target =
     (address size : List ℕ) × (a n : ℕ) × (words ≡ codes "words" ∷ address ∷ size ∷ [])
-    × (number_of address ≡ Some a) × (number_of size ≡ Some n) × (a < 2 ^ 48) × (a + n ≤ 2 ^ 48) × (run ≡ run_of a n)
+    × (number_of address ≡ Some a) × (number_of size ≡ Some n) × (a < 2 ^ 48) × (a + n ≤ 2 ^ 48) × (target ≡ AtWords (run_of a n))
+
+-- the words that write a rule
+abbrev pub IsRule : Bool → List (List ℕ) → Target → Type 0
+IsRule is_second words target = IsSiteRule is_second words target ⊎ IsRunRule words target
 
 -- lines and the rules that they write, one for one
-abbrev pub AllRule : List Placed → List Target → Type 0
-AllRule [] [] = Unit {0}
-AllRule (p ∷ ps) (t ∷ ts) = IsRule (words p.line.bytes) t × AllRule ps ts
-AllRule [] (t ∷ ts) = ⊥
-AllRule (p ∷ ps) [] = ⊥
+abbrev pub AllRule : Bool → List Placed → List Target → Type 0
+AllRule is_second [] [] = Unit {0}
+AllRule is_second (p ∷ ps) (t ∷ ts) = IsRule is_second (words p.line.bytes) t × AllRule is_second ps ts
+AllRule is_second [] (t ∷ ts) = ⊥
+AllRule is_second (p ∷ ps) [] = ⊥
+
+-- the words `eraser suppressions 2`
+abbrev pub is_header : List (List ℕ) → Bool
+is_header words =
+    bytes_eq (word_at 0 words) (codes "eraser") && bytes_eq (word_at 1 words) (codes "suppressions") && bytes_eq (word_at 2 words) (codes "2")
+    && not (has_bytes (word_at 3 words))
+
+-- of lines with content, whether the first is the header of the second edition, and those behind it or else all
+abbrev pub has_header : List Placed → Bool
+has_header [] = false
+has_header (p ∷ ps) = is_header (words p.line.bytes)
+
+abbrev pub behind_header : List Placed → List Placed
+behind_header [] = []
+behind_header (p ∷ ps) = if is_header (words p.line.bytes) then ps else p ∷ ps
+
+-- lines with content and the rules that they write
+abbrev pub AreRules : List Placed → List Target → Type 0
+AreRules lines targets = AllRule (has_header lines) (behind_header lines) targets
 
 abbrev pub site_kinds : List (List ℕ) → List (Bool × TextKind)
 site_kinds operands =
@@ -52,22 +84,23 @@ rule_kinds words =
     else if bytes_eq (word_at 0 words) (codes "words") then run_kinds (drop 1 words)
     else (true, BadVerb) ∷ []
 
--- the faults of what a line says. It doesn't depend on other lines
-abbrev pub rule_content_kinds : Unit {0} → Placed → List (Bool × TextKind)
-rule_content_kinds nothing p = if has_content p then rule_kinds (words p.line.bytes) else []
+-- the faults of what a line says, where a line in front of it has content or none has: the first one may be the header
+abbrev pub rule_content_kinds : Bool → Placed → List (Bool × TextKind)
+rule_content_kinds has_begun p =
+    if has_content p && (has_begun || not (is_header (words p.line.bytes))) then rule_kinds (words p.line.bytes) else []
 
-abbrev pub still_nothing : Unit {0} → Placed → Unit {0}
-still_nothing nothing p = nothing
+abbrev pub begins_at : Bool → Placed → Bool
+begins_at has_begun p = has_begun || has_content p
 
 -- the fault of a text
 abbrev pub IsRulesFault : List ℕ → ℕ → TextFault → Type 0
-IsRulesFault text limit f = IsFirstFaulty limit rule_content_kinds still_nothing tt (placed text) f
+IsRulesFault text limit f = IsFirstFaulty limit rule_content_kinds begins_at false (placed text) f
 
--- a text writes these rules: it is in its limits, and its lines with content are the rules in order
+-- a text writes these rules: it is in its limits, and its lines with content are the rules in order, behind the header of the second edition if it has one
 pub record IsRules (text : List ℕ) (limit : ℕ) (targets : List Target) : Type 0 where
   pub short : length text ≤ limit
   pub plain : AllByRecursion IsPlain (placed text)
-  pub rules : AllRule (filter has_content (placed text)) targets
+  pub rules : AreRules (filter has_content (placed text)) targets
 
 -- what is told of a text: its rules, or its fault, unless memory or the reader failed
 abbrev pub TellsRules : List ℕ → ℕ → Result Suppressions ReadFault → Type 0

@@ -5,10 +5,11 @@ ghost use Rattle.std.specs.Option.{option_or};
 ghost use Rattle.std.specs.BTreeMap.{get_by_text};
 ghost use Rattle.er_rules.specs.declared.index.Entry.{Entry};
 ghost use Rattle.er_rules.specs.Targets.{span_of, target_of};
-ghost use Rattle.er_rules.specs.Inner.Index.{least_of, first_of, has_both, is_of_site, is_of_words};
+ghost use Rattle.er_rules.specs.Inner.Index.{least_of, first_of, first_taking, has_both, is_of_pattern, is_of_site, is_of_words};
 ghost use Rattle.er_rules.specs.Inner.Reach.{end_at};
 
 use crate::Put;
+use crate::patterns::pattern_takes;
 use crate::reach::Reach;
 use crate::rules::{Rule, WordSpan};
 use er_event::Word;
@@ -114,29 +115,51 @@ fn push_name(named: &mut BTreeMap<String, usize>, name: &String, rule: usize) ->
     Ok(())
 }
 
+/// A rule of the sites whose names a pattern takes.
+#[derive(Drop)]
+struct Pattern {
+    bytes: String,
+    rule: usize,
+}
+
+/// The first rule of a pattern that takes the name of a site.
+fn first_taking(patterns: &[Pattern], name: &[u8]) -> Option<usize>
+    ensures { result ≡ first_taking patterns.now (Some name.now) }
+{
+    for pattern in patterns {
+        if pattern_takes(pattern.bytes.as_bytes(), name) {
+            return Some(pattern.rule);
+        }
+    }
+    None
+}
+
 /// Which rule is the first to take a race, by its site and its words. The time of a look-up grows with the square of the logarithm of the number
-/// of rules, whatever the rules are.
+/// of rules, whatever the rules are, and with the number of patterns in front of the first one that takes the site.
 #[derive(Drop)]
 pub(crate) struct RuleIndex {
     /// The first rule of each site.
     named: BTreeMap<String, usize>,
     /// The first rule of the missing site.
     missing: Option<usize>,
+    patterns: Vec<Pattern>,
     words: WordIndex,
     alloc: Global,
 }
 
 impl RuleIndex {
-    ghost use Rattle.er_rules.specs.Inner.Rules.{rule_of_site, rule_of_words};
+    ghost use Rattle.er_rules.specs.Inner.Rules.{rule_of_site, rule_of_pattern, rule_of_words};
 
     /// No rule takes a race.
     pub(crate) fn new(alloc: Global) -> RuleIndex
         ensures sites { (site : Option (List ℕ)) → rule_of_site result site ≡ None }
+        ensures patterns { (site : Option (List ℕ)) → rule_of_pattern result site ≡ None }
         ensures words { (lo hi : ℕ) → rule_of_words result lo hi ≡ None }
     {
         RuleIndex {
             named: BTreeMap::new(alloc),
             missing: None,
+            patterns: Vec::new(alloc),
             words: WordIndex::new(alloc),
             alloc,
         }
@@ -145,8 +168,10 @@ impl RuleIndex {
     /// Adds a rule that comes after all others.
     pub(crate) fn push(&mut self, rule: &Rule, number: usize) -> Put
         ensures sites { OnOk result ((site : Option (List ℕ)) → rule_of_site self.new site ≡ option_or (rule_of_site self.old site) (cond (is_of_site (target_of rule.now) site) (Some number) None)) }
+        ensures patterns { OnOk result ((site : Option (List ℕ)) → rule_of_pattern self.new site ≡ option_or (rule_of_pattern self.old site) (cond (is_of_pattern (target_of rule.now) site) (Some number) None)) }
         ensures words { OnOk result ((lo hi : ℕ) → rule_of_words self.new lo hi ≡ option_or (rule_of_words self.old lo hi) (cond (is_of_words (target_of rule.now) lo hi) (Some number) None)) }
         ensures err_sites { OnErr result ((site : Option (List ℕ)) → rule_of_site self.new site ≡ rule_of_site self.old site) }
+        ensures err_patterns { OnErr result ((site : Option (List ℕ)) → rule_of_pattern self.new site ≡ rule_of_pattern self.old site) }
         ensures err_words { OnErr result ((lo hi : ℕ) → rule_of_words self.new lo hi ≡ rule_of_words self.old lo hi) }
     {
         match rule {
@@ -155,18 +180,30 @@ impl RuleIndex {
                 self.missing = self.missing.or(Some(number));
                 Ok(())
             }
+            Rule::Sites(pattern) => {
+                self.patterns.reserve(1)?;
+                let bytes = pattern.clone()?;
+                self.patterns.push_reserved(Pattern {
+                    bytes,
+                    rule: number,
+                });
+                Ok(())
+            }
             Rule::Words(Some(words)) => self.words.push(self.alloc, *words, number),
             Rule::Words(None) => Ok(()),
         }
     }
 
-    /// The first rule of the site of this name or of the missing one, or whose words have both of these.
+    /// The first rule of the site of this name or of the missing one, or of a pattern that takes the name, or whose words have both of these.
     pub(crate) fn rule_of(&self, site: Option<&str>, lo: Word, hi: Word) -> Option<usize>
-        ensures { result ≡ least_of (rule_of_site self.now (option_copied site.entry)) (rule_of_words self.now lo hi) }
+        ensures { result ≡ least_of (least_of (rule_of_site self.now (option_copied site.entry)) (rule_of_pattern self.now (option_copied site.entry))) (rule_of_words self.now lo hi) }
     {
         let of_words = self.of_words(lo, hi);
         match site {
-            Some(name) => lesser(self.named.get(name).copied(), of_words),
+            Some(name) => {
+                let of_pattern = first_taking(&self.patterns, name.as_bytes());
+                lesser(lesser(self.named.get(name).copied(), of_pattern), of_words)
+            }
             None => lesser(self.missing, of_words),
         }
     }

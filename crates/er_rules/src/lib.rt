@@ -1,12 +1,12 @@
 //! Rules that keep races out of a report, and the texts that write them.
 //!
 //! Begin with [`Suppressions`], a list of rules in order. A [`Rule`] takes races by the site of the access or by its word, and the
-//! first rule that takes a race is the one that counts it. Sites go by their names, since rules are written in another text than
-//! the trace is. [`read_suppressions`] reads them from a text.
+//! first rule that takes a race is the one that counts it. Sites go by their names, or by patterns of names, since rules are written in another
+//! text than the trace is. [`read_suppressions`] reads them from a text of either edition.
 //!
 //! What it promises, by the names of clauses: the rule that is found is the first that takes the race, as the definitions say
 //! (`matching_rule`), and a push that found no memory changed nothing (`err`). Sites are looked up in a map, and words in a binary indexed tree
-//! of how far the words of rules reach, so that many rules cost little more than a few. A text is its rules or has a fault, by its grammar
+//! of how far the words of rules reach, so that many rules cost little more than a few. Patterns are tried one after another. A text is its rules or has a fault, by its grammar
 //! (`told`, `rules_or_fault`).
 //!
 //! ```
@@ -25,6 +25,7 @@ pub use texts::read_suppressions;
 
 mod index;
 mod laws;
+mod patterns;
 mod reach;
 mod rules;
 mod texts;

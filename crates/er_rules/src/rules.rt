@@ -2,8 +2,8 @@
 ghost use Rattle.std.specs.Prelude.{◌≡◌, ◌<◌, ◌++◌, ◌↔◌, ℕ, List, Option, map, IsTrue, ◌∷◌, [], option_copied, length, position, IfSome, Some, OnOk, OnErr};
 ghost use Rattle.std.proofs.Props.{props};
 ghost use Rattle.er_rules.specs.Targets.{matching_rule, matching_reuse_rule, target_of, span_of, is_among};
-ghost use Rattle.er_rules.specs.Inner.Index.{is_of_site, is_of_words};
-ghost use Rattle.er_rules.specs.Inner.Rules.{rule_of_site, rule_of_words};
+ghost use Rattle.er_rules.specs.Inner.Index.{is_of_pattern, is_of_site, is_of_words};
+ghost use Rattle.er_rules.specs.Inner.Rules.{rule_of_pattern, rule_of_site, rule_of_words};
 
 use crate::Put;
 use crate::index::RuleIndex;
@@ -31,6 +31,8 @@ impl WordSpan {
 pub enum Rule {
     /// Those whose access is at the site of this name, or at the missing site.
     Site(Option<String>),
+    /// Those at a site whose name this pattern takes: a star stands for any run of bytes, and every other byte for itself.
+    Sites(String),
     /// Those at one of these words. There are none in a run of no bytes.
     Words(Option<WordSpan>),
 }
@@ -43,6 +45,7 @@ pub struct Suppressions {
     #[derive_where(skip)]
     index: RuleIndex,
     ghost by_site: { (site : Option (List ℕ)) → rule_of_site index site ≡ position (λ target. is_of_site target site) (map target_of rules.items) } by { Prim.hlevel props },
+    ghost by_pattern: { (site : Option (List ℕ)) → rule_of_pattern index site ≡ position (λ target. is_of_pattern target site) (map target_of rules.items) } by { Prim.hlevel props },
     ghost by_words: { (lo hi : ℕ) → rule_of_words index lo hi ≡ position (λ target. is_of_words target lo hi) (map target_of rules.items) } by { Prim.hlevel props },
 }
 

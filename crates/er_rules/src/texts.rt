@@ -1,15 +1,16 @@
 //! The texts of rules, line by line.
-ghost use Rattle.std.specs.Prelude.{◌≡◌, ◌+◌, ◌^◌, ◌<◌, ◌≤◌, IfOk, IfSome, IsErrOf, true, false};
+ghost use Rattle.std.specs.Prelude.{◌≡◌, ◌+◌, ◌^◌, ◌<◌, ◌≤◌, IfOk, IfSome, IsErrOf, true, false, not, ◌&&◌};
 ghost use Rattle.er_device.specs.Device.{inner_of, has_failed, taken_of};
 ghost use Rattle.er_lines.specs.Faults.{HasFailedBy};
 ghost use Rattle.er_lines.specs.Lending.{taken_by, lines_left};
 ghost use Rattle.er_lines.specs.Lines.{bytes_past_limit};
 ghost use Rattle.er_lines.specs.Reading.{Reads, Turns};
-ghost use Rattle.er_rules.specs.Inner.RuleLines.{GivesRun, GivesRule, site_rule_in, long_run_in, run_rule_in, rule_in, add_line, plain_rule_at, rule_view};
+ghost use Rattle.er_rules.specs.Inner.RuleLines.{GivesRun, GivesRule, has_begun, header_in, site_rule_in, long_run_in, run_rule_in, rule_in, add_line, plain_rule_at, rule_view};
 ghost use Rattle.er_rules.specs.Rules.{target_of, targets_of};
 ghost use Rattle.er_rules.specs.Texts.{TellsRules};
 
 use crate::Done;
+use crate::patterns::STAR;
 use crate::rules::{Rule, Suppressions, WordSpan};
 use er_device::Device;
 use er_event::Word;
@@ -26,7 +27,8 @@ const WINDOW_BYTES: usize = 65_536;
 /// Reads a suppression text to its end, or to its first faulty line, in whatever pieces it comes.
 ///
 /// Each line that isn't blank or a comment is a rule: `site NAME`, of which `-` is the missing site, or `words ADDRESS SIZE`, the
-/// size in bytes. A line of a race in the report names its site and its address as they are written here.
+/// size in bytes. A line of a race in the report names its site and its address as they are written here. The first of these lines may be
+/// `eraser suppressions 2`. Then a site with a star is a pattern of names.
 ///
 /// The text has at most `byte_limit` bytes, and the limit is at most 2^62. What follows a faulty line may or may not have been taken
 /// from the reader. No memory is kept but that of the rules and a window of 65,536 bytes.
@@ -45,8 +47,9 @@ pub fn read_suppressions<R: Read>(
     ensures taken { taken_of reader.new ≤ taken_of reader.old + byte_limit + bytes_past_limit }
 {
     let mut lines = LineReader::new(alloc, byte_limit, WINDOW_BYTES)?;
+    let mut is_second = false;
     let mut rules = Suppressions::new(alloc);
-    while next_rule(alloc, &mut lines, reader, &mut rules)? {}
+    while next_rule(alloc, &mut lines, reader, &mut is_second, &mut rules)? {}
     Ok(rules)
 }
 
@@ -54,12 +57,13 @@ pub fn read_suppressions<R: Read>(
 #[derive(Clone, Copy)]
 enum LineRule<'a> {
     Site(Option<&'a str>),
+    Sites(&'a str),
     Words(Option<WordSpan>),
 }
 
-/// The rule of a site, which may be one of any trace. `-` names none.
-fn site_rule<'a>(first: &'a [u8], second: &[u8]) -> Result<LineRule<'a>, TextKind>
-    ensures { GivesRule result (site_rule_in first.now second.now) }
+/// The rule of a site, which may be one of any trace, or of a pattern in a text of the second edition. `-` names no site.
+fn site_rule<'a>(is_second: bool, first: &'a [u8], second: &[u8]) -> Result<LineRule<'a>, TextKind>
+    ensures { GivesRule result (site_rule_in is_second first.now second.now) }
 {
     if first.is_empty() {
         return Err(TextKind::MissingOperand);
@@ -70,8 +74,14 @@ fn site_rule<'a>(first: &'a [u8], second: &[u8]) -> Result<LineRule<'a>, TextKin
     if !is_site_name(first) {
         return Err(TextKind::BadName);
     }
-    let is_named = first != b"-".as_slice();
-    Ok(LineRule::Site(is_named.then(|| site_text(first))))
+    if first == b"-".as_slice() {
+        return Ok(LineRule::Site(None));
+    }
+    let name = site_text(first);
+    if is_second && first.contains(&STAR) {
+        return Ok(LineRule::Sites(name));
+    }
+    Ok(LineRule::Site(Some(name)))
 }
 
 /// The words that some bytes of memory touch, of which there may be none.
@@ -105,11 +115,11 @@ fn run_rule<'a>(first: &[u8], second: &[u8], third: &[u8]) -> Result<LineRule<'a
 }
 
 /// The rule that these words write, or the first fault among them.
-fn rule_of<'a>(words: &Words<'a>) -> Result<LineRule<'a>, TextKind>
-    ensures { GivesRule result (rule_in words.now.first.now words.now.second.now words.now.third.now words.now.fourth.now) }
+fn rule_of<'a>(is_second: bool, words: &Words<'a>) -> Result<LineRule<'a>, TextKind>
+    ensures { GivesRule result (rule_in is_second words.now.first.now words.now.second.now words.now.third.now words.now.fourth.now) }
 {
     if words.first == b"site".as_slice() {
-        site_rule(words.second, words.third)
+        site_rule(is_second, words.second, words.third)
     } else if words.first == b"words".as_slice() {
         run_rule(words.second, words.third, words.fourth)
     } else {
@@ -124,13 +134,37 @@ fn owned(alloc: Global, rule: &LineRule<'_>) -> Result<Rule, AllocError>
     match *rule {
         LineRule::Site(Some(name)) => Ok(Rule::Site(Some(String::from_str(alloc, name)?))),
         LineRule::Site(None) => Ok(Rule::Site(None)),
+        LineRule::Sites(pattern) => Ok(Rule::Sites(String::from_str(alloc, pattern)?)),
         LineRule::Words(words) => Ok(Rule::Words(words)),
     }
 }
 
+/// Whether these words are the header of the second edition.
+fn is_header(words: &Words<'_>) -> bool
+    ensures { result ≡ header_in words.now.first.now words.now.second.now words.now.third.now words.now.fourth.now }
+{
+    words.first == b"eraser".as_slice()
+        && words.second == b"suppressions".as_slice()
+        && words.third == b"2".as_slice()
+        && words.fourth.is_empty()
+}
+
+/// Whether they are, and nothing was read before them.
+fn is_first_header(is_second: bool, rules: &Suppressions, words: &Words<'_>) -> bool
+    ensures { result ≡ (not (has_begun (is_second, targets_of rules.now)) && header_in words.now.first.now words.now.second.now words.now.third.now words.now.fourth.now) }
+{
+    !is_second && rules.is_empty() && is_header(words)
+}
+
 /// Adds the rule of a line in the limits, if it has one.
-fn add_line(alloc: Global, rules: &mut Suppressions, line: u64, bytes: &[u8]) -> Done
-    ensures added { Reads line (targets_of rules.new) result (plain_rule_at (targets_of rules.old) bytes.now) }
+fn add_line(
+    alloc: Global,
+    is_second: &mut bool,
+    rules: &mut Suppressions,
+    line: u64,
+    bytes: &[u8],
+) -> Done
+    ensures added { Reads line (is_second.new, targets_of rules.new) result (plain_rule_at (is_second.old, targets_of rules.old) bytes.now) }
     ensures failed { IsErrOf result ReadFault.Read → ⊥ }
 {
     if !is_ascii(bytes) {
@@ -140,7 +174,11 @@ fn add_line(alloc: Global, rules: &mut Suppressions, line: u64, bytes: &[u8]) ->
     if !says_something(words.first, bytes) {
         return Ok(());
     }
-    match rule_of(&words) {
+    if is_first_header(*is_second, rules, &words) {
+        *is_second = true;
+        return Ok(());
+    }
+    match rule_of(*is_second, &words) {
         Err(kind) => Err(fault_at(line, kind)),
         Ok(rule) => {
             rules.push(owned(alloc, &rule)?)?;
@@ -154,11 +192,12 @@ fn next_rule<R: Read>(
     alloc: Global,
     lines: &mut LineReader,
     reader: &mut Device<R>,
+    is_second: &mut bool,
     rules: &mut Suppressions,
 ) -> Result<bool, ReadFault>
     requires open { has_failed reader.old ≡ false }
     ensures turn { Turns lines.old.limit add_line (lines_left lines.old (R.remaining (inner_of reader.old)))
-        (lines_left lines.new (R.remaining (inner_of reader.new))) (targets_of rules.old) (targets_of rules.new) result }
+        (lines_left lines.new (R.remaining (inner_of reader.new))) (is_second.old, targets_of rules.old) (is_second.new, targets_of rules.new) result }
     ensures limit { lines.new.limit ≡ lines.old.limit }
     ensures more { IfOk result (λ more. more ≡ true → lines.old.start < lines.new.start) }
     ensures within { lines.new.start ≤ lines.new.limit }
@@ -171,7 +210,7 @@ fn next_rule<R: Read>(
     };
     let line = lines.number();
     let bytes = lines.bytes(front);
-    add_line(alloc, rules, line, bytes)?;
+    add_line(alloc, is_second, rules, line, bytes)?;
     lines.pass(front);
     Ok(true)
 }

@@ -1,31 +1,31 @@
 -- The rules of lines, as the code finds them out. The grammar of suppression texts stands apart from it, in `Rules`.
-use Rattle.std.specs.Prelude.{◌≡◌, ℕ, ◌+◌, ◌^◌, ◌||◌, ◌++◌, not, Bool, nat_le, nat_lt, List, [], ◌∷◌, Option, Some, None, Result, Ok, Err, codes, option_map, if◌then◌else◌}
+use Rattle.std.specs.Prelude.{◌≡◌, ℕ, ◌+◌, ◌^◌, ◌&&◌, ◌||◌, ◌++◌, not, Bool, true, false, nat_le, nat_lt, List, [], ◌∷◌, Option, Some, None, Result, Ok, Err, codes, option_map, if◌then◌else◌}
 use Rattle.std.specs.List.{list_all}
 use Rattle.std.specs.Str.{bytes_eq}
 use Rattle.er_event.specs.Span.{Span}
-use Rattle.er_rules.specs.Rules.{Target, AtSite, AtWords, span_of, targets_of}
+use Rattle.er_rules.specs.Rules.{Target, AtSite, AtSites, AtWords, span_of, targets_of}
 use Rattle.er_rules.specs.declared.rules.WordSpan.{WordSpan}
 use Rattle.er_rules.specs.declared.rules.Suppressions.{Suppressions}
 use Rattle.er_lines.specs.declared.faults.TextKind.{TextKind}
-use Rattle.er_rules.specs.Texts.{run_of}
+use Rattle.er_rules.specs.Texts.{is_header, run_of, site_target}
 use Rattle.er_lines.specs.Naming.{is_site_name}
 use Rattle.er_lines.specs.declared.faults.TextKind.TheVariants.{BadName, NotAscii, MissingOperand, BadVerb, ExtraOperand, AddressOutOfRange}
 use Rattle.er_lines.specs.declared.faults.TextFault.{TextFault}
 use Rattle.er_lines.specs.declared.faults.ReadFault.{ReadFault}
 use Rattle.er_lines.specs.declared.faults.ReadFault.TheVariants as fault
 use Rattle.er_rules.specs.declared.texts.LineRule.{LineRule}
-use Rattle.er_rules.specs.declared.texts.LineRule.TheVariants.{Site, Words}
+use Rattle.er_rules.specs.declared.texts.LineRule.TheVariants.{Site, Sites, Words}
 use Rattle.er_lines.specs.Lines.{Placed, placed, says_something, has_bytes, words, word_at, is_ascii}
 use Rattle.er_lines.specs.Words.{and_then, map_ok, number_in, seen_name, GivesBy}
 use Rattle.er_lines.specs.Reading.{read_lines}
 
--- the site that a word names, of which `-` is none
-abbrev pub site_in : List ℕ → Result (Option (List ℕ)) TextKind
-site_in word = if not (is_site_name word) then Err BadName else if bytes_eq word (codes "-") then Ok None else Ok (Some word)
+-- what a word for sites aims at
+abbrev pub site_in : Bool → List ℕ → Result Target TextKind
+site_in is_second word = if not (is_site_name word) then Err BadName else Ok (site_target is_second word)
 
-abbrev pub site_rule_in : List ℕ → List ℕ → Result Target TextKind
-site_rule_in first second =
-    if not (has_bytes first) then Err MissingOperand else if has_bytes second then Err ExtraOperand else map_ok AtSite (site_in first)
+abbrev pub site_rule_in : Bool → List ℕ → List ℕ → Result Target TextKind
+site_rule_in is_second first second =
+    if not (has_bytes first) then Err MissingOperand else if has_bytes second then Err ExtraOperand else site_in is_second first
 
 abbrev pub is_outside : ℕ → ℕ → Bool
 is_outside address size = nat_le (2 ^ 48) address || nat_lt (2 ^ 48) (address + size)
@@ -40,36 +40,56 @@ run_rule_in first second third =
     else and_then (number_in first) (λ a. and_then (number_in second) (λ n. map_ok AtWords (long_run_in a n)))
 
 -- the rule that four words write, of which those that are missing are empty
-abbrev pub rule_in : List ℕ → List ℕ → List ℕ → List ℕ → Result Target TextKind
-rule_in sort first second third =
-    if bytes_eq sort (codes "site") then site_rule_in first second
+abbrev pub rule_in : Bool → List ℕ → List ℕ → List ℕ → List ℕ → Result Target TextKind
+rule_in is_second sort first second third =
+    if bytes_eq sort (codes "site") then site_rule_in is_second first second
     else if bytes_eq sort (codes "words") then run_rule_in first second third
     else Err BadVerb
 
-abbrev pub rule_of : List (List ℕ) → Result Target TextKind
-rule_of words = rule_in (word_at 0 words) (word_at 1 words) (word_at 2 words) (word_at 3 words)
+abbrev pub rule_of : Bool → List (List ℕ) → Result Target TextKind
+rule_of is_second words = rule_in is_second (word_at 0 words) (word_at 1 words) (word_at 2 words) (word_at 3 words)
 
-abbrev pub with_rule : List Target → Target → List Target
-with_rule rules rule = rules ++ rule ∷ []
+-- the four words are a header
+abbrev pub header_in : List ℕ → List ℕ → List ℕ → List ℕ → Bool
+header_in first second third fourth = bytes_eq first (codes "eraser") && bytes_eq second (codes "suppressions") && bytes_eq third (codes "2") && not (has_bytes fourth)
 
-abbrev pub add_at : List Target → List ℕ → Result (List Target) TextKind
-add_at rules bytes = if says_something bytes then map_ok (with_rule rules) (rule_of (words bytes)) else Ok rules
+-- what was read so far: whether the text is of the second edition, and its rules
+abbrev pub ReadSoFar : Type 0
+ReadSoFar = Bool × List Target
+
+abbrev pub has_some : List Target → Bool
+has_some [] = false
+has_some (t ∷ ts) = true
+
+-- a header or a rule was read
+abbrev pub has_begun : ReadSoFar → Bool
+has_begun read = read.0 || has_some read.1
+
+abbrev pub with_rule : ReadSoFar → Target → ReadSoFar
+with_rule read rule = (read.0, read.1 ++ rule ∷ [])
+
+abbrev pub add_words : ReadSoFar → List (List ℕ) → Result ReadSoFar TextKind
+add_words read words = if not (has_begun read) && is_header words then Ok (true, read.1) else map_ok (with_rule read) (rule_of read.0 words)
+
+abbrev pub add_at : ReadSoFar → List ℕ → Result ReadSoFar TextKind
+add_at read bytes = if says_something bytes then add_words read (words bytes) else Ok read
 
 -- a line in the limits
-abbrev pub plain_rule_at : List Target → List ℕ → Result (List Target) TextKind
-plain_rule_at rules bytes = if not (list_all is_ascii bytes) then Err NotAscii else add_at rules bytes
+abbrev pub plain_rule_at : ReadSoFar → List ℕ → Result ReadSoFar TextKind
+plain_rule_at read bytes = if not (list_all is_ascii bytes) then Err NotAscii else add_at read bytes
 
 -- the rules so far, and that of one more line
-abbrev pub add_line : List Target → Placed → Result (List Target) TextKind
-add_line rules line = add_at rules line.line.bytes
+abbrev pub add_line : ReadSoFar → Placed → Result ReadSoFar TextKind
+add_line read line = add_at read line.line.bytes
 
 -- what a reading of a text gives
-abbrev pub rules_in : ℕ → List ℕ → Result (List Target) TextFault
-rules_in limit text = read_lines limit add_line (placed text) []
+abbrev pub rules_in : ℕ → List ℕ → Result ReadSoFar TextFault
+rules_in limit text = read_lines limit add_line (placed text) (false, [])
 
 -- the code's values, without where they lie in memory
 abbrev pub rule_view : LineRule → Target
 rule_view (Site name) = AtSite (seen_name name)
+rule_view (Sites pattern) = AtSites pattern.now
 rule_view (Words run) = AtWords (option_map span_of run)
 
 abbrev pub GivesRun : Result (Option WordSpan) TextKind → Result (Option Span) TextKind → Type 0
@@ -79,8 +99,8 @@ abbrev pub GivesRule : Result LineRule TextKind → Result Target TextKind → T
 GivesRule = GivesBy rule_view
 
 -- what a call returned is this outcome, unless memory or the reader failed
-abbrev pub IsRulesOutcome : Result (List Target) TextFault → Result Suppressions ReadFault → Type 0
-IsRulesOutcome outcome (Ok rules) = outcome ≡ Ok (targets_of rules)
+abbrev pub IsRulesOutcome : Result ReadSoFar TextFault → Result Suppressions ReadFault → Type 0
+IsRulesOutcome outcome (Ok rules) = (is_second : Bool) × (outcome ≡ Ok (is_second, targets_of rules))
 IsRulesOutcome outcome (Err (fault.Text f)) = outcome ≡ Err f
 IsRulesOutcome outcome (Err fault.Memory) = Unit {0}
 IsRulesOutcome outcome (Err fault.Read) = Unit {0}

@@ -8,7 +8,7 @@ use Rattle.er_rules.proofs.texts.read_suppressions.Given as goal
 
 abbrev pub invariant-loop-rules : goal.invariant-loop-rules
 invariant-loop-rules g l = record {
-  goes_on : Continues l.byte_limit add_line (lines_from 1 0 (g.R.Read.remaining (inner_of l.fn.reader))) (lines_left l.lines (g.R.Read.remaining (inner_of l.reader))) [] (targets_of l.rules);
+  goes_on : Continues l.byte_limit add_line (lines_from 1 0 (g.R.Read.remaining (inner_of l.fn.reader))) (lines_left l.lines (g.R.Read.remaining (inner_of l.reader))) (false, []) (l.is_second, targets_of l.rules);
   limit : l.lines.limit ≡ l.byte_limit;
   within : l.lines.start ≤ l.byte_limit;
   working : has_failed l.reader ≡ false;
