@@ -278,6 +278,16 @@ SUPPRESSED = [
          rules="# rules; site save.c:12; site -;  site\tnone; words x 4; words 0x1003 2; words 4096 0; words 0xfffffffffffc 4; "
          "words 0xffffffffffff 0; words 0 281474976710656"),
     told("comments_are_no_rules", "t1 write x; t2 write x", f"line 3: {RACE}", (2, 1, 0, 0), 1, rules="# c; \t; #"),
+    told("patterns", "; ".join(f"t1 write {word}; t2 write {word}" for word in (
+        "0x2000 src/vendor/zlib/a.c:7", "0x3000 src/vendor/", "0x4000 lib/list.h:12", "0x5000 aXbYc", "0x6000 abc", "0x7000 exact", "0x8000 acb", "0x9000 ab:b")),
+         "; ".join(f"suppression {rule + 1}: {count}" for rule, count in enumerate((2, 1, 2, 1, 1, 0, 1))), (16, 0, 8, 0),
+         rules="# known; eraser suppressions 2; site src/vendor/*; site *.h:*; site a*b*c; site exact; words 0x8000 4; site a*c*; site a*b"),
+    told("pattern_that_takes_no_longer_name", "t1 write x a.c:70; t2 write x a.c:70", "line 3: race: t2 write x at a.c:70, holds none; suppression 1: 0; suppression 2: 0",
+         (2, 1, 0, 0), 1, rules="eraser suppressions 2; site *.c:7; site *:0"),
+    told("pattern_takes_no_missing_site", "t1 write x S; t2 write x", f"line 3: {RACE}; suppression 1: 0", (2, 1, 0, 0), 1, rules="eraser suppressions 2; site *"),
+    told("stars_without_a_header", "t1 write x a*b; t2 write x a*b; t1 write 0x2000 a++b; t2 write 0x2000 a++b; end",
+         "line 5: race: t2 write 0x000000002000 at a++b, holds none; suppression 1: 1", (4, 1, 1, 0), 1, header=ORDERED, rules="site a*b"),
+    told("header_alone", "t1 write x; t2 write x", f"line 3: {RACE}", (2, 1, 0, 0), 1, rules="\teraser  suppressions 2 ; # c"),
     told("suppressions_of_all_words", "t1 write 0xffffffffffff; t2 write 0xffffffffffff", "suppression 1: 1", (2, 0, 1, 0), rules="words 0 281474976710656"),
 ]
 
@@ -342,6 +352,12 @@ FAULTY_RULES = [
     faulty_rules("rule_out_of_range", b"words 0xffffffffffff 2\n", 1, "address out of range"),
     faulty_rules("empty_rule_out_of_range", b"words 0x1000000000000 0\n", 1, "address out of range"),
     faulty_rules("rule_not_ascii", b"site a\nsite \x80\n", 2, "not ascii"),
+    faulty_rules("header_behind_a_rule", b"site a\neraser suppressions 2\n", 2, "bad verb"),
+    faulty_rules("second_header", b"eraser suppressions 2\neraser suppressions 2\n", 2, "bad verb"),
+    faulty_rules("header_of_a_later_edition", b"eraser suppressions 3\n", 1, "bad verb"),
+    faulty_rules("header_of_four_words", b"eraser suppressions 2 2\n", 1, "bad verb"),
+    faulty_rules("rule_of_a_later_kind", b"eraser suppressions 2\nframe main\n", 2, "bad verb"),
+    faulty_rules("bad_pattern", b"eraser suppressions 2\nsite " + b"*" * 129 + b"\n", 2, "bad name"),
     faulty_rules("rule_too_long", b"#" + b"a" * 1024 + b"\n", 1, "line too long"),
 ]
 

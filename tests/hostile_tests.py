@@ -46,6 +46,8 @@ TURNS, BYTES_OF_TURNS = 1_000_000, 16 << 20
 REUSES, BYTES_OF_REUSES = 40_000, 1 << 30
 # The reuses of the shorter text, and half as many as its rules.
 FREED = 2000
+# Races that are compared with a pattern, and what one comparison may take for each byte of the name and each of the pattern.
+PATTERNED, MOST_FOR_TWO_BYTES = 500, 16
 # Lines that no reason names.
 SEEN_ONCE = 20_000
 # What is replayed of each kind: how many there are in the shorter text, and by which options.
@@ -194,6 +196,24 @@ def rules(record):
     record("hostile: rules of words: instructions", counts[1] <= MOST_TIMES * longer * counts[0], f"{counts}, {counts[1] / counts[0] / longer:.2f} times as many")
 
 
+def patterns(record):
+    """A race is compared with a pattern in time in proportion to the product of both lengths at most, wherever the stars stand."""
+    site = "a" * 128
+    text = "eraser trace 1\n" + "".join(f"t1 write {4 * word} {site}\nt2 write {4 * word} {site}\n" for word in range(PATTERNED))
+    with tempfile.TemporaryDirectory() as folder:
+        chosen = pathlib.Path(folder) / "hostile.rules"
+        chosen.write_text("eraser suppressions 2\nsite b\n")
+        without = instructions(["--suppress", chosen, "-"], text.encode())
+        for pattern in ("*a" * 63 + "b", "*" + "a" * 62 + "b*a", "*" * 127 + "b", "a*" * 64):
+            chosen.write_text(f"eraser suppressions 2\nsite {pattern}\n")
+            taken = PATTERNED if pattern == "a*" * 64 else 0
+            found = run(["--suppress", chosen, "-"], text.encode())
+            record(f"hostile: pattern {pattern[:6]}", b"suppressed %d," % taken in found[0] and found[2] == (taken == 0), f"{found}"[-300:])
+            more = instructions(["--suppress", chosen, "-"], text.encode()) - without
+            most = MOST_FOR_TWO_BYTES * PATTERNED * len(site) * len(pattern)
+            record(f"hostile: pattern {pattern[:6]}: instructions", more <= most, f"{more} more, and at most {most}")
+
+
 def turns(record):
     """Many threads read a word in no order, and then two of them in turn: what is kept of them doesn't grow with their reads."""
     text = b"eraser trace 1\n" + b"".join(b"t%d read 0x1000\n" % thread for thread in range(1, 41)) + b"t1 read 0x1000\nt2 read 0x1000\n" * TURNS
@@ -238,6 +258,7 @@ def tests(record, preloaded):
     costs(record)
     barriers(record)
     rules(record)
+    patterns(record)
     turns(record)
     long_reuses(record)
     second_looks(record)

@@ -8,6 +8,7 @@ reference.py rules SEED            prints a short random text of suppressions, w
 It shares no code with the program, so that a misreading of the documents shows as a difference.
 """
 
+import collections
 import random
 import re
 import sys
@@ -173,8 +174,17 @@ def order_note_of(text, unordered, hints=False):
     return f"note: this trace records no order: record it with --order; {unordered} unordered accesses may be ordered\n" if is_noted else ""
 
 
-def rule_of(line, words):
-    """A site, or the first and the last word of a run of bytes, which are the wrong way round where it is of no byte."""
+class Pattern(collections.namedtuple("Pattern", "text")):
+    """A pattern of sites' names: a star stands for any run of bytes."""
+
+    def takes(self, site):
+        pieces = (re.escape(piece) for piece in self.text.split(b"*"))
+        return site != b"-" and re.fullmatch(b".*".join(pieces), site, re.DOTALL) is not None
+
+
+def rule_of(line, words, is_second):
+    """A site, or in the second edition a pattern of sites, or the first and the last word of a run of bytes, which are the wrong way round where
+    it is of no byte."""
     wanted = {b"site": 1, b"words": 2}.get(words[0])
     if wanted is None:
         raise Fault(line, "bad verb")
@@ -184,7 +194,7 @@ def rule_of(line, words):
     if words[0] == b"site":
         if not is_site(operands[0], b"3"):
             raise Fault(line, "bad name")
-        return operands[0]
+        return Pattern(operands[0]) if is_second and b"*" in operands[0] else operands[0]
     address, size = number(operands[0]), number(operands[1])
     if address is None or size is None:
         raise Fault(line, "bad number")
@@ -194,10 +204,20 @@ def rule_of(line, words):
 
 
 def rules_of(text):
-    return [rule_of(at, words) for at, words in content_of(text) if words is not None]
+    rules, is_second = [], False
+    for at, words in content_of(text):
+        if words is None:
+            continue
+        if not rules and not is_second and words == [b"eraser", b"suppressions", b"2"]:
+            is_second = True
+        else:
+            rules.append(rule_of(at, words, is_second))
+    return rules
 
 
 def takes(rule, site, word):
+    if isinstance(rule, Pattern):
+        return rule.takes(site)
     return rule == site if isinstance(rule, bytes) else rule[0] <= word <= rule[1]
 
 
@@ -418,7 +438,10 @@ def random_rules(seed):
     lines = []
     for _ in range(dice.randrange(6)):
         address, size = dice.choice(["0x1000", "4100", "0x2000", "0xffffffffffff", "0"]), dice.choice(["0", "1", "4", "4097", "0x10000", "99999999"])
-        lines.append(dice.choice([f"site {dice.choice(['a.c:7', 'b/c.rs:12', '-', 'other', *WIDE_SITES])}", f"words {address} {size}", "", "# a comment"]))
+        site = dice.choice(["a.c:7", "b/c.rs:12", "-", "other", *WIDE_SITES, "*", "a.c:*", "*c*:*", "b*12", "*7*7"])
+        lines.append(dice.choice([f"site {site}", f"words {address} {size}", "", "# a comment"]))
+    if dice.randrange(2):
+        lines.insert(dice.choice([0, 0, 0, dice.randrange(len(lines) + 1)]), dice.choice(["eraser suppressions 2", " eraser\tsuppressions 2 ", "eraser suppressions 1"]))
     text = "\n".join(lines).encode() + dice.choice([b"", b"\n"])
     if dice.randrange(5) == 0:
         at = dice.randrange(len(text) + 1)

@@ -116,6 +116,8 @@ def results_of(document, places, trace):
 def rule_text(rule):
     if isinstance(rule, bytes):
         return f"site {rule.decode()}"
+    if isinstance(rule, reference.Pattern):
+        return f"site {rule.text.decode()}"
     first, last = rule
     return f"words 0x{4 * first:012x} {4 * (last + 1 - first)}" if first <= last else "words 0 0"
 
