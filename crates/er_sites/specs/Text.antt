@@ -222,7 +222,7 @@ plus_text (suc n) = codes "+" ++ decimal (suc n)
 unfoldable pub variable_text : Style → ℕ → Variable → List ℕ
 variable_text style word variable = codes " " ++ name_in style 72 variable.name.items ++ plus_text (4 * word - variable.extent.address) ++ codes ","
 
--- where the block was allocated, if that is known
+-- the end of what `block_text` begins, and where the block was allocated, if that is known
 abbrev pub from_text : Style → PlaceTable → Option ℕ → List ℕ
 from_text style table None = codes " bytes,"
 from_text style table (Some place) = codes " bytes allocated at " ++ name_in style 72 (call_name table place) ++ codes ","

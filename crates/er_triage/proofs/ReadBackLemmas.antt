@@ -1,5 +1,5 @@
 -- The lines that are written of known races are read as their rules: one line is a comment or a rule, and the lines of a text are read one by one.
-use Rattle.std.proofs.Common.{◌≡◌, ◌<◌, ◌≤◌, ◌+◌, ◌-◌, ◌*◌, ◌/◌, ◌%◌, ◌^◌, ◌∙◌, ◌&&◌, ◌==◌, ℕ, zero, suc, Bool, true, false, cond, not, nat_lt, nat_le, List, [], ◌∷◌, ◌++◌, length, map, flat_map, filter, get_or, Option, Some, None, All, codes, decimal, append_assoc, refl, sym, ap, subst, arith}
+use Rattle.std.proofs.Common.{◌≡◌, inl, inr, ◌<◌, ◌≤◌, ◌+◌, ◌-◌, ◌*◌, ◌/◌, ◌%◌, ◌^◌, ◌∙◌, ◌&&◌, ◌==◌, ℕ, zero, suc, Bool, true, false, cond, not, nat_lt, nat_le, List, [], ◌∷◌, ◌++◌, length, map, flat_map, filter, get_or, Option, Some, None, All, codes, decimal, append_assoc, refl, sym, ap, subst, arith}
 use Rattle.std.specs.Char.{digit_char, digit_value, is_digit}
 use Rattle.std.specs.List.{AllByRecursion, list_all}
 use Rattle.std.specs.Str.Parse.{digits_value, AllDigits}
@@ -19,12 +19,13 @@ use Rattle.er_event.specs.declared.steps.Kind.{Kind}
 use Rattle.er_event.specs.declared.steps.Kind.TheVariants.{Read, Write}
 use Rattle.er_print.specs.Printed.{address_text, bytes_between, kind_text, name_at}
 use Rattle.er_report.specs.Report.{site_name}
-use Rattle.er_rules.specs.Rules.{Target, AtSite, AtWords}
+use Rattle.er_rules.specs.Rules.{Target, AtSite, AtSites, AtWords}
 use Rattle.er_text.specs.Events.{run_of}
 use Rattle.er_lines.specs.FirstFault.{IsPlain}
 use Rattle.er_lines.specs.Lines.{Line, Placed, placed_from, lines_of, is_end, is_gap, is_ascii, is_comment, has_bytes, has_content, onto_line, says_something, word_at, words, width}
 use Rattle.er_lines.specs.Naming.{is_name, is_name_byte, is_site_name, is_site_byte}
 use Rattle.er_lines.specs.Number.{hex_digits, number_of, value_in}
+use Rattle.er_rules.proofs.RuleLaws.{first_edition}
 use Rattle.er_rules.specs.Texts.{AllRule, IsRule, IsRules}
 use Rattle.er_trace.specs.Names.{NameTable}
 use Rattle.er_sites.specs.System.{is_system_name}
@@ -143,7 +144,7 @@ no_end (x ∷ xs) rest all =
 
 -- lines that are read as these rules, wherever they stand
 abbrev AreRead : List Line → List Target → Type 0
-AreRead lines targets = (n s : ℕ) → AllByRecursion IsPlain (placed_from n s lines) × AllRule (filter has_content (placed_from n s lines)) targets
+AreRead lines targets = (n s : ℕ) → AllByRecursion IsPlain (placed_from n s lines) × AllRule false (filter has_content (placed_from n s lines)) targets
 
 abbrev ended_line : List ℕ → Line
 ended_line bytes = record { bytes = bytes; ended = true }
@@ -155,25 +156,25 @@ never false = refl
 -- a comment is no rule
 comment_read : (bytes : List ℕ) (lines : List Line) (targets : List Target) → IsPiece 1024 bytes → is_comment bytes ≡ true → AreRead lines targets → AreRead (ended_line bytes ∷ lines) targets
 comment_read bytes lines targets piece comment rest n s =
-    let more : AllByRecursion IsPlain (placed_from (n + 1) (s + width (ended_line bytes)) lines) × AllRule (filter has_content (placed_from (n + 1) (s + width (ended_line bytes)) lines)) targets =
+    let more : AllByRecursion IsPlain (placed_from (n + 1) (s + width (ended_line bytes)) lines) × AllRule false (filter has_content (placed_from (n + 1) (s + width (ended_line bytes)) lines)) targets =
     rest (n + 1) (s + width (ended_line bytes)) in
     let p : Placed = record { number = n; start = s; line = ended_line bytes } in
     let ps : List Placed = placed_from (n + 1) (s + width (ended_line bytes)) lines in
     let silent : says_something bytes ≡ false = ap (λ (c : Bool). has_bytes (word_at 0 (words bytes)) && not c) comment ∙ never (has_bytes (word_at 0 (words bytes))) in (
       ((piece.few, weaker is_printed is_ascii bytes printed_ascii piece.printed), more.0),
-      subst (λ (b : Bool). AllRule (cond b (p ∷ filter has_content ps) (filter has_content ps)) targets) (sym silent) more.1,
+      subst (λ (b : Bool). AllRule false (cond b (p ∷ filter has_content ps) (filter has_content ps)) targets) (sym silent) more.1,
     )
 
 -- and the line of a rule is that rule
-rule_read : (bytes : List ℕ) (target : Target) (lines : List Line) (targets : List Target) → IsPiece 1024 bytes → says_something bytes ≡ true → IsRule (words bytes) target
+rule_read : (bytes : List ℕ) (target : Target) (lines : List Line) (targets : List Target) → IsPiece 1024 bytes → says_something bytes ≡ true → IsRule false (words bytes) target
     → AreRead lines targets → AreRead (ended_line bytes ∷ lines) (target ∷ targets)
 rule_read bytes target lines targets piece speaks says rest n s =
-    let more : AllByRecursion IsPlain (placed_from (n + 1) (s + width (ended_line bytes)) lines) × AllRule (filter has_content (placed_from (n + 1) (s + width (ended_line bytes)) lines)) targets =
+    let more : AllByRecursion IsPlain (placed_from (n + 1) (s + width (ended_line bytes)) lines) × AllRule false (filter has_content (placed_from (n + 1) (s + width (ended_line bytes)) lines)) targets =
     rest (n + 1) (s + width (ended_line bytes)) in
     let p : Placed = record { number = n; start = s; line = ended_line bytes } in
     let ps : List Placed = placed_from (n + 1) (s + width (ended_line bytes)) lines in (
       ((piece.few, weaker is_printed is_ascii bytes printed_ascii piece.printed), more.0),
-      subst (λ (b : Bool). AllRule (cond b (p ∷ filter has_content ps) (filter has_content ps)) (target ∷ targets)) (sym speaks) (says, more.1),
+      subst (λ (b : Bool). AllRule false (cond b (p ∷ filter has_content ps) (filter has_content ps)) (target ∷ targets)) (sym speaks) (says, more.1),
     )
 
 -- the same of texts
@@ -181,7 +182,7 @@ comment_in : (bytes rest : List ℕ) (targets : List Target) → IsPiece 1024 by
 comment_in bytes rest targets piece comment more =
     subst (λ (lines : List Line). AreRead lines targets) (sym (no_end bytes rest piece.printed)) (comment_read bytes (lines_of rest) targets piece comment more)
 
-rule_in : (bytes rest : List ℕ) (target : Target) (targets : List Target) → IsPiece 1024 bytes → says_something bytes ≡ true → IsRule (words bytes) target
+rule_in : (bytes rest : List ℕ) (target : Target) (targets : List Target) → IsPiece 1024 bytes → says_something bytes ≡ true → IsRule false (words bytes) target
     → AreRead (lines_of rest) targets → AreRead (lines_of (bytes ++ 10 ∷ rest)) (target ∷ targets)
 rule_in bytes rest target targets piece speaks says more =
     subst (λ (lines : List Line). AreRead lines (target ∷ targets)) (sym (no_end bytes rest piece.printed)) (rule_read bytes target (lines_of rest) targets piece speaks says more)
@@ -210,8 +211,8 @@ site_words name parts =
 site_piece : (name : List ℕ) → SiteParts name → IsPiece 128 name
 site_piece name parts = record { few = parts.few; printed = weaker is_site_byte is_printed name site_printed parts.printed }
 
-site_target : (name : List ℕ) → NamesSite name → IsRule (words (codes "site " ++ name)) (AtSite (Some name))
-site_target name is = (name, site_words name (site_parts name is.0), is.0, sym (ap (λ (b : Bool). cond b None (Some name)) is.1))
+site_target : (name : List ℕ) → NamesSite name → IsRule false (words (codes "site " ++ name)) (AtSite (Some name))
+site_target name is = inl (name, site_words name (site_parts name is.0), is.0, sym (ap (λ (b : Bool). cond b (AtSite None) (AtSite (Some name))) is.1))
 
 abbrev words_from : ℕ → ℕ → Option Span
 words_from first last = Some (record { first = first; last = last })
@@ -292,17 +293,18 @@ run_again run ordered =
     ap (λ (first : ℕ). words_from first run.last) low ∙ ap (λ (last : ℕ). words_from (4 * run.first / 4) last) high
     ∙ sym (ap (λ (none : Bool). cond none None (words_from (4 * run.first / 4) ((4 * run.first + size_of run - 1) / 4))) some)
 
-run_target : (run : Span) → IsRun run → IsRule (words (codes "words " ++ (address_text run.first ++ 32 ∷ decimal (size_of run)))) (AtWords (Some run))
+run_target : (run : Span) → IsRun run → IsRule false (words (codes "words " ++ (address_text run.first ++ 32 ∷ decimal (size_of run)))) (AtWords (Some run))
 run_target run is =
     let ordered : run.first ≤ run.last = is.ordered in
     let memory : run.last < 2 ^ 46 = is.memory in
     let few : size_of run < 2 ^ 64 = omega (arith, memory) in
-    (address_text run.first, decimal (size_of run), 4 * run.first, size_of run, run_words run (omega arith) few, address_number run.first (omega arith), (decimal_size (size_of run) few).value, omega arith, omega arith, run_again run ordered)
+    inr (address_text run.first, decimal (size_of run), 4 * run.first, size_of run, run_words run (omega arith) few, address_number run.first (omega arith), (decimal_size (size_of run) few).value, omega arith, omega arith, ap (λ (r : Option Span). AtWords r) (run_again run ordered))
 
 -- the rule of a race: its site has a name that names a site, or its words are words of memory
 abbrev IsSoundTarget : Target → Type 0
 IsSoundTarget (AtSite None) = ⊥
 IsSoundTarget (AtSite (Some name)) = NamesSite name
+IsSoundTarget (AtSites pattern) = ⊥
 IsSoundTarget (AtWords None) = ⊥
 IsSoundTarget (AtWords (Some run)) = IsRun run
 
@@ -314,6 +316,7 @@ wider m n bytes less piece = let few : length bytes ≤ m = piece.few in record 
 
 target_read : (target : Target) (rest : List ℕ) (targets : List Target) → IsSoundTarget target → AreRead (lines_of rest) targets → AreRead (lines_of (target_text target ++ 10 ∷ rest)) (target ∷ targets)
 target_read (AtSite None) rest targets sound more = absurd sound
+target_read (AtSites pattern) rest targets sound more = absurd sound
 target_read (AtWords None) rest targets sound more = absurd sound
 target_read (AtWords (Some run)) rest targets sound more =
     let ordered : run.first ≤ run.last = sound.ordered in
@@ -344,6 +347,7 @@ hidden_in name rest targets sound more =
 
 hidden_read : (target : Target) (rest : List ℕ) (targets : List Target) → IsSoundTarget target → AreRead (lines_of rest) targets → AreRead (lines_of (hidden_text target ++ rest)) targets
 hidden_read (AtSite None) rest targets sound more = more
+hidden_read (AtSites pattern) rest targets sound more = more
 hidden_read (AtWords words) rest targets sound more = more
 hidden_read (AtSite (Some name)) rest targets sound more = by (is_system_name name)
   where
@@ -433,6 +437,6 @@ read_back names known limit sound all short =
     let first : List ℕ = codes "# Known races, written by eraser replay --write-rules" in
     let read : AreRead (lines_of (first ++ 10 ∷ flat_map (known_text names) known)) (map (known_target names) known) =
     comment_in first (flat_map (known_text names) known) (map (known_target names) known) (literal first 1024 refl refl) refl (all_read names known sound all) in
-    let placed_all : AllByRecursion IsPlain (placed_from 1 0 (lines_of (known_races_text names known))) × AllRule (filter has_content (placed_from 1 0 (lines_of (known_races_text names known)))) (map (known_target names) known) =
+    let placed_all : AllByRecursion IsPlain (placed_from 1 0 (lines_of (known_races_text names known))) × AllRule false (filter has_content (placed_from 1 0 (lines_of (known_races_text names known)))) (map (known_target names) known) =
     read 1 0 in
-    record { short = short; plain = placed_all.0; rules = placed_all.1 }
+    record { short = short; plain = placed_all.0; rules = first_edition (filter has_content (placed_from 1 0 (lines_of (known_races_text names known)))) (map (known_target names) known) placed_all.1 }

@@ -6,7 +6,7 @@ use Rattle.er_report.specs.declared.report.Deed.TheVariants.{Access, Reuse}
 use Rattle.er_report.specs.declared.report.Line.{Line}
 use Rattle.er_report.specs.declared.report.Report.{Report}
 use Rattle.er_report.specs.declared.reports.Reports.{Reports}
-use Rattle.er_rules.specs.Rules.{Target, AtSite, AtWords}
+use Rattle.er_rules.specs.Rules.{Target, AtSite, AtSites, AtWords}
 use Rattle.er_sites.specs.System.{is_system_name}
 use Rattle.er_trace.specs.Names.{NameTable}
 use Rattle.er_triage.specs.Known.{known_target, rules_of, AreCounts}
@@ -17,6 +17,7 @@ use Rattle.er_triage.specs.declared.known.KnownRace.{KnownRace}
 abbrev pub target_text : Target → List ℕ
 target_text (AtSite None) = codes "site -"
 target_text (AtSite (Some name)) = codes "site " ++ name
+target_text (AtSites pattern) = codes "site " ++ pattern
 target_text (AtWords None) = codes "words 0 0"
 target_text (AtWords (Some run)) = codes "words " ++ address_text run.first ++ codes " " ++ decimal (4 * (run.last + 1 - run.first))
 
@@ -40,6 +41,7 @@ comment_text name = codes "# " ++ name ++ codes " is a line of a system header: 
 abbrev pub hidden_text : Target → List ℕ
 hidden_text (AtSite None) = []
 hidden_text (AtSite (Some name)) = cond (is_system_name name) (comment_text name) []
+hidden_text (AtSites pattern) = []
 hidden_text (AtWords words) = []
 
 -- a rule, below comments that say what it takes and hides

@@ -173,6 +173,7 @@ fn copy_of(rule: &Rule) -> Result<Rule, AllocError>
     match rule {
         Rule::Site(Some(name)) => Ok(Rule::Site(Some(name.clone()?))),
         Rule::Site(None) => Ok(Rule::Site(None)),
+        Rule::Sites(pattern) => Ok(Rule::Sites(pattern.clone()?)),
         Rule::Words(words) => Ok(Rule::Words(*words)),
     }
 }

@@ -161,7 +161,7 @@ pub fn put_rule(out: &mut Vec<u8>, rule: &Rule) -> Put
     ensures { OnOk result (out.new.items ≡ out.old.items ++ target_text (target_of rule.now)) }
 {
     match rule {
-        Rule::Site(Some(name)) => {
+        Rule::Site(Some(name)) | Rule::Sites(name) => {
             out.extend_from_slice(b"site ")?;
             out.extend_from_slice(name.as_bytes())
         }
