@@ -116,7 +116,7 @@ race_front names race (deed.Reuse range) =
     ++ codes "\",\"bytes\":" ++ decimal (bytes_between range.lo range.hi)
     ++ named_site style.Json names (codes ",\"site\":") race.site ++ codes ",\"held\":" ++ locks_in style.Json names race.held ++ codes ",\"reasons\":["
 
--- where the block was allocated
+-- where the block was allocated, and the end of the member that `subject_by` begins
 abbrev pub taken_at : PlaceTable → Option ℕ → List ℕ
 taken_at table None = codes ",\"site\":null}"
 taken_at table (Some place) = codes ",\"site\":" ++ string_text (call_name table place) ++ codes "}"
