@@ -13,7 +13,7 @@ ghost use Rattle.er_replay.specs.Wants.{wants_memory};
 
 use er_clock::{Clocks, NoTick};
 use er_epochs::OrderWords;
-use er_event::{Event, Kind, LockId, Mode, PageRange, Refusal, Reply, Step, Sync, ThreadId, Word};
+use er_event::{Event, Kind, LockId, Mode, PageRange, Refusal, Reply, Step, ThreadId, Word};
 use er_held::Held;
 use er_keys::HashKeys;
 use er_replay::Threads;
@@ -175,8 +175,15 @@ impl<A: Copy> OrderMachine<A> {
         match event {
             Event::Acquire(lock, mode) => self.acquire(thread, lock, mode),
             Event::Release(lock, mode) => self.release(thread, lock, mode),
-            Event::IgnoreOn | Event::IgnoreOff | Event::Level(_) => self.hold(thread, event),
-            Event::Sync(sync) => self.synchronize(thread, sync),
+            // A bracket or a level orders nothing.
+            Event::IgnoreOn | Event::IgnoreOff | Event::Level(_) => {
+                Ok(change(&mut self.holders, thread, event)?)
+            }
+            // What only orders threads holds nothing.
+            Event::Sync(sync) => {
+                let event = Event::Sync(sync);
+                self.clocks.follow(&Step { thread, event }, true)
+            }
             Event::Show(_) => Ok(()),
             Event::Access(..) => Ok(()),
             Event::Reuse(_) => Ok(()),
@@ -246,29 +253,6 @@ impl<A: Copy> OrderMachine<A> {
         let event = Event::Release(lock, mode);
         self.clocks.follow(&Step { thread, event }, true)?;
         let _ = change(&mut self.holders, thread, Event::Release(lock, mode));
-        Ok(())
-    }
-
-    // What only orders threads holds nothing.
-    fn synchronize(&mut self, thread: ThreadId, sync: Sync) -> Result<(), NoTick>
-        ensures changes { (tag : A) → OnOk result (Changes self.old (record { thread = thread; event = Event.Sync sync }) tag self.new) }
-        ensures same { OnErr result (IsSame self.old self.new) }
-        ensures limit { (limit : Limits) → IsErrOf result (NoTick.Beyond limit) → IsBeyondBy self.old (record { thread = thread; event = Event.Sync sync }) limit }
-    {
-        let event = Event::Sync(sync);
-        self.clocks.follow(&Step { thread, event }, true)
-    }
-
-    // A bracket or a level orders nothing.
-    fn hold(&mut self, thread: ThreadId, event: Event) -> Result<(), NoTick>
-        requires accepted { refused_by (holding self.old thread) event ≡ None }
-        requires local { holds_alone event ≡ true }
-        ensures changes { (tag : A) → OnOk result (Changes self.old (record { thread = thread; event = event }) tag self.new) }
-        ensures same { OnErr result (IsSame self.old self.new) }
-        ensures free { event ≡ Event.IgnoreOff → IsOk result }
-        ensures limit { (limit : Limits) → IsErrOf result (NoTick.Beyond limit) → ⊥ }
-    {
-        change(&mut self.holders, thread, event)?;
         Ok(())
     }
 }
