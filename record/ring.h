@@ -1,24 +1,23 @@
-/* The memory that a recorded program and the writer of its trace share: a ring of events in one order.
+/* The memory that a recorded program and the writer of its trace share: events in one order.
  *
- * The program draws a ticket for each event, fills the slot of that ticket and publishes it. The writer takes the slots in the order of
- * their tickets. The ring is a file without a name that both have mapped, so that an event is safe once it is published, whatever
- * becomes of the program. */
+ * Each thread has a lane, which is a ring of slots of its own. For each event it draws a ticket from the one counter, fills the next slot of its lane
+ * and publishes it. The writer takes the events of all lanes in the order of their tickets. The memory is a file without a name that both have
+ * mapped, so that an event is safe once it is published, whatever becomes of the program. */
 #ifndef ERASER_RING_H
 #define ERASER_RING_H
 
 #include <stdatomic.h>
 #include <stdint.h>
 
-#define RING_MAGIC 0x39676e6972617265u /* "eraring9" in memory */
-#define RING_BITS 18
-#define RING_SLOTS (1u << RING_BITS)
-#define RING_MASK (RING_SLOTS - 1)
+#define RING_MAGIC 0x61676e6972617265u /* "eraringa" in memory */
 
-/* A thread waits for room before it draws a ticket, never after. Between its look at the room and its draw every other thread may draw
- * one ticket, so as many slots as there may be threads stay free. Half of them are for signal handlers that must not wait. */
-#define RING_SPARE 8192u
-#define RING_ROOM (RING_SLOTS - RING_SPARE)
-#define RING_ROOM_FOR_HANDLERS (RING_SLOTS - RING_SPARE / 2)
+/* A lane of the first kind has 1 MiB of slots, and one of the second 128 KiB. No page of a lane is used before its slots are. A thread takes the first
+ * lane that is free, so that only programs with many threads use those of the second kind. */
+#define LARGE_LANES 64u
+#define LARGE_LANE_BITS 15
+#define LANE_BITS 12
+#define LANES 8192u
+#define RING_SLOTS (((uint64_t)LARGE_LANES << LARGE_LANE_BITS) + ((uint64_t)(LANES - LARGE_LANES) << LANE_BITS))
 
 /* Threads add to one of these counters what they cannot record. */
 #define LOST_COUNTERS 64
@@ -98,12 +97,29 @@ enum object_kind { OBJECT_ATOMIC, OBJECT_SEMAPHORE, OBJECT_BARRIER, OBJECT_CONDI
 #define UNSEEN_FREES 2u
 
 struct slot {
-    _Atomic uint32_t published; /* ring_round() of its ticket once the rest is filled */
-    uint32_t thread;
+    _Atomic uint32_t published; /* lane_mark() of its position once the rest is filled */
+    union {
+        uint32_t ticket; /* the low bits of the event's ticket */
+        uint32_t thread; /* in the writer's copy: the number of its thread */
+    };
     uint32_t kind_and_stack; /* slot_kind() and slot_stack() tell them apart */
     uint32_t size;
     uint64_t first;
     uint64_t second;
+};
+
+enum lane_state {
+    LANE_FREE,
+    LANE_TAKEN, /* a thread puts its events here */
+    LANE_LEFT,  /* the thread has ended, and the lane is free once the writer has taken the events up to `end` */
+};
+
+/* Positions in a lane count its events through all its threads, with 32 bits. */
+struct lane {
+    _Alignas(64) _Atomic uint32_t state;
+    uint32_t thread;       /* its number */
+    uint32_t end;
+    _Atomic uint32_t head; /* the first position that the writer has not taken */
 };
 
 /* The first program that is recorded takes the first ring. Each further one asks there for a ring of its own: at most this number at a time. */
@@ -165,6 +181,9 @@ struct ring {
     uint32_t is_late;            /* the program ran before it was recorded, and may hold locks */
     _Atomic uint32_t threads;    /* numbers given to threads */
     _Atomic uint64_t abandoned;  /* some ticket below this one may never be published */
+    _Atomic uint32_t takes;      /* how often a lane was taken */
+    _Atomic uint32_t first_free; /* no lane before this one is free, as a rule: a thread looks from here on */
+    _Atomic uint32_t lanes_used; /* no lane from this one on was ever taken */
     char program[RING_NAME_BYTES]; /* the name of the program's file, once there is an owner */
     /* Of the first ring alone. */
     uint32_t presence;           /* a file of the writer that each recorded program has mapped, and so its forked children */
@@ -174,8 +193,9 @@ struct ring {
     _Alignas(128) _Atomic uint64_t tail; /* next ticket */
     _Alignas(128) _Atomic uint64_t head; /* first ticket that the writer has not taken */
     _Alignas(128) struct lost_counter lost[LOST_COUNTERS];
-    _Alignas(4096) struct slot slots[RING_SLOTS];
+    struct lane lanes[LANES];
     _Alignas(4096) struct stacks stacks;
+    _Alignas(4096) struct slot slots[RING_SLOTS];
 };
 
 #define KIND_BITS 8
@@ -196,17 +216,22 @@ static inline uint64_t reuse_size(const struct slot *slot)
     return (slot->first >> REUSE_BITS) << 32 | slot->size;
 }
 
-/* What a slot's `published` says once the event of this ticket is in it: never 0, and another value in each round through the ring. */
-static inline uint32_t ring_round(uint64_t ticket)
+/* Where a lane's slots begin, and how many there are. */
+static inline uint64_t lane_begin(uint32_t lane)
 {
-    return (uint32_t)(ticket >> RING_BITS) + 1;
+    uint64_t large = lane < LARGE_LANES ? lane : LARGE_LANES;
+    return (large << LARGE_LANE_BITS) + ((uint64_t)(lane - large) << LANE_BITS);
 }
 
-/* Slots stand in the order of their tickets, which the writer reads faster than any other. Two slots share a cache line. Measured, two threads that write to
- * one line lose no more than by fetching a line each. */
-static inline uint32_t ring_place(uint64_t ticket)
+static inline uint32_t lane_slots(uint32_t lane)
 {
-    return (uint32_t)ticket & RING_MASK;
+    return lane < LARGE_LANES ? 1u << LARGE_LANE_BITS : 1u << LANE_BITS;
+}
+
+/* What a slot's `published` says once the event of this position is in it. Before that it is 0, or the mark of an earlier round through the lane. */
+static inline uint32_t lane_mark(uint32_t position)
+{
+    return position + 1;
 }
 
 #endif

@@ -19,7 +19,7 @@ __thread struct self self __attribute__((tls_model("initial-exec")));
 
 /* ---- Events that need more than a slot ---- */
 
-void emit_lost(struct ring *ring, struct self *me)
+static void count_lost(struct ring *ring, const struct self *me)
 {
     atomic_fetch_add_explicit(&ring->lost[me->number % LOST_COUNTERS].count, 1, memory_order_relaxed);
 }
@@ -31,74 +31,143 @@ static bool is_on_other_stack(void)
     return syscall(SYS_sigaltstack, NULL, &now) == 0 && (now.ss_flags & SS_ONSTACK);
 }
 
-/* Publishes an empty event for a ticket that will get no other. If its number was not noted yet, the writer is told to look out. */
-static void give_up(struct ring *ring, struct self *me, uint64_t ticket)
+/* Some ticket that was drawn by now may have no event. */
+static void warn_writer(struct ring *ring)
 {
-    if (ticket == PENDING_DRAWING) {
-        uint64_t tail = atomic_load(&ring->tail), before = atomic_load(&ring->abandoned);
-        while (before < tail && !atomic_compare_exchange_weak(&ring->abandoned, &before, tail))
-            ;
-    } else if (ticket != PENDING_NONE) {
-        struct slot *slot = &ring->slots[ring_place(ticket)];
-        slot->thread = me->number;
-        slot->kind_and_stack = EVENT_VOID;
-        atomic_store_explicit(&slot->published, ring_round(ticket), memory_order_release);
-    }
-    set_pending(me, PENDING_NONE);
-    emit_lost(ring, me);
+    uint64_t tail = atomic_load(&ring->tail), before = atomic_load(&ring->abandoned);
+    while (before < tail && !atomic_compare_exchange_weak(&ring->abandoned, &before, tail))
+        ;
 }
 
-/* What seldom has to be done before an event. False if the event cannot be recorded. */
-bool emit_prepare(struct ring *ring, struct self *me, uint64_t outer, void *frame)
+/* The event that was begun last gets no other end: an empty one has its ticket. It may have been left right after it was published. */
+static void give_up(struct ring *ring, struct self *me)
 {
-    if (atomic_load_explicit(&ring->stop, memory_order_relaxed)) {
-        emit_lost(ring, me);
-        return false;
+    struct course *course = &me->courses[me->depth - 1];
+    bool has_ticket = course->ticket != TICKET_NONE && course->ticket != TICKET_DRAWING, is_published = false;
+    if (course->ticket == TICKET_DRAWING)
+        warn_writer(ring);
+    if (has_ticket) {
+        struct slot *slot = &course->slots[course->next & course->mask];
+        is_published = atomic_load_explicit(&slot->published, memory_order_relaxed) == lane_mark(course->next);
+        if (!is_published) {
+            slot->ticket = (uint32_t)course->ticket;
+            slot->kind_and_stack = EVENT_VOID;
+            atomic_store_explicit(&slot->published, lane_mark(course->next), memory_order_release);
+        }
+        course->next++;
     }
-    if (me->number == 0)
-        begin_self(ring, atomic_fetch_add_explicit(&ring->threads, 1, memory_order_relaxed) + 1);
-    /* An event is pending. Either this is a signal handler that interrupted it, whose frame is lower; or a handler left the event for
-     * good by longjmp. */
-    int error = errno;
-    if (outer != PENDING_NONE && (char *)frame >= (char *)me->pending_frame && !is_on_other_stack())
-        give_up(ring, me, outer);
-    errno = error;
+    set_depth(me, me->depth - 1);
+    if (!is_published)
+        count_lost(ring, me);
+}
+
+/* Takes the first lane from here on that is free. LANES if there is none. */
+static uint32_t take_from(struct ring *ring, uint32_t at)
+{
+    for (uint32_t state = LANE_FREE; at < LANES; at++, state = LANE_FREE)
+        if (atomic_load_explicit(&ring->lanes[at].state, memory_order_relaxed) == LANE_FREE
+            && atomic_compare_exchange_strong(&ring->lanes[at].state, &state, LANE_TAKEN))
+            break;
+    return at;
+}
+
+static bool take_lane(struct ring *ring, const struct self *me, struct course *course)
+{
+    uint32_t first = atomic_load(&ring->first_free), at = take_from(ring, first);
+    if (at == LANES)
+        at = take_from(ring, 0);
+    if (at == LANES)
+        return false;
+    /* The writer moves it back. */
+    atomic_compare_exchange_strong(&ring->first_free, &first, at + 1);
+    for (uint32_t used = atomic_load(&ring->lanes_used); used <= at && !atomic_compare_exchange_weak(&ring->lanes_used, &used, at + 1);)
+        ;
+    ring->lanes[at].thread = me->number;
+    course->lane = at;
+    course->mask = lane_slots(at) - 1;
+    course->next = atomic_load(&ring->lanes[at].head);
+    course->slots = &ring->slots[lane_begin(at)];
+    atomic_fetch_add(&ring->takes, 1);
     return true;
 }
 
-/* Waits until the ring has room. False if there will be none: the writer stopped, or it waits for the event that this signal handler
- * has interrupted. */
-bool emit_wait(struct ring *ring, struct self *me, uint64_t outer)
+/* Whether the writer waits for an event that the signal handler has interrupted which is to record one in this course. */
+static bool is_awaited(const struct ring *ring, const struct self *me, const struct course *course)
 {
-    int error = errno;
-    bool has_room = false;
+    for (const struct course *outer = me->courses; outer < course; outer++)
+        if (outer->ticket != TICKET_NONE)
+            return outer->ticket == TICKET_DRAWING || atomic_load_explicit(&ring->head, memory_order_acquire) >= outer->ticket;
+    return false;
+}
+
+/* Waits until the lane has room. False if there will be none: the writer stopped, or waits for this thread. */
+static bool wait_for_room(struct ring *ring, const struct self *me, struct course *course)
+{
     for (unsigned turn = 0;; turn++) {
-        me->head_seen = atomic_load_explicit(&ring->head, memory_order_acquire);
-        uint64_t used = atomic_load_explicit(&ring->tail, memory_order_relaxed) - me->head_seen;
-        bool is_awaited = outer != PENDING_NONE && (outer == PENDING_DRAWING || me->head_seen >= outer);
-        if (used <= (is_awaited ? RING_ROOM_FOR_HANDLERS : RING_ROOM)) {
-            has_room = true;
-            break;
-        }
-        if (is_awaited || atomic_load_explicit(&ring->stop, memory_order_relaxed))
-            break;
+        course->full = atomic_load_explicit(&ring->lanes[course->lane].head, memory_order_acquire) + course->mask + 1;
+        if (course->next != course->full)
+            return true;
+        if (is_awaited(ring, me, course) || atomic_load_explicit(&ring->stop, memory_order_relaxed))
+            return false;
         struct timespec pause = {0, 50000};
         syscall(SYS_nanosleep, &pause, NULL);
         if (turn % 1024 == 1023 && syscall(SYS_kill, ring->writer, 0) != 0 && errno == ESRCH)
             atomic_store(&ring->stop, 1);
     }
-    errno = error;
-    if (!has_room)
-        emit_lost(ring, me);
+}
+
+/* Meanwhile the events of handlers go to the next course. */
+static bool make_room(struct ring *ring, struct self *me, struct course *course, void *frame)
+{
+    course->frame = frame;
+    course->ticket = TICKET_NONE;
+    set_depth(me, me->depth + 1);
+    bool has_room = (course->slots || take_lane(ring, me, course)) && wait_for_room(ring, me, course);
+    set_depth(me, me->depth - 1);
     return has_room;
 }
 
-/* A thread that ends leaves no ticket open, even if it was cancelled in the middle of an event. */
+/* An event that was begun has been interrupted by a signal handler, whose frame is lower; or a handler left it for good by longjmp. */
+static struct course *prepare(struct ring *ring, struct self *me, void *frame)
+{
+    while (me->depth && (char *)frame >= (char *)me->courses[me->depth - 1].frame && !is_on_other_stack())
+        give_up(ring, me);
+    struct course *course = &me->courses[me->depth];
+    bool has_room = me->depth < DEPTHS && (course->next != course->full || make_room(ring, me, course, frame));
+    return has_room ? course : NULL;
+}
+
+struct course *emit_prepare(struct ring *ring, struct self *me, void *frame)
+{
+    int error = errno;
+    struct course *course = NULL;
+    if (!atomic_load_explicit(&ring->stop, memory_order_relaxed)) {
+        if (me->number == 0)
+            begin_self(ring, atomic_fetch_add_explicit(&ring->threads, 1, memory_order_relaxed) + 1);
+        course = prepare(ring, me, frame);
+    }
+    if (!course)
+        count_lost(ring, me);
+    errno = error;
+    return course;
+}
+
 void emit_end_of_thread(void)
 {
-    struct ring *ring = attached->ring;
-    if (ring && pending_of(&self) != PENDING_NONE)
-        give_up(ring, &self, pending_of(&self));
+    while (attached->ring && self.depth)
+        give_up(attached->ring, &self);
+}
+
+void emit_leave_lanes(void)
+{
+    for (struct course *course = self.courses; attached->ring && course < self.courses + DEPTHS; course++)
+        if (course->slots) {
+            struct lane *lane = &attached->ring->lanes[course->lane];
+            course->slots = NULL;
+            course->full = course->next;
+            lane->end = course->next;
+            atomic_store_explicit(&lane->state, LANE_LEFT, memory_order_release);
+        }
 }
 
 void emit_range(enum event_kind kind, const volatile void *address, uint64_t size, uint64_t site)

@@ -31,9 +31,22 @@ struct attachment {
 };
 extern struct attachment *attached;
 
-/* Values of `pending` that are no tickets. */
-#define PENDING_NONE UINT64_MAX
-#define PENDING_DRAWING (UINT64_MAX - 1)
+/* Tickets of events that have none, or don't know it yet. */
+#define TICKET_NONE UINT64_MAX
+#define TICKET_DRAWING (UINT64_MAX - 1)
+
+/* A thread's events of one depth: a signal handler that interrupts an event puts its own into another lane. So the tickets of a lane's events rise. */
+struct course {
+    struct slot *slots; /* of its lane, NULL if it has none yet */
+    uint32_t mask;      /* the number of slots, less 1 */
+    uint32_t next;      /* the position of the next event, or of the one that was begun */
+    uint32_t full;      /* the position for which there may be no room */
+    uint32_t lane;
+    uint64_t ticket;    /* of the event that was begun */
+    void *frame;        /* of the function that has begun it */
+};
+/* A handler that interrupts an event of a handler that interrupts an event, and so on. Deeper ones lose their events. */
+#define DEPTHS 4u
 
 /* What a thread knows of itself. */
 struct self {
@@ -41,19 +54,20 @@ struct self {
     uint32_t reads_ignored, writes_ignored;
     bool is_beginning; /* what the C library gets memory for is the thread itself */
     bool notes_stores; /* stores that don't release are recorded: it has released by a fence, or the ring asks for flow */
-    uint64_t head_seen;
-    uint64_t pending; /* the ticket that this thread has drawn and not yet published, stored as its complement */
-    void *pending_frame;
+    uint32_t depth;    /* how many events it has begun and not published */
+    struct course courses[DEPTHS];
     uint64_t random; /* the state of what it draws at random, and how often it has */
     uint64_t calls;
 };
 /* Of the initial-exec model, since the dynamic loader calls in before it could make room for any other. */
 extern __thread struct self self __attribute__((tls_model("initial-exec")));
 
-bool emit_prepare(struct ring *ring, struct self *me, uint64_t outer, void *frame);
-bool emit_wait(struct ring *ring, struct self *me, uint64_t outer);
-void emit_lost(struct ring *ring, struct self *me);
+/* What seldom has to be done before an event. Returns the course that it goes to, with room, or NULL if it can't be recorded. */
+struct course *emit_prepare(struct ring *ring, struct self *me, void *frame);
+/* A thread that ends leaves no event open, even if it was cancelled in the middle of one. */
 void emit_end_of_thread(void);
+/* It has no more events. */
+void emit_leave_lanes(void);
 void emit_maps(void);
 void attach(void);
 /* Whether a child that was forked is recorded from here on. */
@@ -96,19 +110,15 @@ static inline void begin_self(struct ring *ring, uint32_t number)
     self.notes_stores = ring->flows;
 }
 
-/* `pending` is kept as a complement so that a thread's zeroed storage says that nothing is pending. */
-static inline uint64_t pending_of(const struct self *me)
+/* An event is begun or ended for the handlers that interrupt this thread. */
+static inline void set_depth(struct self *me, uint32_t depth)
 {
-    return ~__atomic_load_n(&me->pending, __ATOMIC_RELAXED);
-}
-
-static inline void set_pending(struct self *me, uint64_t ticket)
-{
-    __atomic_store_n(&me->pending, ~ticket, __ATOMIC_RELAXED);
+    __atomic_signal_fence(__ATOMIC_SEQ_CST);
+    __atomic_store_n(&me->depth, depth, __ATOMIC_RELAXED);
     __atomic_signal_fence(__ATOMIC_SEQ_CST);
 }
 
-/* The writer and the other threads take turns at the tail: asks for its cache line to write from the start. */
+/* The threads take turns at the tail: asks for its cache line to write from the start. */
 static inline void expect_to_write(void *line)
 {
 #if defined(__x86_64__)
@@ -120,36 +130,33 @@ static inline void expect_to_write(void *line)
 
 /* An event that has its ticket and is not published yet. */
 struct draft {
-    struct ring *ring;
     struct self *me;
-    uint64_t ticket, outer;
-    void *outer_frame;
+    struct course *course;
+    uint64_t ticket;
 };
 
-/* Draws a ticket for one event. A signal handler may come in between anywhere and record events of its own: they take later tickets, and
- * `pending` tells them of the ticket that waits for this thread. False if the event can't be recorded. The caller must still run when it
- * publishes the event, since its frame says that the event was not left. */
+/* Draws a ticket for one event. There is room for it before, since no thread may wait once it has its ticket. A signal handler may come in between
+ * anywhere and record events of its own: they take later tickets, and go to another lane. False if the event can't be recorded. The caller must
+ * still run when it publishes the event, since its frame says that the event was not left. */
 static inline __attribute__((always_inline)) bool emit_draw(struct draft *draft)
 {
     struct ring *ring = attached->ring;
     if (LIKELY(!ring))
         return false;
     struct self *me = &self;
-    uint64_t outer = pending_of(me);
-    void *outer_frame = me->pending_frame;
+    struct course *course = &me->courses[0];
     expect_to_write(&ring->tail);
-    if (UNLIKELY(me->number == 0 || outer != PENDING_NONE || atomic_load_explicit(&ring->stop, memory_order_relaxed))) {
-        if (!emit_prepare(ring, me, outer, __builtin_frame_address(0)))
+    if (UNLIKELY(me->depth || course->next == course->full || atomic_load_explicit(&ring->stop, memory_order_relaxed))) {
+        course = emit_prepare(ring, me, __builtin_frame_address(0));
+        if (!course)
             return false;
-        outer = pending_of(me);
     }
-    if (UNLIKELY(atomic_load_explicit(&ring->tail, memory_order_relaxed) - me->head_seen > RING_ROOM) && !emit_wait(ring, me, outer))
-        return false;
-    me->pending_frame = __builtin_frame_address(0);
-    set_pending(me, PENDING_DRAWING);
+    course->frame = __builtin_frame_address(0);
+    course->ticket = TICKET_DRAWING;
+    set_depth(me, (uint32_t)(course - me->courses) + 1);
     uint64_t ticket = atomic_fetch_add_explicit(&ring->tail, 1, memory_order_seq_cst);
-    set_pending(me, ticket);
-    *draft = (struct draft){ring, me, ticket, outer, outer_frame};
+    course->ticket = ticket;
+    *draft = (struct draft){me, course, ticket};
     return true;
 }
 
@@ -172,17 +179,17 @@ static inline __attribute__((always_inline)) uint32_t emit_stack(enum event_kind
 
 static inline __attribute__((always_inline)) void emit_publish(const struct draft *draft, enum event_kind kind, uint32_t size, uint64_t first, uint64_t second)
 {
-    struct self *me = draft->me;
-    struct slot *slot = &draft->ring->slots[ring_place(draft->ticket)];
-    slot->thread = me->number;
+    struct course *course = draft->course;
+    struct slot *slot = &course->slots[course->next & course->mask];
+    slot->ticket = (uint32_t)draft->ticket;
     slot->kind_and_stack = (uint32_t)kind | emit_stack(kind, second) << KIND_BITS;
     slot->size = size;
     slot->first = first;
     slot->second = second;
-    atomic_store_explicit(&slot->published, ring_round(draft->ticket), memory_order_release);
+    atomic_store_explicit(&slot->published, lane_mark(course->next), memory_order_release);
     __atomic_signal_fence(__ATOMIC_SEQ_CST);
-    set_pending(me, draft->outer);
-    me->pending_frame = draft->outer_frame;
+    course->next++;
+    set_depth(draft->me, (uint32_t)(course - draft->me->courses));
 }
 
 /* Records one event. */

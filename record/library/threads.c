@@ -45,6 +45,7 @@ static void end_thread(void *again)
     if (is_ordering())
         dl_iterate_phdr(reuse_local, NULL);
     emit_reuse(stack.begin, stack.size);
+    emit_leave_lanes();
     if (KEEPS_STACKS)
         stack_end();
 }

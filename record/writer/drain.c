@@ -7,6 +7,7 @@
 #include "barriers.h"
 #include "fences.h"
 #include "flow.h"
+#include "lanes.h"
 #include "locks.h"
 #include "nodes.h"
 #include "objects.h"
@@ -16,7 +17,7 @@
 #include "stacks.h"
 #include "trace.h"
 
-/* The producers see the head once in this number of events. */
+/* Threads see the head once in this number of events. */
 #define HEAD_STEP 512
 /* The most events that are kept back from a reader that waits for them. */
 #define FLUSH_STEP 65536
@@ -355,18 +356,12 @@ static void take(const struct slot *slot)
     }
 }
 
-static const struct slot *next_slot(struct ring *ring, uint64_t head)
-{
-    const struct slot *slot = &ring->slots[ring_place(head)];
-    return atomic_load_explicit(&slot->published, memory_order_acquire) == ring_round(head) ? slot : NULL;
-}
-
 bool drain(struct ring *ring)
 {
     uint64_t begin = atomic_load_explicit(&ring->head, memory_order_relaxed), head = begin;
-    const struct slot *slot;
-    while ((slot = next_slot(ring, head)) != NULL) {
-        take(slot);
+    struct slot event;
+    while (lanes_take(ring, head, &event)) {
+        take(&event);
         head++;
         if (head % HEAD_STEP == 0)
             atomic_store_explicit(&ring->head, head, memory_order_release);
