@@ -118,16 +118,6 @@ static inline void set_depth(struct self *me, uint32_t depth)
     __atomic_signal_fence(__ATOMIC_SEQ_CST);
 }
 
-/* The threads take turns at the tail: asks for its cache line to write from the start. */
-static inline void expect_to_write(void *line)
-{
-#if defined(__x86_64__)
-    __asm__ volatile("prefetchw %0" : : "m"(*(char *)line));
-#else
-    __builtin_prefetch(line, 1);
-#endif
-}
-
 /* An event that has its ticket and is not published yet. */
 struct draft {
     struct self *me;
@@ -145,7 +135,6 @@ static inline __attribute__((always_inline)) bool emit_draw(struct draft *draft)
         return false;
     struct self *me = &self;
     struct course *course = &me->courses[0];
-    expect_to_write(&ring->tail);
     if (UNLIKELY(me->depth || course->next == course->full || atomic_load_explicit(&ring->stop, memory_order_relaxed))) {
         course = emit_prepare(ring, me, __builtin_frame_address(0));
         if (!course)

@@ -332,16 +332,9 @@ static void reuse(const struct slot *slot)
     pages_reuse(&reuse, slot->first & REUSE_MASK, reuse_size(slot));
 }
 
-static void take(const struct slot *slot)
+static void take_other(const struct slot *slot)
 {
-    enum event_kind kind = slot_kind(slot);
-    stacks_set(slot_stack(slot));
-    switch (kind) {
-    case EVENT_READ:
-    case EVENT_WRITE:
-        pages_mark(slot->first, slot->size);
-        trace_access(trace_thread(slot->thread), kind == EVENT_WRITE, slot->first, slot->size, slot->second);
-        break;
+    switch (slot_kind(slot)) {
     case EVENT_LOCK:
     case EVENT_READ_LOCK: acquire(slot); break;
     case EVENT_UNLOCK:
@@ -356,17 +349,30 @@ static void take(const struct slot *slot)
     }
 }
 
+static inline void take(const struct slot *slot, uint32_t thread)
+{
+    enum event_kind kind = slot_kind(slot);
+    stacks_set(slot_stack(slot));
+    if (__builtin_expect(kind == EVENT_READ || kind == EVENT_WRITE, 1)) {
+        pages_mark(slot->first, slot->size);
+        trace_access(trace_thread(thread), kind == EVENT_WRITE, slot->first, slot->size, slot->second);
+        return;
+    }
+    struct slot copy = *slot;
+    copy.thread = thread;
+    take_other(&copy);
+}
+
 bool drain(struct ring *ring)
 {
     uint64_t begin = atomic_load_explicit(&ring->head, memory_order_relaxed), head = begin;
-    struct slot event;
-    while (lanes_take(ring, head, &event)) {
-        take(&event);
+    const struct slot *slot;
+    uint32_t thread;
+    while (head - begin < FLUSH_STEP && (slot = lanes_take(ring, head, &thread)) != NULL) {
+        take(slot, thread);
         head++;
         if (head % HEAD_STEP == 0)
             atomic_store_explicit(&ring->head, head, memory_order_release);
-        if (head - begin == FLUSH_STEP)
-            break;
     }
     atomic_store_explicit(&ring->head, head, memory_order_release);
     return head != begin;

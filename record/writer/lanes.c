@@ -1,6 +1,7 @@
 #define _GNU_SOURCE
 #include "lanes.h"
 
+#include <stdbool.h>
 #include <stddef.h>
 
 /* A thread sees how far the writer has come in its lane once in this number of events. */
@@ -9,145 +10,170 @@
 /* What the writer knows of a lane. */
 struct reader {
     const struct slot *slots;
+    struct lane *lane;
     uint32_t mask;
-    uint32_t head;   /* the position of its first event that was not taken */
-    uint32_t ticket; /* of that event, once it is published */
-    uint32_t next;   /* in its list: the lane's number and 1, or 0 */
-    bool is_followed;
+    uint32_t head; /* the position of its first event that was not taken */
+    uint32_t next; /* in the list: the lane's number and 1, or 0 */
+    bool is_followed, is_waiting;
 };
 static struct reader readers[LANES];
+static uint32_t followed; /* no lane from this one on is followed */
 
-/* The lanes that are followed are in lists. Most threads wait for something, and an event should not have to be looked for in their lanes: those whose
- * first event is published are in lists by its ticket. The others are in one, of which the first had events last. */
-#define BUCKET_BITS 12
-static uint32_t published[1u << BUCKET_BITS];
+/* Most threads wait for something, and an event should not have to be looked for in their lanes. So a lane whose first event is published stands here by
+ * its ticket, unless that of another lane took its place: its number and 1. A lane whose first event was not published yet is in a list, of which the
+ * first had events last. */
+#define OWNER_BITS 16
+static uint16_t owners[1u << OWNER_BITS];
 static uint32_t waiting;
 static uint32_t takes_seen;
 
 static inline uint32_t number_of(const struct reader *reader)
 {
-    return (uint32_t)(reader - readers) + 1;
+    return (uint32_t)(reader - readers);
 }
 
-static inline void put_into(uint32_t *list, struct reader *reader)
+/* The lane's first event, or NULL if it isn't published yet. */
+static inline const struct slot *first_event(const struct reader *reader)
 {
-    reader->next = *list;
-    *list = number_of(reader);
+    uint32_t head = reader->head;
+    const struct slot *slot = &reader->slots[head & reader->mask];
+    return atomic_load_explicit(&slot->published, memory_order_acquire) == lane_mark(head) ? slot : NULL;
 }
 
-static inline uint32_t *list_of(uint32_t ticket)
+/* All events before the first one have been taken, and are needed no more. */
+static inline void tell_head(const struct reader *reader)
 {
-    return &published[ticket % (1u << BUCKET_BITS)];
+    atomic_store_explicit(&reader->lane->head, reader->head, memory_order_release);
 }
 
-/* The lane whose first event has this ticket, if that is known. It is in no list then. */
-static inline struct reader *take_published(uint32_t ticket)
+static void wait_for(struct reader *reader)
 {
-    uint32_t *place = list_of(ticket);
-    while (*place && readers[*place - 1].ticket != ticket)
-        place = &readers[*place - 1].next;
-    if (!*place)
-        return NULL;
-    struct reader *reader = &readers[*place - 1];
-    *place = reader->next;
-    return reader;
+    if (reader->is_waiting)
+        return;
+    reader->is_waiting = true;
+    reader->next = waiting;
+    waiting = number_of(reader) + 1;
 }
 
-static inline void tell_head(struct ring *ring, const struct reader *reader)
+/* Notes a lane by its first event. */
+static inline void note(struct reader *reader)
 {
-    atomic_store_explicit(&ring->lanes[reader - readers].head, reader->head, memory_order_release);
+    const struct slot *first = first_event(reader);
+    if (__builtin_expect(first != NULL, 1))
+        owners[(uint16_t)first->ticket] = (uint16_t)(number_of(reader) + 1);
+    else
+        wait_for(reader);
 }
 
-static inline void step(struct ring *ring, struct reader *reader)
-{
-    reader->head++;
-    if (reader->head % HEAD_STEP == 0)
-        tell_head(ring, reader);
-}
-
-/* Finds the ticket of a lane's first event. False if it has none. One that was given up may be published all the same, and is left out. */
-static inline bool look(struct ring *ring, struct reader *reader, uint32_t ticket)
-{
-    for (;; step(ring, reader)) {
-        const struct slot *slot = &reader->slots[reader->head & reader->mask];
-        if (atomic_load_explicit(&slot->published, memory_order_acquire) != lane_mark(reader->head))
-            return false;
-        reader->ticket = slot->ticket;
-        if ((int32_t)(reader->ticket - ticket) >= 0)
-            return true;
-    }
-}
+/* What an old entry by a ticket finds of a lane that is free: no event. */
+static const struct slot nothing;
 
 /* Gives a lane free whose thread has ended. */
 static bool give_free(struct ring *ring, struct reader *reader)
 {
-    struct lane *lane = &ring->lanes[reader - readers];
+    struct lane *lane = reader->lane;
     if (atomic_load_explicit(&lane->state, memory_order_acquire) != LANE_LEFT || lane->end != reader->head)
         return false;
-    uint32_t at = (uint32_t)(reader - readers), first = atomic_load(&ring->first_free);
-    reader->is_followed = false;
+    uint32_t first = atomic_load(&ring->first_free);
+    *reader = (struct reader){.slots = &nothing};
     atomic_store(&lane->state, LANE_FREE);
-    while (at < first && !atomic_compare_exchange_weak(&ring->first_free, &first, at))
+    while (number_of(reader) < first && !atomic_compare_exchange_weak(&ring->first_free, &first, number_of(reader)))
         ;
     return true;
 }
 
-/* Looks at the lanes of which nothing is known until one has this ticket. That one is in no list then. */
+/* The lane's first event that is not before this ticket. What was given up may be published all the same, and is left out. */
+static const struct slot *first_from(struct reader *reader, uint32_t ticket)
+{
+    const struct slot *first;
+    while ((first = first_event(reader)) != NULL && (int32_t)(first->ticket - ticket) < 0)
+        reader->head++;
+    return first;
+}
+
+/* Looks at the lanes in the list until one has this ticket. Those that have got an event leave it. */
 static struct reader *look_at_waiting(struct ring *ring, uint32_t ticket)
 {
     for (uint32_t *place = &waiting; *place;) {
         struct reader *reader = &readers[*place - 1];
-        if (look(ring, reader, ticket)) {
-            *place = reader->next;
-            if (reader->ticket == ticket)
+        const struct slot *first = first_from(reader, ticket);
+        uint32_t next = reader->next;
+        if (first) {
+            *place = next;
+            reader->is_waiting = false;
+            if (first->ticket == ticket)
                 return reader;
-            put_into(list_of(reader->ticket), reader);
+            note(reader);
             continue;
         }
-        tell_head(ring, reader);
+        tell_head(reader);
         if (give_free(ring, reader))
-            *place = reader->next;
+            *place = next;
         else
             place = &reader->next;
     }
     return NULL;
 }
 
-static bool follow_new(struct ring *ring)
+/* Looks for the ticket in the lanes that are not in the list. Another lane may have taken its place by the ticket, or an event before it is given up. */
+static struct reader *look_at_others(uint32_t ticket)
 {
-    uint32_t takes = atomic_load(&ring->takes), used = atomic_load(&ring->lanes_used);
-    if (takes == takes_seen)
-        return false;
-    takes_seen = takes;
-    for (uint32_t at = 0; at < used; at++) {
-        struct reader *reader = &readers[at];
-        if (reader->is_followed || atomic_load_explicit(&ring->lanes[at].state, memory_order_acquire) == LANE_FREE)
+    for (struct reader *reader = readers; reader < readers + followed; reader++) {
+        if (!reader->is_followed || reader->is_waiting)
             continue;
-        *reader = (struct reader){.slots = &ring->slots[lane_begin(at)], .mask = lane_slots(at) - 1, .head = atomic_load(&ring->lanes[at].head), .is_followed = true};
-        put_into(&waiting, reader);
+        const struct slot *first = first_from(reader, ticket);
+        if (first && first->ticket == ticket)
+            return reader;
+        if (!first)
+            wait_for(reader);
     }
-    return true;
+    return NULL;
 }
 
-static struct reader *find(struct ring *ring, uint64_t ticket)
+/* Lanes that were taken since. */
+static void follow_new(struct ring *ring)
 {
-    struct reader *reader = take_published((uint32_t)ticket);
-    if (!reader && atomic_load_explicit(&ring->tail, memory_order_relaxed) != ticket) {
-        reader = look_at_waiting(ring, (uint32_t)ticket);
-        if (!reader && follow_new(ring))
-            reader = look_at_waiting(ring, (uint32_t)ticket);
+    uint32_t takes = atomic_load(&ring->takes);
+    if (takes == takes_seen)
+        return;
+    takes_seen = takes;
+    followed = atomic_load(&ring->lanes_used);
+    for (uint32_t at = 0; at < followed; at++) {
+        struct lane *lane = &ring->lanes[at];
+        if (readers[at].is_followed || atomic_load_explicit(&lane->state, memory_order_acquire) == LANE_FREE)
+            continue;
+        readers[at] = (struct reader){&ring->slots[lane_begin(at)], lane, lane_slots(at) - 1, atomic_load(&lane->head), 0, true, false};
+        note(&readers[at]);
+    }
+}
+
+static __attribute__((noinline)) struct reader *look_everywhere(struct ring *ring, uint64_t ticket)
+{
+    if (atomic_load_explicit(&ring->tail, memory_order_relaxed) == ticket)
+        return NULL;
+    struct reader *reader = look_at_waiting(ring, (uint32_t)ticket);
+    if (!reader) {
+        follow_new(ring);
+        reader = look_at_others((uint32_t)ticket);
     }
     return reader;
 }
 
-bool lanes_take(struct ring *ring, uint64_t ticket, struct slot *event)
+const struct slot *lanes_take(struct ring *ring, uint64_t ticket, uint32_t *thread)
 {
-    struct reader *reader = find(ring, ticket);
-    if (!reader)
-        return false;
-    *event = reader->slots[reader->head & reader->mask];
-    event->thread = ring->lanes[reader - readers].thread;
-    step(ring, reader);
-    put_into(look(ring, reader, (uint32_t)ticket + 1) ? list_of(reader->ticket) : &waiting, reader);
-    return true;
+    uint32_t owner = owners[(uint16_t)ticket];
+    struct reader *reader = &readers[owner ? owner - 1 : 0];
+    const struct slot *slot = owner ? first_event(reader) : NULL;
+    if (__builtin_expect(!slot || slot->ticket != (uint32_t)ticket, 0)) {
+        reader = look_everywhere(ring, ticket);
+        if (!reader)
+            return NULL;
+        slot = first_event(reader);
+    }
+    *thread = reader->lane->thread;
+    if (reader->head % HEAD_STEP == 0)
+        tell_head(reader);
+    reader->head++;
+    note(reader);
+    return slot;
 }

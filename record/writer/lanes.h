@@ -2,11 +2,12 @@
 #ifndef ERASER_LANES_H
 #define ERASER_LANES_H
 
-#include <stdbool.h>
+#include <stdint.h>
 
 #include "../ring.h"
 
-/* Takes the event of this ticket, which is the one behind the event that was taken or given up last. False if it isn't published yet. */
-bool lanes_take(struct ring *ring, uint64_t ticket, struct slot *event);
+/* The event of this ticket, which is the one behind the event that was taken or given up last, and the number of its thread. NULL if it isn't published
+ * yet. Its slot stays as it is until the next call. */
+const struct slot *lanes_take(struct ring *ring, uint64_t ticket, uint32_t *thread);
 
 #endif
