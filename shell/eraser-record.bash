@@ -6,7 +6,7 @@ _eraser_record() {
     while ((place < COMP_CWORD)); do
         case ${COMP_WORDS[place]} in
         --) place=$((place + 1)) && break ;;
-        --output | -o | --report | --suppress | --analysis | --format | --exit-status | --runs | --trace | --limit | --root)
+        --output | -o | --report | --workers | --suppress | --analysis | --format | --exit-status | --runs | --trace | --limit | --root)
             option=${COMP_WORDS[place]}
             [ "${COMP_WORDS[place + 1]}" != = ] || place=$((place + 1))
             place=$((place + 2))
@@ -22,7 +22,7 @@ _eraser_record() {
         return
     elif ((place == COMP_CWORD)); then
         case $word in
-        -*) _eraser_record_words "--output --replay --report --suppress --analysis --explain --by-site --format --strict --until-fault --exit-status --shake --runs --order --trace --stacks --flow --limit --root --paths --quiet --help --version -o -q -h -V" ;;
+        -*) _eraser_record_words "--output --replay --report --workers --suppress --analysis --explain --by-site --format --strict --until-fault --exit-status --shake --runs --order --trace --stacks --flow --limit --root --paths --quiet --help --version -o -q -h -V" ;;
         *) _eraser_record_programs ;;
         esac
         return

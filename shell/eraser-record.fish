@@ -6,7 +6,7 @@ function __eraser_record_before_program
     set -e words[1]
     while set -q words[1]
         switch $words[1]
-            case --output -o --report --suppress --analysis --format --exit-status --runs --trace --limit --root
+            case --output -o --report --workers --suppress --analysis --format --exit-status --runs --trace --limit --root
                 set -e words[1]
             case '-*'
             case '*'
@@ -17,11 +17,12 @@ function __eraser_record_before_program
     return 0
 end
 
-complete -c eraser-record -x -a '(__fish_complete_subcommand -- --output -o --report --suppress --analysis --format --exit-status --runs --trace --limit --root)'
+complete -c eraser-record -x -a '(__fish_complete_subcommand -- --output -o --report --workers --suppress --analysis --format --exit-status --runs --trace --limit --root)'
 
 complete -c eraser-record -n __eraser_record_before_program -s o -l output -r -F -d 'Keep the trace in FILE, and replay nothing; a folder takes that of each program'
 complete -c eraser-record -n __eraser_record_before_program -l replay -d 'With -o: replay as well'
 complete -c eraser-record -n __eraser_record_before_program -l report -r -F -d 'Write the report to FILE instead of standard error; - is standard output; a folder takes that of each program'
+complete -c eraser-record -n __eraser_record_before_program -l workers -x -d 'Replay by N threads, 1 to 16. The default is 2 on 4 processors or more, and else 1'
 complete -c eraser-record -n __eraser_record_before_program -l suppress -r -F -d 'Leave out the races that these rules take'
 complete -c eraser-record -n __eraser_record_before_program -l analysis -x -a 'lockset happens-before both' -d 'Report by lockset (the default), happens-before or both; the last two record with --order'
 complete -c eraser-record -n __eraser_record_before_program -l explain -d 'Name the accesses that make each race'

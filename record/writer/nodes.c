@@ -99,10 +99,10 @@ static uint32_t place_of(const struct site *site)
     return entry->number;
 }
 
-static uint32_t new_node(const struct site *site, uint32_t caller)
+static uint32_t new_node(const struct site *site, bool is_inlined, uint32_t caller)
 {
     uint32_t place = place_of(site);
-    uint8_t flags = (uint8_t)((site->is_in_header ? NODE_IN_HEADER : 0) | (site->caller ? NODE_INLINED : 0));
+    uint8_t flags = (uint8_t)((site->is_in_header ? NODE_IN_HEADER : 0) | (is_inlined ? NODE_INLINED : 0));
     uint64_t key = (uint64_t)place << 8 | flags;
     struct entry *entry = find_or_free(&nodes, key, caller, NULL);
     if (!entry->number && place && binary_add_node(caller, place - 1, flags))
@@ -110,10 +110,19 @@ static uint32_t new_node(const struct site *site, uint32_t caller)
     return entry->number;
 }
 
-/* The node of a site, whose function may have been inlined. */
+/* The nearest site outside of headers of the system, of those into which this one was inlined, or NULL. */
+static const struct site *outside_headers(const struct site *site)
+{
+    while (site && site->is_in_header)
+        site = site->caller;
+    return site;
+}
+
+/* The node of a site, whose function may have been inlined. Nobody needs the lines of the system's headers through which it was called. */
 static uint32_t node_of_site(const struct site *site, uint32_t caller)
 {
-    return new_node(site, site->caller ? node_of_site(site->caller, caller) : caller);
+    const struct site *around = outside_headers(site->caller);
+    return new_node(site, around != NULL, around ? node_of_site(around, caller) : caller);
 }
 
 /* An access in a header of the system stands for its nearest caller that is known. */
@@ -131,4 +140,10 @@ uint32_t nodes_find(uint64_t place, uint32_t caller)
         add(&known, entry, (struct entry){place, caller, node, NULL});
     recent_nodes[(place ^ caller) % RECENT_NODES] = (struct recent_node){place, caller, node};
     return node;
+}
+
+uint32_t nodes_of_call(uint64_t place, uint32_t caller)
+{
+    const struct site *site = outside_headers(site_of(place));
+    return site ? node_of_site(site, caller) : caller;
 }

@@ -25,6 +25,9 @@ static inline uint32_t node_of(uint64_t place, uint32_t caller)
     return recent->place == place && recent->caller == caller && recent->node ? recent->node : nodes_find(place, caller);
 }
 
+/* The node of a call in which others are made, outside of headers of the system: that of `caller` if the call is in these alone. */
+uint32_t nodes_of_call(uint64_t place, uint32_t caller);
+
 /* The program's files have changed, so that a place may have another node from now on. */
 void nodes_forget_places(void);
 

@@ -3,6 +3,7 @@
 
 #include <errno.h>
 #include <getopt.h>
+#include <sched.h>
 #include <stdio.h>
 #include <stdlib.h>
 #include <string.h>
@@ -16,6 +17,13 @@
 /* How many bytes of a trace are kept in a file by default. A replay takes a text of this length by default; that of a trace 4 is longer. */
 #define USUAL_LIMIT 268435456u
 #define MOST_RUNS 10000
+/* As many as the replay may have. */
+#define MOST_WORKERS 16
+/* From so many processors on a replay has two workers: the program and its writer have the others. */
+#define MANY_PROCESSORS 4
+
+/* The form of a trace that nobody keeps, unless an option says another one: that which a replay beside the program reads faster. */
+#define FORM_OF_PIPE text_form
 
 struct options options = {.runs = 1};
 
@@ -30,6 +38,7 @@ static const char usage[] =
     "  -o, --output FILE       keep the trace in FILE, and replay nothing; a folder takes that of each program\n"
     "      --replay            with -o: replay as well\n"
     "      --report FILE       write the report to FILE instead of standard error; `-` is standard output; a folder takes that of each program\n"
+    "      --workers N         replay by N threads, 1 to 16. The default is 2 on 4 processors or more, and else 1\n"
     "      --suppress RULES    leave out the races that these rules take (docs/FORMATS.md)\n"
     "      --analysis RULE     report by `lockset` (the default), `happens-before` or `both`; the last two record with --order\n"
     "      --explain           name the accesses that make each race\n"
@@ -146,6 +155,12 @@ static bool needs_order(void)
     return options.analysis && strcmp(options.analysis, "lockset") != 0;
 }
 
+static unsigned usual_workers(void)
+{
+    cpu_set_t processors;
+    return sched_getaffinity(0, sizeof processors, &processors) != 0 || CPU_COUNT(&processors) < MANY_PROCESSORS ? 1 : 2;
+}
+
 /* The limit is of a file that grows. A replay takes what comes. */
 static void set_limit(void)
 {
@@ -222,6 +237,8 @@ static void choose_form(void)
         refuse("--flow does not go with --trace 3: a text has no data flow");
     if (options.has_stacks || options.has_flow)
         trace_form = &binary_form;
+    else if (!options.has_form && !options.trace)
+        trace_form = &FORM_OF_PIPE;
 }
 
 /* Options that don't go together. */
@@ -237,7 +254,7 @@ static void check_together(void)
 
 void read_options(int count, char **words)
 {
-    enum { REPLAY = 256, REPORT, SUPPRESS, EXPLAIN, BY_SITE, STRICT, UNTIL_FAULT, FORMAT, ANALYSIS, EXIT_STATUS, ORDER, TRACE, STACKS, FLOW, LIMIT, ROOT, PATHS, SHAKE, REPEAT };
+    enum { REPLAY = 256, REPORT, SUPPRESS, EXPLAIN, BY_SITE, STRICT, UNTIL_FAULT, FORMAT, ANALYSIS, EXIT_STATUS, ORDER, TRACE, STACKS, FLOW, LIMIT, ROOT, PATHS, SHAKE, REPEAT, REPLAYERS };
     static const struct option names[] = {
         {"output", 1, NULL, 'o'},         {"replay", 0, NULL, REPLAY}, {"report", 1, NULL, REPORT}, {"suppress", 1, NULL, SUPPRESS},
         {"exit-status", 1, NULL, EXIT_STATUS}, {"limit", 1, NULL, LIMIT},   {"paths", 0, NULL, PATHS},   {"quiet", 0, NULL, 'q'},
@@ -245,7 +262,7 @@ void read_options(int count, char **words)
         {"explain", 0, NULL, EXPLAIN},    {"by-site", 0, NULL, BY_SITE}, {"format", 1, NULL, FORMAT}, {"help", 0, NULL, 'h'},
         {"order", 0, NULL, ORDER},        {"analysis", 1, NULL, ANALYSIS}, {"strict", 0, NULL, STRICT},
         {"until-fault", 0, NULL, UNTIL_FAULT}, {"version", 0, NULL, 'V'}, {"trace", 1, NULL, TRACE}, {"stacks", 0, NULL, STACKS},
-        {"flow", 0, NULL, FLOW},
+        {"flow", 0, NULL, FLOW},          {"workers", 1, NULL, REPLAYERS},
         {NULL, 0, NULL, 0},
     };
     for (int got; (got = getopt_long(count, words, "+o:qhV", names, NULL)) != -1;)
@@ -253,6 +270,7 @@ void read_options(int count, char **words)
         case 'o': options.trace = optarg; break;
         case REPLAY: options.replays = true; break;
         case REPORT: options.report = optarg; break;
+        case REPLAYERS: options.workers = (unsigned)read_number(optarg, 1, MOST_WORKERS, "--workers wants a number from 1 to 16"); break;
         case SUPPRESS: options.rules = optarg; break;
         case EXPLAIN: options.explains = true; break;
         case BY_SITE: options.by_site = true; break;
@@ -282,6 +300,7 @@ void read_options(int count, char **words)
         exit(STATUS_FAILED);
     }
     options.replays |= !options.trace || options.report || options.rules || says_how_to_report() || options.ends_as_report;
+    options.workers = options.workers ? options.workers : usual_workers();
     options.has_report_folder = is_folder(options.report);
     options.has_trace_folder = is_folder(options.trace);
     report_for_people();

@@ -15,6 +15,7 @@ struct options {
     const char *report;
     const char *rules;
     bool replays;
+    unsigned workers; /* threads of a replay */
     bool explains;
     bool by_site;
     bool is_strict;

@@ -148,12 +148,18 @@ void replay_open_report(void)
 /* The words of the replay, of which the last is the trace. */
 static void put_words(char **words, const char *trace)
 {
+    static char workers[16];
     int count = 0;
     words[count++] = (char *)command();
     words[count++] = "replay";
     /* The writer ends a trace that it keeps at its limit, so the replay needs none. This is the greatest that it knows. */
     words[count++] = "--byte-limit";
     words[count++] = "4611686018427387904";
+    if (options.workers > 1) {
+        snprintf(workers, sizeof workers, "%u", options.workers);
+        words[count++] = "--workers";
+        words[count++] = workers;
+    }
     if (options.rules) {
         words[count++] = "--suppress";
         words[count++] = (char *)options.rules;

@@ -45,23 +45,14 @@ void stacks_forget_places(void)
     stack_of_event = NO_STACK;
 }
 
-/* A place in a header of the system that is inlined into no line outside of them. */
-static bool is_in_headers(const struct site *site)
-{
-    for (; site; site = site->caller)
-        if (!site->is_in_header)
-            return false;
-    return true;
-}
-
-/* Calls before the first function of the program's own have no node: they are the C library's or the recorder's, or of a header of the system, as those
- * by which std::thread starts a function. Nobody needs their lines, and to unpack the C library's debug information takes longer than to record a short
- * program. Nor has the recorder's own call of a function that it was given, as by pthread_once: the program has called the C library. */
+/* Calls before the first function of the program's own have no node: they are the C library's or the recorder's. Nobody needs their lines, and to unpack
+ * the C library's debug information takes longer than to record a short program. Nor has the recorder's own call of a function that it was given, as by
+ * pthread_once: the program has called the C library. */
 static uint32_t new_node(uint64_t call, uint32_t caller)
 {
     if (sites_is_recorder(call))
         return caller;
-    return caller || (sites_has_instrumented(call) && !is_in_headers(site_of(call))) ? node_of(call, caller) : 0;
+    return caller || sites_has_instrumented(call) ? nodes_of_call(call, caller) : 0;
 }
 
 /* The trace's node of a node of the ring. The program may have written anything into the ring: a caller is a node that was there before. */
