@@ -3,6 +3,7 @@
 
 #include <stdbool.h>
 #include <stddef.h>
+#include <sys/mman.h>
 
 /* A thread sees how far the writer has come in its lane once in this number of events. */
 #define HEAD_STEP 512
@@ -68,12 +69,14 @@ static inline void note(struct reader *reader)
 /* What an old entry by a ticket finds of a lane that is free: no event. */
 static const struct slot nothing;
 
-/* Gives a lane free whose thread has ended. */
+/* Gives a lane free whose thread has ended. Of lanes that only many threads need, no memory is kept. */
 static bool give_free(struct ring *ring, struct reader *reader)
 {
     struct lane *lane = reader->lane;
     if (atomic_load_explicit(&lane->state, memory_order_acquire) != LANE_LEFT || lane->end != reader->head)
         return false;
+    if (number_of(reader) >= LARGE_LANES)
+        madvise((void *)(uintptr_t)reader->slots, (reader->mask + UINT64_C(1)) * sizeof *reader->slots, MADV_REMOVE);
     uint32_t first = atomic_load(&ring->first_free);
     *reader = (struct reader){.slots = &nothing};
     atomic_store(&lane->state, LANE_FREE);
