@@ -11,6 +11,9 @@
 
 #define RING_MAGIC 0x61676e6972617265u /* "eraringa" in memory */
 
+/* No ticket is 0. */
+#define FIRST_TICKET 1
+
 /* A lane of the first kind has 1 MiB of slots, and one of the second 128 KiB. No page of a lane is used before its slots are. A thread takes the first
  * lane that is free, so that only programs with many threads use those of the second kind. */
 #define LARGE_LANES 64u

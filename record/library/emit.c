@@ -56,6 +56,7 @@ static void give_up(struct ring *ring, struct self *me)
         }
         course->next++;
     }
+    course->ticket = TICKET_NONE;
     set_depth(me, me->depth - 1);
     if (!is_published)
         count_lost(ring, me);
@@ -86,9 +87,20 @@ static bool take_lane(struct ring *ring, const struct self *me, struct course *c
     course->lane = at;
     course->mask = lane_slots(at) - 1;
     course->next = atomic_load(&ring->lanes[at].head);
+    course->full = course->next + course->mask + 1;
     course->slots = &ring->slots[lane_begin(at)];
     atomic_fetch_add(&ring->takes, 1);
     return true;
+}
+
+/* The lane has no more events. */
+static void leave_lane(struct ring *ring, struct course *course)
+{
+    struct lane *lane = &ring->lanes[course->lane];
+    course->slots = NULL;
+    course->full = course->next;
+    lane->end = course->next;
+    atomic_store_explicit(&lane->state, LANE_LEFT, memory_order_release);
 }
 
 /* Whether the writer waits for an event that the signal handler has interrupted which is to record one in this course. */
@@ -100,15 +112,19 @@ static bool is_awaited(const struct ring *ring, const struct self *me, const str
     return false;
 }
 
-/* Waits until the lane has room. False if there will be none: the writer stopped, or waits for this thread. */
+/* Waits until the lane has room, or takes another one if the writer waits for this thread. False if there will be none. */
 static bool wait_for_room(struct ring *ring, const struct self *me, struct course *course)
 {
     for (unsigned turn = 0;; turn++) {
         course->full = atomic_load_explicit(&ring->lanes[course->lane].head, memory_order_acquire) + course->mask + 1;
         if (course->next != course->full)
             return true;
-        if (is_awaited(ring, me, course) || atomic_load_explicit(&ring->stop, memory_order_relaxed))
+        if (atomic_load_explicit(&ring->stop, memory_order_relaxed))
             return false;
+        if (is_awaited(ring, me, course)) {
+            leave_lane(ring, course);
+            return take_lane(ring, me, course);
+        }
         struct timespec pause = {0, 50000};
         syscall(SYS_nanosleep, &pause, NULL);
         if (turn % 1024 == 1023 && syscall(SYS_kill, ring->writer, 0) != 0 && errno == ESRCH)
@@ -116,40 +132,32 @@ static bool wait_for_room(struct ring *ring, const struct self *me, struct cours
     }
 }
 
-/* Meanwhile the events of handlers go to the next course. */
-static bool make_room(struct ring *ring, struct self *me, struct course *course, void *frame)
+bool emit_wait(struct ring *ring, struct self *me, struct course *course, void *outer_frame)
 {
-    course->frame = frame;
-    course->ticket = TICKET_NONE;
-    set_depth(me, me->depth + 1);
-    bool has_room = (course->slots || take_lane(ring, me, course)) && wait_for_room(ring, me, course);
-    set_depth(me, me->depth - 1);
+    int error = errno;
+    if (me->number == 0)
+        begin_self(ring, atomic_fetch_add_explicit(&ring->threads, 1, memory_order_relaxed) + 1);
+    bool has_room = course->slots ? wait_for_room(ring, me, course) : take_lane(ring, me, course);
+    if (!has_room) {
+        set_depth(me, me->depth - 1);
+        course->frame = outer_frame;
+        count_lost(ring, me);
+    }
+    errno = error;
     return has_room;
 }
 
 /* An event that was begun has been interrupted by a signal handler, whose frame is lower; or a handler left it for good by longjmp. */
-static struct course *prepare(struct ring *ring, struct self *me, void *frame)
-{
-    while (me->depth && (char *)frame >= (char *)me->courses[me->depth - 1].frame && !is_on_other_stack())
-        give_up(ring, me);
-    struct course *course = &me->courses[me->depth];
-    bool has_room = me->depth < DEPTHS && (course->next != course->full || make_room(ring, me, course, frame));
-    return has_room ? course : NULL;
-}
-
 struct course *emit_prepare(struct ring *ring, struct self *me, void *frame)
 {
     int error = errno;
-    struct course *course = NULL;
-    if (!atomic_load_explicit(&ring->stop, memory_order_relaxed)) {
-        if (me->number == 0)
-            begin_self(ring, atomic_fetch_add_explicit(&ring->threads, 1, memory_order_relaxed) + 1);
-        course = prepare(ring, me, frame);
-    }
-    if (!course)
+    while (me->depth && (char *)frame >= (char *)me->courses[me->depth - 1].frame && !is_on_other_stack())
+        give_up(ring, me);
+    bool has_course = me->depth < DEPTHS && !atomic_load_explicit(&ring->stop, memory_order_relaxed);
+    if (!has_course)
         count_lost(ring, me);
     errno = error;
-    return course;
+    return has_course ? &me->courses[me->depth] : NULL;
 }
 
 void emit_end_of_thread(void)
@@ -161,13 +169,8 @@ void emit_end_of_thread(void)
 void emit_leave_lanes(void)
 {
     for (struct course *course = self.courses; attached->ring && course < self.courses + DEPTHS; course++)
-        if (course->slots) {
-            struct lane *lane = &attached->ring->lanes[course->lane];
-            course->slots = NULL;
-            course->full = course->next;
-            lane->end = course->next;
-            atomic_store_explicit(&lane->state, LANE_LEFT, memory_order_release);
-        }
+        if (course->slots)
+            leave_lane(attached->ring, course);
 }
 
 void emit_range(enum event_kind kind, const volatile void *address, uint64_t size, uint64_t site)

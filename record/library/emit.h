@@ -32,8 +32,8 @@ struct attachment {
 extern struct attachment *attached;
 
 /* Tickets of events that have none, or don't know it yet. */
-#define TICKET_NONE UINT64_MAX
-#define TICKET_DRAWING (UINT64_MAX - 1)
+#define TICKET_NONE 0u
+#define TICKET_DRAWING UINT64_MAX
 
 /* A thread's events of one depth: a signal handler that interrupts an event puts its own into another lane. So the tickets of a lane's events rise. */
 struct course {
@@ -42,8 +42,8 @@ struct course {
     uint32_t next;      /* the position of the next event, or of the one that was begun */
     uint32_t full;      /* the position for which there may be no room */
     uint32_t lane;
-    uint64_t ticket;    /* of the event that was begun */
-    void *frame;        /* of the function that has begun it */
+    uint64_t ticket;    /* of the event that was begun. If none was, this is TICKET_NONE */
+    void *frame;        /* of the function that has begun it. It is right as long as an event is begun: set before and put back after */
 };
 /* A handler that interrupts an event of a handler that interrupts an event, and so on. Deeper ones lose their events. */
 #define DEPTHS 4u
@@ -62,8 +62,10 @@ struct self {
 /* Of the initial-exec model, since the dynamic loader calls in before it could make room for any other. */
 extern __thread struct self self __attribute__((tls_model("initial-exec")));
 
-/* What seldom has to be done before an event. Returns the course that it goes to, with room, or NULL if it can't be recorded. */
+/* The course of an event in a thread that has begun others, or NULL if it can't be recorded. */
 struct course *emit_prepare(struct ring *ring, struct self *me, void *frame);
+/* Waits for room for the event that was begun last, whose course had another frame before. False if there will be none: then it is no event. */
+bool emit_wait(struct ring *ring, struct self *me, struct course *course, void *outer_frame);
 /* A thread that ends leaves no event open, even if it was cancelled in the middle of one. */
 void emit_end_of_thread(void);
 /* It has no more events. */
@@ -118,16 +120,25 @@ static inline void set_depth(struct self *me, uint32_t depth)
     __atomic_signal_fence(__ATOMIC_SEQ_CST);
 }
 
+static inline void set_ticket(struct course *course, uint64_t ticket)
+{
+    __atomic_signal_fence(__ATOMIC_SEQ_CST);
+    __atomic_store_n(&course->ticket, ticket, __ATOMIC_RELAXED);
+    __atomic_signal_fence(__ATOMIC_SEQ_CST);
+}
+
 /* An event that has its ticket and is not published yet. */
 struct draft {
     struct self *me;
     struct course *course;
     uint64_t ticket;
+    void *outer_frame; /* what the course had before */
 };
 
 /* Draws a ticket for one event. There is room for it before, since no thread may wait once it has its ticket. A signal handler may come in between
- * anywhere and record events of its own: they take later tickets, and go to another lane. False if the event can't be recorded. The caller must
- * still run when it publishes the event, since its frame says that the event was not left. */
+ * anywhere and record events of its own: once this one is begun, they take another lane, and later tickets if this one has its ticket. Before that they
+ * leave all but the position as they found it. False if the event can't be recorded. The caller must still run when it publishes the event, since its
+ * frame says that the event was not left. */
 static inline __attribute__((always_inline)) bool emit_draw(struct draft *draft)
 {
     struct ring *ring = attached->ring;
@@ -135,17 +146,20 @@ static inline __attribute__((always_inline)) bool emit_draw(struct draft *draft)
         return false;
     struct self *me = &self;
     struct course *course = &me->courses[0];
-    if (UNLIKELY(me->depth || course->next == course->full || atomic_load_explicit(&ring->stop, memory_order_relaxed))) {
+    if (UNLIKELY(me->depth || atomic_load_explicit(&ring->stop, memory_order_relaxed))) {
         course = emit_prepare(ring, me, __builtin_frame_address(0));
         if (!course)
             return false;
     }
+    void *outer_frame = course->frame;
     course->frame = __builtin_frame_address(0);
-    course->ticket = TICKET_DRAWING;
     set_depth(me, (uint32_t)(course - me->courses) + 1);
+    if (UNLIKELY(course->next == course->full) && !emit_wait(ring, me, course, outer_frame))
+        return false;
+    set_ticket(course, TICKET_DRAWING);
     uint64_t ticket = atomic_fetch_add_explicit(&ring->tail, 1, memory_order_seq_cst);
-    course->ticket = ticket;
-    *draft = (struct draft){me, course, ticket};
+    set_ticket(course, ticket);
+    *draft = (struct draft){me, course, ticket, outer_frame};
     return true;
 }
 
@@ -178,7 +192,9 @@ static inline __attribute__((always_inline)) void emit_publish(const struct draf
     atomic_store_explicit(&slot->published, lane_mark(course->next), memory_order_release);
     __atomic_signal_fence(__ATOMIC_SEQ_CST);
     course->next++;
+    set_ticket(course, TICKET_NONE);
     set_depth(draft->me, (uint32_t)(course - draft->me->courses));
+    course->frame = draft->outer_frame;
 }
 
 /* Records one event. */

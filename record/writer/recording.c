@@ -66,6 +66,7 @@ void recording_make_ring(unsigned number)
     recording.ring->writer = (uint32_t)getpid();
     recording.ring->orders = options.orders;
     recording.ring->flows = options.has_flow;
+    recording.ring->head = recording.ring->tail = FIRST_TICKET;
     recording.ring->magic = RING_MAGIC;
 }
 
