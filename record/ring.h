@@ -121,6 +121,7 @@ enum lane_state {
 struct lane {
     _Alignas(64) _Atomic uint32_t state;
     uint32_t thread;       /* its number */
+    _Atomic uint32_t task; /* its id in the system, by which the writer sees that it is gone, or 0 */
     uint32_t end;
     _Atomic uint32_t head; /* the first position that the writer has not taken */
 };

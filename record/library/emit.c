@@ -84,6 +84,7 @@ static bool take_lane(struct ring *ring, const struct self *me, struct course *c
     for (uint32_t used = atomic_load(&ring->lanes_used); used <= at && !atomic_compare_exchange_weak(&ring->lanes_used, &used, at + 1);)
         ;
     ring->lanes[at].thread = me->number;
+    atomic_store(&ring->lanes[at].task, (uint32_t)syscall(SYS_gettid));
     course->lane = at;
     course->mask = lane_slots(at) - 1;
     course->next = atomic_load(&ring->lanes[at].head);

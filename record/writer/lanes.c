@@ -1,9 +1,14 @@
 #define _GNU_SOURCE
 #include "lanes.h"
 
+#include <errno.h>
 #include <stdbool.h>
 #include <stddef.h>
 #include <sys/mman.h>
+#include <sys/syscall.h>
+#include <unistd.h>
+
+#include "recording.h"
 
 /* A thread sees how far the writer has come in its lane once in this number of events. */
 #define HEAD_STEP 512
@@ -69,20 +74,43 @@ static inline void note(struct reader *reader)
 /* What an old entry by a ticket finds of a lane that is free: no event. */
 static const struct slot nothing;
 
-/* Gives a lane free whose thread has ended. Of lanes that only many threads need, no memory is kept. */
-static bool give_free(struct ring *ring, struct reader *reader)
+/* Of lanes that only many threads need, no memory is kept. */
+static void give_free(struct ring *ring, struct reader *reader)
 {
     struct lane *lane = reader->lane;
-    if (atomic_load_explicit(&lane->state, memory_order_acquire) != LANE_LEFT || lane->end != reader->head)
-        return false;
     if (number_of(reader) >= LARGE_LANES)
         madvise((void *)(uintptr_t)reader->slots, (reader->mask + UINT64_C(1)) * sizeof *reader->slots, MADV_REMOVE);
     uint32_t first = atomic_load(&ring->first_free);
     *reader = (struct reader){.slots = &nothing};
+    atomic_store(&lane->task, 0);
     atomic_store(&lane->state, LANE_FREE);
     while (number_of(reader) < first && !atomic_compare_exchange_weak(&ring->first_free, &first, number_of(reader)))
         ;
-    return true;
+}
+
+/* Whether no thread puts events into a lane of which all were taken. */
+static bool is_left(const struct reader *reader)
+{
+    return atomic_load_explicit(&reader->lane->state, memory_order_acquire) == LANE_LEFT && reader->lane->end == reader->head;
+}
+
+/* Some threads of the C library end unseen, such as those of timers. Once in this number of lanes that are taken, those of threads that are gone are
+ * called left. */
+#define TAKES_TO_LOOK 256
+
+static void look_for_gone(struct ring *ring)
+{
+    uint32_t owner = atomic_load(&ring->owner);
+    if (!recording_has_owner())
+        return;
+    for (struct reader *reader = readers; reader < readers + followed; reader++) {
+        struct lane *lane = reader->lane;
+        uint32_t task = reader->is_waiting && atomic_load(&lane->state) == LANE_TAKEN ? atomic_load(&lane->task) : 0;
+        if (!task || syscall(SYS_tgkill, owner, task, 0) == 0 || errno != ESRCH || first_event(reader))
+            continue;
+        lane->end = reader->head;
+        atomic_store(&lane->state, LANE_LEFT);
+    }
 }
 
 /* The lane's first event that is not before this ticket. What was given up may be published all the same, and is left out. */
@@ -110,9 +138,10 @@ static struct reader *look_at_waiting(struct ring *ring, uint32_t ticket)
             continue;
         }
         tell_head(reader);
-        if (give_free(ring, reader))
+        if (is_left(reader)) {
+            give_free(ring, reader);
             *place = next;
-        else
+        } else
             place = &reader->next;
     }
     return NULL;
@@ -139,6 +168,8 @@ static void follow_new(struct ring *ring)
     uint32_t takes = atomic_load(&ring->takes);
     if (takes == takes_seen)
         return;
+    if (takes / TAKES_TO_LOOK != takes_seen / TAKES_TO_LOOK)
+        look_for_gone(ring);
     takes_seen = takes;
     followed = atomic_load(&ring->lanes_used);
     for (uint32_t at = 0; at < followed; at++) {

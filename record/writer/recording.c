@@ -87,9 +87,7 @@ static void reap(void)
     }
 }
 
-/* True if the recorded program, as it was when it found the recording.ring, is still there. It is not if it has ended or started another program
- * in its place, which may have a ring of another number. */
-static bool has_owner(void)
+bool recording_has_owner(void)
 {
     uint32_t owner = atomic_load(&recording.ring->owner);
     char path[64], name[64], line[512];
@@ -131,7 +129,7 @@ static void wait_for_event(double *since)
         *since = now;
     double waited = now - *since;
     bool is_abandoned = atomic_load(&recording.ring->head) < atomic_load(&recording.ring->abandoned) && waited > PATIENCE_IF_ABANDONED;
-    bool is_gone = waited > 0.2 && !has_owner(); /* then the step that it was to record was never made */
+    bool is_gone = waited > 0.2 && !recording_has_owner(); /* then the step that it was to record was never made */
     if (!is_abandoned && !is_gone && waited < PATIENCE)
         return;
     drain_skip(recording.ring);
@@ -168,7 +166,7 @@ void recording_run(void)
             wait_for_event(&behind_since);
         else {
             behind_since = 0;
-            if (had_ended && (recording.is_to_end || !has_owner()) && !drain_is_behind(recording.ring))
+            if (had_ended && (recording.is_to_end || !recording_has_owner()) && !drain_is_behind(recording.ring))
                 return;
         }
         sleep_for(pause);

@@ -32,6 +32,9 @@ void recording_shake(unsigned run);
 bool recording_has_programs(void);
 /* Empties the ring until the command has ended, and the program that is recorded, too. */
 void recording_run(void);
+/* True if the recorded program, as it was when it found the ring, is still there. It is not if it has ended or started another program in its
+ * place, which may have a ring of another number. */
+bool recording_has_owner(void);
 /* Events that are in no trace. */
 uint64_t recording_lost(void);
 void sleep_for(long nanoseconds);
