@@ -12,8 +12,9 @@ use er_event::{Event, Site, Step, Sync, ThreadId, WordRange};
 use er_trace::Trace;
 use std::alloc::AllocError;
 
+/// The number of a site, if there is one.
 #[inline(always)]
-fn site_number(trace: &mut Trace, site: Option<&str>) -> Result<Site, AllocError>
+pub(crate) fn site_number(trace: &mut Trace, site: Option<&str>) -> Result<Site, AllocError>
     ensures number { IfOk result (λ number. number ≡ site_number trace.old (seen_name site.entry)) }
     ensures trace { OnOk result (trace.new ≡ with_site_of trace.old (seen_name site.entry)) }
 {

@@ -1,26 +1,46 @@
 //! Lines that a reader has ready: their steps are added as those of their text would be.
-ghost use Rattle.std.specs.Prelude.{◌≡◌, ◌<◌, ◌^◌, ◌/◌, OnOk, true};
+ghost use Rattle.std.specs.Prelude.{◌≡◌, ◌<◌, ◌^◌, ◌/◌, OnOk, true, if◌then◌else◌};
 ghost use Rattle.er_lines.specs.Ready.{is_ready};
-ghost use Rattle.er_text.specs.Events.{Accesses, with_line};
+ghost use Rattle.er_text.specs.Events.{Acquires, Releases, Accesses, with_line};
 ghost use Rattle.er_text.specs.Inner.Ready.{ready_event, site_if};
 
 use crate::Put;
-use crate::adding::{add_access, add_acquire, add_lone_access, add_release};
-use er_event::{Kind, Mode, Word};
+use crate::adding::site_number;
+use er_event::{Event, Kind, Mode, Site, Step, Word};
 use er_lines::{ReadyLine, ReadyVerb, name_text, site_text};
 use er_trace::Trace;
 
-/// Adds an access, at a site if this has bytes.
+/// Adds an access, at a site if this has bytes. The thread is numbered first.
 #[inline(always)]
 fn add_at(trace: &mut Trace, line: u64, thread: &str, kind: Kind, address: u64, site: &str) -> Put
     requires { address < 2 ^ 48 }
     ensures { OnOk result (trace.new ≡ with_line line (record { thread = thread.now; operation = Accesses kind (address / 4) (site_if site.now) }) trace.old) }
 {
-    let word = Word::new(address / Word::BYTES);
-    if site.is_empty() {
-        return add_lone_access(trace, line, thread, kind, word);
-    }
-    add_access(trace, line, thread, kind, word, site)
+    let thread = trace.thread(thread)?;
+    let site = site_number(trace, (!site.is_empty()).then_some(site))?;
+    let event = Event::Access(kind, Word::new(address / Word::BYTES), site);
+    trace.push(Step { thread, event }, line, site)
+}
+
+/// Adds the acquire or the release of a lock. The thread is numbered first.
+#[inline(always)]
+fn add_hold(
+    trace: &mut Trace,
+    line: u64,
+    thread: &str,
+    acquires: bool,
+    lock: &str,
+    mode: Mode,
+) -> Put
+    ensures { OnOk result (trace.new ≡ with_line line (record { thread = thread.now; operation = if acquires then Acquires lock.now mode else Releases lock.now mode }) trace.old) }
+{
+    let thread = trace.thread(thread)?;
+    let lock = trace.lock(lock)?;
+    let event = match acquires {
+        true => Event::Acquire(lock, mode),
+        false => Event::Release(lock, mode),
+    };
+    trace.push(Step { thread, event }, line, Site::MISSING)
 }
 
 /// Adds the step of a ready line.
@@ -39,9 +59,9 @@ pub(crate) fn add_ready(
     match ready.verb {
         ReadyVerb::Read => add_at(trace, line, thread, Kind::Read, ready.address, name),
         ReadyVerb::Write => add_at(trace, line, thread, Kind::Write, ready.address, name),
-        ReadyVerb::Lock => add_acquire(trace, line, thread, name, Mode::Write),
-        ReadyVerb::Unlock => add_release(trace, line, thread, name, Mode::Write),
-        ReadyVerb::ReadLock => add_acquire(trace, line, thread, name, Mode::Read),
-        ReadyVerb::ReadUnlock => add_release(trace, line, thread, name, Mode::Read),
+        ReadyVerb::Lock => add_hold(trace, line, thread, true, name, Mode::Write),
+        ReadyVerb::Unlock => add_hold(trace, line, thread, false, name, Mode::Write),
+        ReadyVerb::ReadLock => add_hold(trace, line, thread, true, name, Mode::Read),
+        ReadyVerb::ReadUnlock => add_hold(trace, line, thread, false, name, Mode::Read),
     }
 }
