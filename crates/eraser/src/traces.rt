@@ -9,9 +9,9 @@ ghost use Rattle.eraser.specs.Stories.{ExplainsTo, FailsOutput, IsExplainFault, 
 
 use crate::command::keys_from;
 use er_binary::Decoded;
+pub(crate) use er_binary::Directly;
 use er_device::Device;
 use er_exit::{Fault, open_ordinary, size_of};
-pub(crate) use er_lines::ByText as Directly;
 use er_print::WriteFault;
 use er_request::Explain;
 use er_story::{tell_line, write_story};
