@@ -11,13 +11,13 @@ use Rattle.er_batch.proofs.passes.Pass.turn.Goals as goal
 
 pub answer_last-requires-clause-formed : goal.answer_last-requires-clause-formed
 answer_last-requires-clause-formed g c κs within =
-    let grows : Grows c.args.self.now.trace c.prepare.new.beside.3.now = search rules in
+    let grows : Grows c.args.self.now.trace c.prepare.new.beside.4.now = search rules in
     still-formed _ _ _ _ _ grows.names c.requires.formed
 
 pub returns-in-More-clause-come : goal.returns-in-More-clause-come
 returns-in-More-clause-come g c = λ asked told come more.
     let t : Recording = c.args.self.now.trace in
-    let u : Recording = c.prepare.new.beside.3.now in
+    let u : Recording = c.prepare.new.beside.4.now in
     let known : Option (List ℕ) = g.D.Read.remaining (inner_of c.args.reader.now) in
     let rest : Option (List ℕ) = g.D.Read.remaining (inner_of c.reader-1.given.0) in
     let grows : Grows t u = search rules in
@@ -34,7 +34,7 @@ returns-in-More-clause-come g c = λ asked told come more.
 pub returns-in_ok-answer_last-in-End-clause-ended : goal.returns-in_ok-answer_last-in-End-clause-ended
 returns-in_ok-answer_last-in-End-clause-ended g c = λ asked told come ended.
     let t : Recording = c.args.self.now.trace in
-    let u : Recording = c.prepare.new.beside.3.now in
+    let u : Recording = c.prepare.new.beside.4.now in
     let known : Option (List ℕ) = g.D.Read.remaining (inner_of c.args.reader.now) in
     let rest : Option (List ℕ) = g.D.Read.remaining (inner_of c.prepare.new.beside.2.now) in
     let grows : Grows t u = search rules in
