@@ -137,15 +137,15 @@ impl CachedNames {
         ensures within { IfOk result (λ n. n < most_names) }
         ensures full { most_names ≤ length self.old → is_known self.old name.now ≡ false → IsErr result }
     {
-        if let Some(short) = ShortName::of(name.as_bytes())
-            && are_plain(name.as_bytes())
-        {
+        if let Some(short) = ShortName::of(name.as_bytes()) {
             if let Some(number) = self.recent.find(short) {
                 return Ok(number as usize);
             }
-            let number = self.list.number(name)?;
-            self.recent.remember(short, number as u32);
-            return Ok(number);
+            if are_plain(name.as_bytes()) {
+                let number = self.list.number(name)?;
+                self.recent.remember(short, number as u32);
+                return Ok(number);
+            }
         }
         let ending = ending_of(name);
         let hint = self.hints.hint(ending);
@@ -275,6 +275,10 @@ impl Names {
             && let Some(number) = self.threads.plain(short)
         {
             return Some(ThreadId::new(number));
+        }
+        let hint = self.threads.hints.hint(ending_of(name));
+        if self.threads.list.is_at(hint, name) {
+            return Some(ThreadId::new(hint as u32));
         }
         let number = self.threads.list.find(name)?;
         Some(ThreadId::new(number as u32))

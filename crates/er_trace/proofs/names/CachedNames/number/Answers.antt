@@ -5,8 +5,8 @@ use Rattle.er_trace.specs.Inner.Recent.{bytes_of, AreRight}
 use Rattle.er_trace.proofs.RecentLemmas.{still_right, knows_new, right_after}
 use Rattle.er_trace.proofs.names.CachedNames.number.Goals as goal
 
-pub invariant_of-self-2 : goal.invariant_of-self-2
-invariant_of-self-2 c =
+pub invariant_of-self-then-are_plain : goal.invariant_of-self-then-are_plain
+invariant_of-self-then-are_plain c =
     let done = c.in_ok-number.ensures in
     let bytes : bytes_of c.in-Some.short ≡ c.args.name.now = c.in-Some.ensures.bytes ∙ c.as_bytes.ensures.value in
     let plain : list_all is_plain_byte c.args.name.now ≡ true = search rules in
@@ -15,6 +15,6 @@ invariant_of-self-2 c =
     (subst P (sym done.ok) (still_right c.self.inside.list c.args.name.now c.self.inside.recent c.self.invariant))
     (knows_new c.self.inside.list c.number.new.self c.args.name.now (bytes_of c.in-Some.short) c.in_ok-number.number done.ok bytes done.number done.within plain)
 
-pub invariant_of-self-3 : goal.invariant_of-self-3
-invariant_of-self-3 c =
+pub invariant_of-self-2 : goal.invariant_of-self-2
+invariant_of-self-2 c =
     right_after c.number-2.result c.self.inside.list c.number-2.new.self c.args.name.now c.self.inside.recent c.self.invariant c.number-2.ensures.ok c.number-2.ensures.err
