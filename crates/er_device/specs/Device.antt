@@ -1,4 +1,4 @@
--- What a clause says of a device: what it wraps, whether a call failed, how many bytes its reads gave.
+-- What a clause says of a device: what it wraps, whether a call failed, how many bytes were taken from it.
 use Rattle.std.specs.Prelude.{◌≡◌, ℕ, ◌+◌, ◌-◌, ◌^◌, min, Bool, true, false, MatchResult, Result, Option, List, take}
 use Rattle.std.specs.Io.KnownBytes.{Appends}
 use Rattle.er_device.specs.declared.device.Device.{Device}
@@ -11,7 +11,7 @@ inner_of device = device.inner
 abbrev pub has_failed : {D : Type 0} → Device D → Bool
 has_failed device = device.failed
 
--- how many bytes its reads gave
+-- how many bytes its reads gave and its caller counted
 abbrev pub taken_of : {D : Type 0} → Device D → ℕ
 taken_of device = device.taken
 

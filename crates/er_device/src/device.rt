@@ -8,7 +8,8 @@ ghost use Rattle.er_device.specs.Device.{inner_of, has_failed, taken_of, fresh, 
 
 use std::io::{Read, Write};
 
-/// A reader or a writer that remembers whether one of its calls failed, and how many bytes its reads gave.
+/// A reader or a writer that remembers whether one of its calls failed, and how many bytes were taken from it: those that its reads gave, and those
+/// that its caller counted. A call through `inner_mut` goes past both: the caller counts what it takes there, and a failure is not remembered.
 #[derive(Debug, Drop)]
 pub struct Device<D> {
     inner: D,
@@ -39,7 +40,7 @@ impl<D> Device<D> {
         self.failed
     }
 
-    /// How many bytes its reads gave, up to the greatest number.
+    /// How many bytes its reads gave and its caller counted, up to the greatest number.
     pub fn taken(&self) -> u64
         ensures { result ≡ taken_of self.now }
     {
@@ -62,7 +63,7 @@ impl<D> Device<D> {
         &self.inner
     }
 
-    /// What it wraps, for a call of its own.
+    /// What it wraps, for a call of its own, which changes neither `failed` nor `taken`.
     #[inline(always)]
     pub fn inner_mut(&mut self) -> &mut D
         ensures* writes_back { sem 𝓛 (Lends (the_row D.row) D.row self.entry result (with_inner self.old)) }
