@@ -1,5 +1,5 @@
 //! The lines of a text, one after another, in whatever pieces a reader gives its bytes.
-ghost use Rattle.std.specs.Prelude.{◌≡◌, ◌+◌, ◌++◌, ◌<◌, ◌≤◌, ◌^◌, length, take, OnOk, IfOk, IfSome, IsErrOf, true, if◌then◌else◌, ℕ, List, Option, false};
+ghost use Rattle.std.specs.Prelude.{◌≡◌, ◌+◌, ◌-◌, ◌++◌, ◌<◌, ◌≤◌, ◌^◌, min, length, take, OnOk, IfOk, IfSome, IsErrOf, true, if◌then◌else◌, ℕ, List, Option, false};
 ghost use Rattle.std.specs.Io.KnownBytes.{Keeps, prepend_known};
 ghost use Rattle.er_device.specs.Device.{inner_of, has_failed, taken_of, Failing};
 ghost use Rattle.er_lines.specs.Lines.{bytes_past_limit, AreWhole};
@@ -196,6 +196,7 @@ impl LineReader {
         ensures within { self.new.start ≤ self.new.limit }
         ensures failed { has_failed reader.new ≡ has_failed reader.old }
         ensures counted { taken_of reader.new + taken_by self.old ≤ taken_of reader.old + taken_by self.new }
+        ensures told { IfSome result (λ line. taken_of reader.new ≡ min (taken_of reader.old + (self.new.start - self.old.start)) (2 ^ 64 - 1)) }
         ensures most { taken_by self.new ≤ self.new.limit + bytes_past_limit }
     {
         if !is_asked || !self.window.is_empty() || self.limit - self.start < 1025 {
