@@ -1,5 +1,5 @@
 -- A story by its parts, and its names.
-use Rattle.std.proofs.Common.{◌≡◌, ◌∙◌, ◌+◌, ◌<◌, ℕ, zero, suc, nat_lt, Bool, true, false, true≢false, cond, List, [], slice_get, Option, Some, None, Result, Ok, refl, sym, ap, ◌==◌, length}
+use Rattle.std.proofs.Common.{◌≡◌, ◌∙◌, ◌+◌, ◌<◌, ℕ, zero, suc, nat_lt, Bool, true, false, true≢false, cond, List, [], slice_get, slice_index, Option, Some, None, Result, Ok, refl, sym, ap, ◌==◌, length}
 use Rattle.std.specs.List.{All}
 use Rattle.std.specs.List.{position}
 use Rattle.std.proofs.lemmas.List.Quantifiers.{position-Some}
@@ -31,6 +31,13 @@ use Rattle.er_trace.specs.Trace.{IsNamed, Recording}
 pub story-found : (r : Recording) (k : ℕ) (step : Step) (story : Story) → slice_get r.steps k ≡ Some step → story ≡ story_of r k step → story_at r k ≡ Some story
 unfolding story_at
 story-found r k step story is same = rw is (ap Some (sym same))
+
+-- whose parts are these, where the thread holds this before the step
+pub story-made : (r : Recording) (k : ℕ) (steps : List Step) (lines : List ℕ) (step : Step) (h : Holdings) → steps ≡ r.steps → lines ≡ r.lines → h ≡ holdings_at steps step.thread k
+    → (held : List ℕ) → held ≡ h.held → (write_held : List ℕ) → write_held ≡ h.write_held → (said : Result Reply Refusal) → said ≡ answer r.steps k
+    → (word : Option WordTale) → word ≡ tale_in r k step.event
+    → record { line = slice_index lines k; step = step; answer = said; held = held; write_held = write_held; word = word } ≡ story_of r k step
+story-made r k steps lines step h same level holds held any write_held write said answered word told = rw (told, answered, write, any, holds, same, level) refl
 
 -- by the place of its line
 pub none-found : (r : Recording) (line : ℕ) → None ≡ position (λ (l : ℕ). l == line) r.lines → None ≡ story_on r line

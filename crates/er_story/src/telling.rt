@@ -44,29 +44,12 @@ pub fn tell(alloc: Global, trace: &Trace, place: usize) -> Result<Story, AllocEr
     ensures named { IfOk result (HasStoryNames trace.now.names) }
 {
     let steps = trace.steps();
+    let lines = trace.lines();
     let step = &steps[place];
     let mut holding = held_before(alloc, steps, step.thread, place)?;
-    let story = story_of(alloc, trace, place, step, &mut holding)?;
-    Ok(story)
-}
-
-// The story of this step, which stands at a place of the trace, if its thread holds this before it.
-fn story_of(
-    alloc: Global,
-    trace: &Trace,
-    place: usize,
-    step: &Step,
-    holding: &mut Held,
-) -> Made<Story>
-    requires step { slice_get trace.now.steps place ≡ Some step.now }
-    requires within { place < length trace.now.steps }
-    requires holding { holding.old ≡ holdings_at trace.now.steps step.now.thread place }
-    ensures { IfOk result (λ story. story ≡ story_of trace.now place step.now) }
-{
-    let lines = trace.lines();
     let held = holding.held().copy()?;
     let write_held = holding.write_held().copy()?;
-    let (answer, word) = tell_of(alloc, trace, place, step, holding)?;
+    let (answer, word) = tell_of(alloc, trace, place, step, &mut holding)?;
     Ok(Story {
         line: lines[place],
         step: *step,

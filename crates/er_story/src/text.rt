@@ -105,22 +105,15 @@ fn put_word(out: &mut Vec<u8>, names: &Names, word: &Option<WordStory>) -> Put
 {
     match word {
         Some(word) => {
-            put_change(out, names, word)?;
+            put!(out, Style::Plain, names;
+                State(b"before: ", &word.before), State(b"\nafter: ", &word.after),
+                Text(emptied_text(empties(&word.before, &word.after))),
+                Number(b"\nearlier accesses: ", word.accesses), Text(b"\n")
+            )?;
             put_turns(out, names, &word.turns)
         }
         None => Ok(()),
     }
-}
-
-fn put_change(out: &mut Vec<u8>, names: &Names, word: &WordStory) -> Put
-    requires { HasTaleNames names.now word.now }
-    ensures { OnOk result (out.new.items ≡ out.old.items ++ change_text names.now word.now) }
-{
-    put!(out, Style::Plain, names;
-        State(b"before: ", &word.before), State(b"\nafter: ", &word.after),
-        Text(emptied_text(empties(&word.before, &word.after))),
-        Number(b"\nearlier accesses: ", word.accesses), Text(b"\n")
-    )
 }
 
 fn put_turns(out: &mut Vec<u8>, names: &Names, turns: &[Turn]) -> Put
@@ -153,7 +146,10 @@ fn put_answer(out: &mut Vec<u8>, word: &Option<WordStory>, answer: &Result<Reply
 {
     match answer {
         Ok(Reply::Done) => out.extend_from_slice(b"done"),
-        Ok(Reply::Quiet) => out.extend_from_slice(no_race_text(word)),
+        Ok(Reply::Quiet) => out.extend_from_slice(match word {
+            Some(word) => quiet_text(&word.after),
+            None => b"no race".as_slice(),
+        }),
         Ok(Reply::Race) => out.extend_from_slice(
             b"race: the word was written, and no lock was held at each access since a second thread came",
         ),
@@ -165,15 +161,6 @@ fn put_answer(out: &mut Vec<u8>, word: &Option<WordStory>, answer: &Result<Reply
             out.extend_from_slice(b"refused: ")?;
             out.extend_from_slice(why.text().as_bytes())
         }
-    }
-}
-
-fn no_race_text(word: &Option<WordStory>) -> &'static [u8]
-    ensures { result.now ≡ no_race_text word.now }
-{
-    match word {
-        Some(word) => quiet_text(&word.after),
-        None => b"no race".as_slice(),
     }
 }
 
