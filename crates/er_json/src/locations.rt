@@ -93,22 +93,13 @@ fn put_reason(out: &mut Vec<u8>, legend: &Legend, because: &Because) -> Put
     let names = legend.places.names();
     let place = legend.places.of_reason(because);
     put_opening(out, legend.places, place)?;
-    put_sentence(out, legend.names, because)?;
+    put!(out, Style::InString, legend.names;
+        Label(b"\"message\":{\"text\":\"", because.label), Thread(b": ", because.thread),
+        Verb(b" ", because.kind), Number(b" on line ", because.line), Text(b" of the trace")
+    )?;
     put_holding(out, names, place)?;
     out.extend_from_slice(b"\"}}")?;
     Ok(())
-}
-
-// Puts who did what, and what it has to do with the race.
-#[tactic(auto, unfolding(crate::specs::Sarif::sentence_words))]
-fn put_sentence(out: &mut Vec<u8>, names: &Names, because: &Because) -> Put
-    requires { HasReasonNames names.now because.now }
-    ensures { OnOk result (out.new.items ≡ out.old.items ++ sentence_words names.now because.now) }
-{
-    put!(out, Style::InString, names;
-        Label(b"\"message\":{\"text\":\"", because.label), Thread(b": ", because.thread),
-        Verb(b" ", because.kind), Number(b" on line ", because.line), Text(b" of the trace")
-    )
 }
 
 // Opens the location of a reason, with its site and its function if that is known.
