@@ -172,10 +172,15 @@ fn is_known(name: &[u8]) -> bool
 fn is_one_known(places: &Places, own: &[u8], calls: &[u32]) -> bool
     ensures { result ≡ (is_known own.now || list_any (λ call. is_known (call_function places.now call)) calls.now) }
 {
-    is_known(own)
-        || calls
-            .iter()
-            .any(|call| is_known(places.call_function(*call)))
+    is_known(own) || knows_one(places, calls)
+}
+
+fn knows_one(places: &Places, calls: &[u32]) -> bool
+    ensures { result ≡ list_any (λ call. is_known (call_function places.now call)) calls.now }
+{
+    calls
+        .iter()
+        .any(|call| is_known(places.call_function(*call)))
 }
 
 fn put_call_functions(out: &mut Vec<u8>, places: &Places, calls: &[u32]) -> Put

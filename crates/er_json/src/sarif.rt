@@ -7,8 +7,7 @@ use crate::document::put_sign;
 use crate::results::put_results;
 use crate::suppressed::put_suppressed;
 use er_places::Legend;
-use er_print::Piece::Text;
-use er_print::{Built, Put, ReportKind, Style, put, put_lost};
+use er_print::{Built, Put, ReportKind, put_lost};
 use er_report::{Report, Reports};
 use er_rules::Suppressions;
 use er_sites::count_races;
@@ -33,7 +32,7 @@ pub fn sarif_text(alloc: Global, reports: &Reports, legend: &Legend, rules: &Sup
     Ok(text)
 }
 
-#[tactic(auto, unfolding(crate::specs::Sarif::run_text, crate::specs::Sarif::start_text))]
+#[tactic(auto, unfolding(crate::specs::Sarif::run_text))]
 fn put_run(
     out: &mut Vec<u8>,
     of: ReportKind,
@@ -48,16 +47,23 @@ fn put_run(
         Some(report) => {
             let lines = report.lines.as_slice();
             let total = count_races(*out.allocator(), lines)?;
-            put!(out, Style::Plain, legend.names;
-                Text(b"{\n\"tool\":{\"driver\":{\"name\":\"eraser\",\"rules\":["),
-                Text(rules_text(of)), Text(b",\n\"results\":[")
-            )?;
+            put_start(out, of)?;
             let is_first = put_results(out, of, legend, lines, &total)?;
             put_suppressed(out, of, &report.rule_counts, rules, is_first)?;
             put_end(out, report.lost)
         }
         None => Ok(()),
     }
+}
+
+#[tactic(auto, unfolding(crate::specs::Sarif::start_text))]
+fn put_start(out: &mut Vec<u8>, of: ReportKind) -> Put
+    ensures { OnOk result (out.new.items ≡ out.old.items ++ start_text of) }
+{
+    out.extend_from_slice(b"{\n\"tool\":{\"driver\":{\"name\":\"eraser\",\"rules\":[")?;
+    out.extend_from_slice(rules_text(of))?;
+    out.extend_from_slice(b",\n\"results\":[")?;
+    Ok(())
 }
 
 #[tactic(auto, unfolding(crate::specs::Sarif::end_text))]

@@ -7,7 +7,7 @@ use Rattle.er_json.specs.Sarif.{holding_words, opening_text, reason_text, senten
 use Rattle.er_json.proofs.locations.put_reason.Goals as goal
 
 pub returns : goal.returns
-unfolding (reason_text, sentence_words)
+unfolding reason_text sentence_words
 returns c =
     let table : PlaceTable = c.args.legend.now.places.now in
     let place = c.of_reason-place.ensures.place in
