@@ -33,10 +33,8 @@ fn put_title(out: &mut Vec<u8>, legend: &Legend, race: &Race<'_>) -> Put
     requires { HasRaceNames legend.now.names.now race.now }
     ensures { OnOk result (out.new.items ≡ out.old.items ++ title_text legend.now.names.now legend.now.places.now race.now) }
 {
-    let places = legend.places;
-    let met = place_met(places, race);
     out.extend_from_slice(b"\n")?;
-    put_sites(out, legend.names, places.names(), race.site, met)?;
+    put_sites(out, legend, race)?;
     out.extend_from_slice(b":\n")
 }
 
@@ -90,20 +88,14 @@ fn may_meet(lacks: bool, race: &Race<'_>, because: &Because) -> bool
 }
 
 // Puts the site of a race, and that of the other access if it is known and another one.
-fn put_sites(
-    out: &mut Vec<u8>,
-    names: &Names,
-    others: &Names,
-    site: Site,
-    other: Option<&Place>,
-) -> Put
-    requires site { site ≤ length names.now.sites }
-    requires place { IfSome (option_copied other) (HasPlaceNames others.now) }
-    ensures { OnOk result (out.new.items ≡ out.old.items ++ met_text names.now others.now site (option_copied other.entry)) }
+fn put_sites(out: &mut Vec<u8>, legend: &Legend, race: &Race<'_>) -> Put
+    requires { HasRaceNames legend.now.names.now race.now }
+    ensures { OnOk result (out.new.items ≡ out.old.items ++ met_text legend.now.names.now legend.now.places.now.names race.now.site (option_and_then (reason_place legend.now.places.now) (met race.now))) }
 {
-    match other {
+    let (names, site) = (legend.names, race.site);
+    match place_met(legend.places, race) {
         Some(place) if place.site.number() != 0 && place.site != site => {
-            put_pair(out, names, others, site, place.site)
+            put_pair(out, names, legend.places.names(), site, place.site)
         }
         _ => put!(out, Style::Short, names; At(b"", site)),
     }
@@ -202,16 +194,8 @@ fn put_locks(out: &mut Vec<u8>, names: &Names, race: &Race<'_>, own: Option<&Pla
 fn is_weak(race: &Race<'_>, own: Option<&Place>, lock: LockId) -> bool
     ensures { result ≡ is_weak race.now (option_copied own.entry) lock }
 {
-    is_weak_at(own, lock) || is_unprotected(race.line, race.explained, lock)
-}
-
-fn is_weak_at(own: Option<&Place>, lock: LockId) -> bool
-    ensures { result ≡ is_weak_at (option_copied own.entry) lock }
-{
-    match own {
-        Some(place) => !place.write_held.contains(lock),
-        None => false,
-    }
+    own.is_some_and(|place| !place.write_held.contains(lock))
+        || is_unprotected(race.line, race.explained, lock)
 }
 
 // Whether a reason is that the lock didn't protect the access on the line.
