@@ -124,7 +124,10 @@ fn put_reasons(out: &mut Vec<u8>, names: &Names, explained: &[Because]) -> Put
     ensures { OnOk result (out.new.items ≡ out.old.items ++ flat_map (reason_text names.now) explained.now) }
 {
     for because in explained {
-        put_reason(out, names, because)?;
+        put!(out, Style::Plain, names;
+            Label(b"  ", because.label), Number(b": line ", because.line),
+            Thread(b", ", because.thread), Verb(b" ", because.kind), Text(b"\n")
+        )?;
     }
     Ok(())
 }
@@ -143,16 +146,6 @@ pub fn bytes_of(range: &PageRange) -> u64
     ensures { result ≡ bytes_between range.now.lo range.now.hi }
 {
     (range.hi.number() - range.lo.number() + 1) * Word::BYTES
-}
-
-fn put_reason(out: &mut Vec<u8>, names: &Names, because: &Because) -> Put
-    requires { HasReasonNames names.now because.now }
-    ensures { OnOk result (out.new.items ≡ out.old.items ++ reason_text names.now because.now) }
-{
-    put!(out, Style::Plain, names;
-        Label(b"  ", because.label), Number(b": line ", because.line),
-        Thread(b", ", because.thread), Verb(b" ", because.kind), Text(b"\n")
-    )
 }
 
 /// Puts what a report ends with: the stop, the rules and the totals.

@@ -5,9 +5,7 @@ ghost use Rattle.er_print.specs.Pieces.{HasPieceName, HavePieceNames, before_of,
 
 use crate::Put;
 use crate::naming::{put_address, put_event, put_state, verb};
-use crate::styles::{
-    Style, put_label_in, put_lock_in, put_locks_in, put_name, put_named_site, put_site_in,
-};
+use crate::styles::{Style, put_label_in, put_lock_in, put_locks_in, put_name, put_site_in};
 use er_event::{Kind, LockId, ThreadId, Word, WordState};
 use er_lines::put_number;
 use er_trace::Names;
@@ -96,6 +94,7 @@ fn before_of<'a>(piece: &Piece<'a>) -> &'a [u8]
     }
 }
 
+#[tactic(auto, unfolding(crate::specs::Styles::named_site))]
 fn put_value(out: &mut Vec<u8>, style: Style, names: &Names, piece: &Piece<'_>) -> Put
     requires { HasPieceName names.now piece.now }
     ensures { OnOk result (out.new.items ≡ out.old.items ++ value_text style names.now piece.now) }
@@ -111,7 +110,11 @@ fn put_value(out: &mut Vec<u8>, style: Style, names: &Names, piece: &Piece<'_>) 
         }
         Piece::Lock(_, lock) => put_lock_in(out, style, names, *lock),
         Piece::Site(_, site) => put_site_in(out, style, names, *site),
-        Piece::NamedSite(before, site) => put_named_site(out, style, names, before, *site),
+        Piece::NamedSite(_, site) if site.number() == 0 => Ok(()),
+        Piece::NamedSite(before, site) => {
+            out.extend_from_slice(before)?;
+            put_site_in(out, style, names, *site)
+        }
         Piece::Locks(_, locks) => put_locks_in(out, style, names, locks),
         Piece::Label(_, label) => put_label_in(out, style, names, *label),
         Piece::Event(_, event) => put_event(out, names, **event),

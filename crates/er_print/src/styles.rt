@@ -1,6 +1,6 @@
 //! How names are written.
 ghost use Rattle.std.specs.Prelude.{◌≡◌, ◌++◌, ◌≤◌, length, OnOk};
-ghost use Rattle.er_print.specs.Styles.{escaped, escaped_text, label_in, level_in, lock_in, locks_in, named_site, name_in, short, site_in, string_text};
+ghost use Rattle.er_print.specs.Styles.{escaped, escaped_text, label_in, level_in, lock_in, locks_in, name_in, short, site_in, string_text};
 ghost use Rattle.er_print.specs.Values.{between_text, comma_before};
 ghost use Rattle.er_report.specs.Names.{HasLabelName, HasLockName, HasLockNames};
 
@@ -116,25 +116,6 @@ pub(crate) fn put_site_in(out: &mut Vec<u8>, style: Style, names: &Names, site: 
         };
     }
     put_name(out, style, names.site_name(site).as_bytes(), 72)
-}
-
-/// Puts the name of a site behind these bytes, and of the missing one nothing.
-#[tactic(auto, unfolding(crate::specs::Styles::named_site))]
-pub(crate) fn put_named_site(
-    out: &mut Vec<u8>,
-    style: Style,
-    names: &Names,
-    before: &[u8],
-    site: Site,
-) -> Put
-    requires { site ≤ length names.now.sites }
-    ensures { OnOk result (out.new.items ≡ out.old.items ++ named_site style names.now before.now site) }
-{
-    if site.number() == 0 {
-        return Ok(());
-    }
-    out.extend_from_slice(before)?;
-    put_site_in(out, style, names, site)
 }
 
 /// Puts the names of locks.

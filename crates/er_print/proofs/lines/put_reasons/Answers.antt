@@ -11,7 +11,7 @@ loop-because-init c = sym (append-nil _)
 pub loop-because-preserved : goal.loop-because-preserved
 loop-because-preserved c =
     one_more (reason_text c.args.names.now) c.args.explained.now _ _ c.because-item.result _ _ _ c.loop-because-test.true c.because-item.is
-    c.loop-because.invariant c.in_ok-put_reason.ensures
+    c.loop-because.invariant c.in_ok-put_all.ensures.joined
 
 pub returns : goal.returns
 returns c = no_more (reason_text c.args.names.now) _ _ c.args.explained.now _ c.loop-because-test.false c.loop-because.invariant
