@@ -17,19 +17,14 @@ pub(crate) fn put_where(out: &mut Vec<u8>, places: &Places, line: u64, because: 
         return Ok(());
     }
     match places.of_reason(because) {
-        Some(place) => put_place(out, places, place),
+        Some(place) => {
+            let (names, locks) = (places.names(), place.held.as_slice());
+            put_at(out, names, place.site, locks.is_empty())?;
+            put_led(out, places, Some(place))?;
+            put_kept_locks(out, names, &place.write_held, locks)
+        }
         None => Ok(()),
     }
-}
-
-fn put_place(out: &mut Vec<u8>, places: &Places, place: &Place) -> Put
-    requires { HasPlaceNames places.now.names place.now }
-    ensures { OnOk result (out.new.items ≡ out.old.items ++ stood_text places.now place.now) }
-{
-    let (names, locks) = (places.names(), place.held.as_slice());
-    put_at(out, names, place.site, locks.is_empty())?;
-    put_led(out, places, Some(place))?;
-    put_kept_locks(out, names, &place.write_held, locks)
 }
 
 /// Puts the function that an access is in, and the calls that led there.

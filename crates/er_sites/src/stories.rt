@@ -21,21 +21,13 @@ pub(crate) fn put_example(out: &mut Vec<u8>, legend: &Legend, line: &Line) -> Pu
         return Ok(());
     };
     let deed = race.deed;
-    put_title(out, legend, &race)?;
+    out.extend_from_slice(b"\n")?;
+    put_sites(out, legend, &race)?;
+    out.extend_from_slice(b":\n")?;
     match deed {
         Deed::Access(kind, word) => put_access(out, legend, &race, kind, word),
         Deed::Reuse(range) => put_reuse(out, legend, &race, &range),
     }
-}
-
-// Puts the site of a race behind an empty line, and that of the access which it is with, if that is another one.
-fn put_title(out: &mut Vec<u8>, legend: &Legend, race: &Race<'_>) -> Put
-    requires { HasRaceNames legend.now.names.now race.now }
-    ensures { OnOk result (out.new.items ≡ out.old.items ++ title_text legend.now.names.now legend.now.places.now race.now) }
-{
-    out.extend_from_slice(b"\n")?;
-    put_sites(out, legend, race)?;
-    out.extend_from_slice(b":\n")
 }
 
 // The place of the access that a race is with, if it is known.
