@@ -1,5 +1,5 @@
 -- Each entry takes its seat's calls up to the one that it tells of, so the turns have the tickets of the entries.
-use Rattle.std.proofs.Common.{◌≡◌, ℕ, ◌+◌, ◌<◌, ◌≤◌, List, [], ◌∷◌, ◌++◌, Bool, true, false, cond, length, append_assoc, append-nil, length-set, set, get_or, map, take, drop, refl, sym, ap, ◌∙◌, arith, zero, suc, inl, inr, ◌⊎◌}
+use Rattle.std.proofs.Common.{◌≡◌, ℕ, ◌+◌, ◌<◌, ◌≤◌, List, [], ◌∷◌, ◌++◌, Bool, true, false, cond, length, append_assoc, append-nil, length-set, replicate, set, get_or, map, take, drop, refl, sym, ap, ◌∙◌, arith, zero, suc, inl, inr, ◌⊎◌}
 use Rattle.std.specs.Prelude.{slice_get, slice_index, Some, None, Option, IsSome, filter, ◌==◌}
 use Rattle.std.specs.Option.{is_some}
 use Rattle.std.specs.Ordering.{nat_cmp}
@@ -367,6 +367,12 @@ from_within seats order i from s next turns old inside read place =
     let seat : slice_get seats i ≡ Some s = slice_get_read seats (length seats) i s refl inside read in
     let is : from ≡ slice_index next i = number_read next i from (let n = old.places in omega (arith, n, inside)) place in
     rw is (old.calls i s seat).1
+
+-- each of so many zeros is one
+pub each_zero : (n k : ℕ) → slice_index (replicate n 0) k ≡ 0
+each_zero zero k = refl
+each_zero (suc n) zero = refl
+each_zero (suc n) (suc k) = each_zero n k
 
 -- before the first entry nothing is taken
 pub taken-none : (seats : List SeatList) (next : List ℕ) → length next ≡ length seats → ((k : ℕ) → slice_index next k ≡ 0) → AreTaken seats [] next []

@@ -1,6 +1,6 @@
 //! All calls in one order: those with tickets by rising ticket, each without one directly before its seat's next call with one, and
 //! the rest at the end, by seat number.
-ghost use Rattle.std.specs.Prelude.{◌≡◌, ◌≤◌, ◌+◌, ◌++◌, ℕ, length, drop, IfOk, OnOk, ◌<◌, IfErr, IfSome, IfNone, slice_index};
+ghost use Rattle.std.specs.Prelude.{◌≡◌, ◌≤◌, ◌+◌, ◌++◌, ℕ, length, drop, IfOk, OnOk, ◌<◌, IfErr, IfSome, IfNone};
 ghost use Rattle.er_settle.specs.Seats.{calls_by};
 ghost use Rattle.er_settle.specs.Faults.{AreDistinct, JournalsRise, Not};
 ghost use Rattle.er_settle.specs.Inner.SeatChecks.{IsIndex, AreLegalJournals};
@@ -55,7 +55,7 @@ pub(crate) fn merge_journals<'a>(
     ensures legal { IfOk result (λ order. AreLegalJournals journals.now) }
     ensures fault { IfErr result (IsDisorder journals.now) }
 {
-    let mut read = zeros(alloc, journals.len())?;
+    let mut read = vec![in alloc; 0; journals.len()]?;
     let mut order = Vec::new(alloc);
     let mut last = None;
     while let Some(place) = next_journal(journals, read.as_slice()) {
@@ -106,14 +106,6 @@ fn sooner(least: Option<(u64, usize)>, ticket: u64, place: usize) -> Option<(u64
         Some((first, at)) if first <= ticket => Some((first, at)),
         _ => Some((ticket, place)),
     }
-}
-
-/// `count` zeros.
-pub(crate) fn zeros(alloc: Global, count: usize) -> Made<Vec<usize>>
-    ensures count { IfOk result (λ read. length read.items ≡ count) }
-    ensures zeros { IfOk result (λ read. (k : ℕ) → slice_index read.items k ≡ 0) }
-{
-    vec![in alloc; 0; count]
 }
 
 /// One call of one thread, in its turn.
@@ -177,7 +169,7 @@ fn take_ticketed<'a>(
     requires agree { AllAgree seats.now order.now }
     ensures { IfOk result (λ taken. AreTaken seats.now order.now taken.next.items taken.turns.items) }
 {
-    let mut next = zeros(alloc, seats.len())?;
+    let mut next = vec![in alloc; 0; seats.len()]?;
     let mut turns = Vec::new(alloc);
     for placed in order {
         let number = placed.entry.thread.number();

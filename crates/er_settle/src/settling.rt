@@ -85,31 +85,7 @@ struct Checked<'a> {
     order: Vec<PlacedEntry<'a>>,
 }
 
-fn check_lists<'a>(
-    alloc: Global,
-    name: u64,
-    opened: u32,
-    seats: &[SeatView],
-    journals: &[JournalView<'a>],
-) -> Result<Checked<'a>, Unsettled>
-    ensures first { IfErr result (IsFirst name opened seats.now journals.now) }
-    ensures checked { IfOk result (λ lists. AreChecked name opened seats.now journals.now lists.index lists.order.items) }
-{
-    if !are_of_detector(name, seats) {
-        return Err(Unsettled::ForeignSeat);
-    }
-    let index = index_by_thread(alloc, seats)?;
-    if !are_complete(opened, seats, &index) {
-        return Err(Unsettled::SeatMissing);
-    }
-    if !lists_rise(seats) {
-        return Err(Unsettled::Order);
-    }
-    let order = merge_journals(alloc, journals)?;
-    Ok(Checked { index, order })
-}
-
-// Checks all that can be wrong. `check_lists` is a part of it, split for the prover. The fault is the first that applies.
+// Checks all that can be wrong. The fault is the first that applies.
 fn check_all<'a>(
     alloc: Global,
     name: u64,
@@ -123,7 +99,18 @@ fn check_all<'a>(
     ensures checked { IfOk result (λ lists. AreChecked name opened seats.now journals.now lists.index lists.order.items) }
     ensures turn { IfOk result (λ lists. AreInTurn seats.now journals.now lists.order.items) }
 {
-    let lists = check_lists(alloc, name, opened, seats, journals)?;
+    if !are_of_detector(name, seats) {
+        return Err(Unsettled::ForeignSeat);
+    }
+    let index = index_by_thread(alloc, seats)?;
+    if !are_complete(opened, seats, &index) {
+        return Err(Unsettled::SeatMissing);
+    }
+    if !lists_rise(seats) {
+        return Err(Unsettled::Order);
+    }
+    let order = merge_journals(alloc, journals)?;
+    let lists = Checked { index, order };
     let order = lists.order.as_slice();
     let groups = group_by_thread(alloc, &lists.index, seats, order)?;
     if !all_in_place(journals.len(), order) {

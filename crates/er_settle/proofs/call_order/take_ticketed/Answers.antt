@@ -6,11 +6,11 @@ use Rattle.std.proofs.lemmas.Option.{slice_get_read}
 use Rattle.er_journal.specs.declared.entries.Entry.{Entry}
 use Rattle.er_settle.specs.Inner.JournalOrder.{EntryAt}
 use Rattle.er_settle.proofs.PairLemmas.{deal-not}
-use Rattle.er_settle.proofs.TurnLemmas.{taken-none, taken-step, seat_inside, from_within}
+use Rattle.er_settle.proofs.TurnLemmas.{each_zero, taken-none, taken-step, seat_inside, from_within}
 use Rattle.er_settle.proofs.call_order.take_ticketed.Goals as goal
 
 pub loop-placed-init : goal.loop-placed-init
-loop-placed-init c = rw c.new-turns.ensures.items (taken-none c.args.seats.now c.in_ok-next.next.items c.in_ok-next.ensures.count c.in_ok-next.ensures.zeros)
+loop-placed-init c = rw c.new-turns.ensures.items (taken-none c.args.seats.now c.in_ok-next.next.items (omega (arith, c.in_ok-next.ensures.len)) (λ k. rw (c.in_ok-next.ensures.items_if_clones_equal (λ y same. same)) (each_zero _ k)))
 
 pub unreachable-requires : goal.unreachable-requires
 unreachable-requires c =
