@@ -1,5 +1,5 @@
 //! `Block`, the books of words that lie side by side.
-ghost use Rattle.std.specs.Prelude.{◌≡◌, ◌<◌, ◌≤◌, ◌+◌, ◌&&◌, ℕ, nat_eq, nat_le, cond, [], length, slice_set, slice_index_or, option_copied, OnOk, ◌==◌};
+ghost use Rattle.std.specs.Prelude.{◌≡◌, ◌<◌, ◌≤◌, ◌+◌, ◌&&◌, ℕ, nat_eq, nat_le, cond, [], length, slice_index_or, option_copied, OnOk, ◌==◌};
 ghost use Rattle.er_explain.specs.Book.{Untouched};
 ghost use Rattle.er_explain.specs.Books.{book_accessed};
 ghost use Rattle.er_explain.specs.Inner.Places.{book_of, number_at, place_at, AreApart};
@@ -76,7 +76,7 @@ impl<A: Copy> Block<A> {
             return Err(AllocError);
         }
         self.books.push(Book::begin(access))?;
-        put(&mut self.places, count, place as u8);
+        self.places[count] = place as u8;
         Ok(())
     }
 
@@ -100,17 +100,7 @@ impl<A: Copy> Block<A> {
 fn joining_at<A>(books: &[Book<A>], number: usize) -> Option<&Joint<Access<A>>>
     ensures { option_copied result ≡ joining_in (book_at_place books.now number) }
 {
-    match books.get(number) {
-        Some(book) => book.joining(),
-        None => None,
-    }
-}
-
-fn put(places: &mut [u8; 32], number: usize, place: u8)
-    requires { number < 32 }
-    ensures { places.new ≡ slice_set places.old number place }
-{
-    places[number] = place;
+    books.get(number)?.joining()
 }
 
 // Removes the books of the places from `lo` to `hi`, both included. It looks at the books and not at the places without one.
@@ -151,8 +141,7 @@ fn remove<A: Copy>(
 {
     let last = books.len() - 1;
     let book = books.swap_remove(number);
-    let moved = places[last];
-    put(places, number, moved);
+    places[number] = places[last];
     book.keep_joining(spare);
 }
 

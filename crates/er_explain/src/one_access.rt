@@ -7,7 +7,7 @@ ghost use Rattle.er_explain.specs.Explaining.{explanation_at};
 ghost use Rattle.er_explain.specs.Naming.{named_book, named_joining};
 ghost use Rattle.er_explain.specs.WordBooks.{book_in};
 ghost use Rattle.er_model.specs.Answers.{answer, reading_of};
-ghost use Rattle.er_model.specs.Explanations.{Explanation as Explained, Explains, latest, locks_listed, word_of};
+ghost use Rattle.er_model.specs.Explanations.{Explanation as Explained, Explains, locks_listed, word_of};
 
 use crate::book::{Access, Joint};
 use crate::{Explanation, Made, Uncovered, WordBooks};
@@ -30,7 +30,7 @@ pub fn explain(alloc: Global, steps: &[Step], k: u64) -> Result<Option<Explanati
     prove!(place < steps.len());
     let books = books_of(alloc, steps, place + 1)?;
     let found = told_of(alloc, &books, word)?;
-    Ok(ending_at(found, k))
+    Ok(found.filter(|explanation| explanation.latest() == k))
 }
 
 fn word_at(steps: &[Step], place: u64) -> Option<Word>
@@ -39,16 +39,6 @@ fn word_at(steps: &[Step], place: u64) -> Option<Word>
 {
     match steps.get(place as usize)?.event {
         Event::Access(_, word, _) => Some(word),
-        _ => None,
-    }
-}
-
-// What was found, if the last place that it names is this one.
-fn ending_at(found: Option<Explanation>, place: u64) -> Option<Explanation>
-    ensures { (e : Explained) → (result ≡ Some e) ↔ ((found ≡ Some e) × (latest e.write e.uncovered ≡ place)) }
-{
-    match found {
-        Some(explanation) if explanation.latest() == place => Some(explanation),
         _ => None,
     }
 }

@@ -1,5 +1,5 @@
 -- The last book takes the place of the one that goes.
-use Rattle.std.proofs.Common.{◌∙◌, ◌≤◌, ◌+◌, ◌-◌, length, slice_index_or, sym, ap, arith}
+use Rattle.std.proofs.Common.{◌∙◌, ◌≤◌, ◌+◌, ◌-◌, length, slice_index_or, refl, sym, ap, arith}
 use Rattle.er_explain.specs.Book.{Untouched}
 use Rattle.er_explain.specs.Inner.Places.{AreApart}
 use Rattle.er_explain.proofs.PlaceLemmas.{apart-as, apart-less, book_less, number_before}
@@ -14,12 +14,12 @@ within g c = omega (arith, c.len-last.ensures, c.requires.within)
 
 pub returns-clause-apart : goal.returns-clause-apart
 returns-clause-apart g c =
-    apart-as c.put.new.places (c.len-last.result - 1) (length c.swap_remove-book.new.self.items) (omega (arith, c.len-last.ensures, c.swap_remove-book.ensures.len))
-    (apart-less c.args.places.now c.put.new.places c.args.number (c.len-last.result - 1) (was g c) (within g c) c.put.ensures)
+    apart-as _ (c.len-last.result - 1) (length c.swap_remove-book.new.self.items) (omega (arith, c.len-last.ensures, c.swap_remove-book.ensures.len))
+    (apart-less c.args.places.now _ c.args.number (c.len-last.result - 1) (was g c) (within g c) refl)
 
 pub returns-clause-books : goal.returns-clause-books
 returns-clause-books g c =
-    book_less c.args.places.now c.put.new.places c.args.number (c.len-last.result - 1) (was g c) (within g c) c.put.ensures
+    book_less c.args.places.now _ c.args.number (c.len-last.result - 1) (was g c) (within g c) refl
     c.args.books.now.items c.swap_remove-book.new.self.items
     (omega (arith, c.len-last.ensures, c.requires.within)) (omega (arith, c.len-last.ensures, c.swap_remove-book.ensures.len))
     (λ below. c.swap_remove-book.ensures.by_index.0 Untouched (omega (arith, below, c.len-last.ensures)) ∙ ap (λ n. slice_index_or c.args.books.now.items (n - 1) Untouched) (sym c.len-last.ensures))
@@ -27,4 +27,4 @@ returns-clause-books g c =
 
 pub returns-clause-before : goal.returns-clause-before
 returns-clause-before g c =
-    number_before c.args.places.now c.put.new.places c.args.number (c.len-last.result - 1) (was g c) (within g c) c.put.ensures
+    number_before c.args.places.now _ c.args.number (c.len-last.result - 1) (was g c) (within g c) refl

@@ -1,4 +1,4 @@
-use Rattle.std.proofs.Common.{◌≡◌, ◌+◌, ℕ, List, Option, Some, slice_get, sym}
+use Rattle.std.proofs.Common.{◌≡◌, ◌+◌, ℕ, List, Option, Some, slice_get, sym, rules}
 use Rattle.er_event.specs.declared.steps.Step.{Step}
 use Rattle.er_model.specs.Answers.{reading_of}
 use Rattle.er_model.specs.Explanations.{Explanation, latest, word_of}
@@ -27,14 +27,14 @@ found steps k w b told last accesses known tells ends =
 
 pub returns-clause-explained : goal.returns-clause-explained
 returns-clause-explained c =
-    found-explains c.args.steps.now c.args.k c.ending_at.result
-    (found c.args.steps.now c.args.k c.in-Some.word (named_book name_of (book_in c.in_ok-books.books c.in-Some.word)) c.in_ok-found.found c.ending_at.result (sym c.in-Some.ensures.word) (c.in_ok-books.ensures c.in-Some.word) c.in_ok-found.ensures c.ending_at.ensures)
+    found-explains c.args.steps.now c.args.k c.filter.result
+    (found c.args.steps.now c.args.k c.in-Some.word (named_book name_of (book_in c.in_ok-books.books c.in-Some.word)) c.in_ok-found.found c.filter.result (sym c.in-Some.ensures.word) (c.in_ok-books.ensures c.in-Some.word) c.in_ok-found.ensures (λ e. search rules))
 
 pub returns-clause-none : goal.returns-clause-none
 returns-clause-none c =
-    found-none c.args.steps.now c.args.k c.ending_at.result
-    (found c.args.steps.now c.args.k c.in-Some.word (named_book name_of (book_in c.in_ok-books.books c.in-Some.word)) c.in_ok-found.found c.ending_at.result (sym c.in-Some.ensures.word) (c.in_ok-books.ensures c.in-Some.word) c.in_ok-found.ensures c.ending_at.ensures)
+    found-none c.args.steps.now c.args.k c.filter.result
+    (found c.args.steps.now c.args.k c.in-Some.word (named_book name_of (book_in c.in_ok-books.books c.in-Some.word)) c.in_ok-found.found c.filter.result (sym c.in-Some.ensures.word) (c.in_ok-books.ensures c.in-Some.word) c.in_ok-found.ensures (λ e. search rules))
 
 pub returns-clause-value : goal.returns-clause-value
 returns-clause-value c =
-    found c.args.steps.now c.args.k c.in-Some.word (named_book name_of (book_in c.in_ok-books.books c.in-Some.word)) c.in_ok-found.found c.ending_at.result (sym c.in-Some.ensures.word) (c.in_ok-books.ensures c.in-Some.word) c.in_ok-found.ensures c.ending_at.ensures
+    found c.args.steps.now c.args.k c.in-Some.word (named_book name_of (book_in c.in_ok-books.books c.in-Some.word)) c.in_ok-found.found c.filter.result (sym c.in-Some.ensures.word) (c.in_ok-books.ensures c.in-Some.word) c.in_ok-found.ensures (λ e. search rules)

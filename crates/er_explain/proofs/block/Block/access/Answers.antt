@@ -1,5 +1,5 @@
 -- The book at the place goes on, or it gets one.
-use Rattle.std.proofs.Common.{◌≡◌, ◌∙◌, ◌<◌, ◌≤◌, ℕ, ◌+◌, List, [], ◌∷◌, ◌++◌, length, slice_index_or, sym, ap, arith, length-append}
+use Rattle.std.proofs.Common.{◌≡◌, ◌∙◌, ◌<◌, ◌≤◌, ℕ, ◌+◌, List, [], ◌∷◌, ◌++◌, length, slice_index_or, slice_set, refl, sym, ap, arith, length-append}
 use Rattle.std.proofs.lemmas.List.{get_or_default}
 use Rattle.std.proofs.lemmas.Result.{on_ok_weaker}
 use Rattle.er_explain.specs.Book.{Book, Untouched}
@@ -33,20 +33,20 @@ returns-then-number-count g c =
 pub invariant_of-self-2 : goal.invariant_of-self-2
 invariant_of-self-2 g c =
     let count : c.len-count.result ≡ length c.self.inside.books.items = omega (arith, c.len-count.ensures) in
-    apart-as c.put.new.places (c.len-count.result + 1) (length c.push.new.self.items)
+    apart-as (slice_set c.self.inside.places c.len-count.result c.args.place) (c.len-count.result + 1) (length c.push.new.self.items)
     (sym (ap (λ bs. length bs) c.in_ok-push.ensures.items ∙ one_longer c.self.inside.books.items c.begin.result c.len-count.result (sym count)))
-    (apart-more c.self.inside.places c.put.new.places c.args.place c.len-count.result (apart-as c.self.inside.places _ c.len-count.result (sym count) c.self.invariant)
-    (omega (arith, c.if-count-ge32.false)) c.put.ensures (c.number_at-number.ensures.none (omega (arith, c.if-number-count.false))))
+    (apart-more c.self.inside.places (slice_set c.self.inside.places c.len-count.result c.args.place) c.args.place c.len-count.result (apart-as c.self.inside.places _ c.len-count.result (sym count) c.self.invariant)
+    (omega (arith, c.if-count-ge32.false)) refl (c.number_at-number.ensures.none (omega (arith, c.if-number-count.false))))
 
 pub returns : goal.returns
 returns g c i =
     let count : c.len-count.result ≡ length c.self.inside.books.items = omega (arith, c.len-count.ensures) in
     let none : c.len-count.result ≤ number_at c.self.inside.places c.args.place = c.number_at-number.ensures.none (omega (arith, c.if-number-count.false)) in
-    ap (λ bs. book_at_place (kept_books c.put.new.places bs) i) c.in_ok-push.ensures.items
-    ∙ goes_on c.self.inside.places c.put.new.places c.self.inside.books.items (c.self.inside.books.items ++ (c.begin.result ∷ [])) c.args.self.now c.args.place c.begin.result
+    ap (λ bs. book_at_place (kept_books (slice_set c.self.inside.places c.len-count.result c.args.place) bs) i) c.in_ok-push.ensures.items
+    ∙ goes_on c.self.inside.places (slice_set c.self.inside.places c.len-count.result c.args.place) c.self.inside.books.items (c.self.inside.books.items ++ (c.begin.result ∷ [])) c.args.self.now c.args.place c.begin.result
     (λ b. book_accessed b c.args.access c.args.access.thread c.args.access.kind (locks_for (held_by c.args.locks.now c.args.access.thread) c.args.access.kind))
     c.self.view_is c.requires
-    (book_more c.self.inside.places c.put.new.places c.args.place c.len-count.result (apart-as c.self.inside.places _ c.len-count.result (sym count) c.self.invariant)
-    (omega (arith, c.if-count-ge32.false)) c.put.ensures none c.self.inside.books.items c.begin.result (sym count))
+    (book_more c.self.inside.places (slice_set c.self.inside.places c.len-count.result c.args.place) c.args.place c.len-count.result (apart-as c.self.inside.places _ c.len-count.result (sym count) c.self.invariant)
+    (omega (arith, c.if-count-ge32.false)) refl none c.self.inside.books.items c.begin.result (sym count))
     (c.begin.ensures ∙ ap (λ b. book_accessed b c.args.access c.args.access.thread c.args.access.kind (locks_for (held_by c.args.locks.now c.args.access.thread) c.args.access.kind))
     (sym (past_end c.self.inside.books.items (number_at c.self.inside.places c.args.place) (omega (arith, none, count))))) i
