@@ -1,5 +1,5 @@
 -- Lines that are taken of words and of lock events.
-use Rattle.std.proofs.Common.{◌≡◌, ◌==◌, ◌&&◌, ℕ, ◌+◌, ◌-◌, ◌*◌, ◌/◌, ◌%◌, ◌^◌, ◌<◌, Bool, true, false, nat_lt, List, [], ◌∷◌, ◌++◌, length, codes, Option, Some, refl, sym, ap, ◌∙◌, arith, append_assoc, if◌then◌else◌, None, length-append}
+use Rattle.std.proofs.Common.{◌≡◌, ◌==◌, ◌&&◌, ℕ, ◌+◌, ◌-◌, ◌*◌, ◌/◌, ◌%◌, ◌^◌, ◌<◌, Bool, true, false, nat_lt, List, [], ◌∷◌, ◌++◌, length, codes, Option, Some, IfSome, refl, sym, ap, subst, ◌∙◌, arith, append_assoc, if◌then◌else◌, None, length-append}
 use Rattle.std.proofs.lemmas.Bool.Decides.{nat_tests}
 use Rattle.std.proofs.lemmas.List.Folds.{list_all_at}
 use Rattle.std.specs.List.{list_all}
@@ -7,7 +7,7 @@ use Rattle.er_lines.specs.Naming.{is_name, is_lock_name}
 use Rattle.er_lines.specs.Ready.{is_ready, name_word, ready_text}
 use Rattle.er_lines.specs.declared.ready.ReadyVerb.{ReadyVerb}
 use Rattle.er_lines.specs.declared.ready.ReadyVerb.TheVariants as does
-use Rattle.er_binary.specs.Inner.Words.{AreNamed, IsRight, IsSite, behind_first, counted, is_lock_verb, kind_for, line_text, name_by, verb_for, words_text}
+use Rattle.er_binary.specs.Inner.Words.{AreNamed, IsRight, IsSite, behind_first, counted, kind_for, line_text, name_by, verb_for, words_text}
 use Rattle.er_binary.specs.Meaning.{take_said}
 use Rattle.er_binary.specs.declared.records.Record.TheVariants as said
 use Rattle.er_binary.specs.Numbers.{address_word, name_at}
@@ -75,25 +75,35 @@ access_right s false node at thread name named known below site =
 lock_by : (s : State) (rest : List ℕ) (lock len : ℕ) {P : Type 0} → lock < length s.locks → (nat_lt lock (length s.locks) ≡ true → nat_lt (length rest) 0 ≡ false → len + 0 ≡ len → P) → P
 lock_by s rest lock len less f = f (grind (arith, nat_tests)) (grind (arith, nat_tests)) (omega arith)
 
-pub lock_taken : (s : State) (v : ReadyVerb) (lock thread len : ℕ) (rest : List ℕ) → is_lock_verb v ≡ true → s.thread ≡ Some thread → lock < length s.locks
-    → take_said s len rest (said.Other (kind_for v) lock) ≡ Some (record { text = line_text s (record { verb = v; address = 0; thread = thread; name = Some lock }); state = counted s; len = len })
-unfolding ready_text
-lock_taken s does.Read lock thread len rest right is less = absurd (cc right)
-lock_taken s does.Write lock thread len rest right is less = absurd (cc right)
-lock_taken s does.Lock lock thread len rest right is less = lock_by s rest lock len less (λ test zero none. rw (test, zero, none, is) refl)
-lock_taken s does.Unlock lock thread len rest right is less = lock_by s rest lock len less (λ test zero none. rw (test, zero, none, is) refl)
-lock_taken s does.ReadLock lock thread len rest right is less = lock_by s rest lock len less (λ test zero none. rw (test, zero, none, is) refl)
-lock_taken s does.ReadUnlock lock thread len rest right is less = lock_by s rest lock len less (λ test zero none. rw (test, zero, none, is) refl)
+by_kind : (o : Option Kind) (k : Kind) (P : Kind → Type 0) → o ≡ Some k → IfSome o P → P k
+by_kind None k P is p = absurd (cc is)
+by_kind (Some j) k P is p = subst P (cc is) p
 
-pub lock_right : (s : State) (v : ReadyVerb) (lock thread : ℕ) → is_lock_verb v ≡ true → AreNamed s → s.thread ≡ Some thread → lock < length s.locks
+abbrev IsTaken : State → ReadyVerb → ℕ → ℕ → ℕ → List ℕ → Kind → Type 0
+IsTaken s v lock thread len rest k = take_said s len rest (said.Other k lock) ≡ Some (record { text = line_text s (record { verb = v; address = 0; thread = thread; name = Some lock }); state = counted s; len = len })
+
+verb_taken : (s : State) (v : ReadyVerb) (lock thread len : ℕ) (rest : List ℕ) → s.thread ≡ Some thread → lock < length s.locks → IfSome (kind_for v) (IsTaken s v lock thread len rest)
+unfolding ready_text
+verb_taken s does.Read lock thread len rest is less = tt
+verb_taken s does.Write lock thread len rest is less = tt
+verb_taken s does.Lock lock thread len rest is less = lock_by s rest lock len less (λ test zero none. rw (test, zero, none, is) refl)
+verb_taken s does.Unlock lock thread len rest is less = lock_by s rest lock len less (λ test zero none. rw (test, zero, none, is) refl)
+verb_taken s does.ReadLock lock thread len rest is less = lock_by s rest lock len less (λ test zero none. rw (test, zero, none, is) refl)
+verb_taken s does.ReadUnlock lock thread len rest is less = lock_by s rest lock len less (λ test zero none. rw (test, zero, none, is) refl)
+
+pub lock_taken : (s : State) (v : ReadyVerb) (k : Kind) (lock thread len : ℕ) (rest : List ℕ) → kind_for v ≡ Some k → s.thread ≡ Some thread → lock < length s.locks
+    → take_said s len rest (said.Other k lock) ≡ Some (record { text = line_text s (record { verb = v; address = 0; thread = thread; name = Some lock }); state = counted s; len = len })
+lock_taken s v k lock thread len rest right is less = by_kind (kind_for v) k (IsTaken s v lock thread len rest) right (verb_taken s v lock thread len rest is less)
+
+pub lock_right : (s : State) (v : ReadyVerb) (k : Kind) (lock thread : ℕ) → kind_for v ≡ Some k → AreNamed s → s.thread ≡ Some thread → lock < length s.locks
     → IsRight s (record { verb = v; address = 0; thread = thread; name = Some lock })
 unfolding is_ready
-lock_right s does.Read lock thread right named known less = absurd (cc right)
-lock_right s does.Write lock thread right named known less = absurd (cc right)
-lock_right s does.Lock lock thread right named known less = rw (named_at is_name s.threads thread named.0 (named.3 thread known)) (named_at is_lock_name s.locks lock named.1 less)
-lock_right s does.Unlock lock thread right named known less = rw (named_at is_name s.threads thread named.0 (named.3 thread known)) (named_at is_lock_name s.locks lock named.1 less)
-lock_right s does.ReadLock lock thread right named known less = rw (named_at is_name s.threads thread named.0 (named.3 thread known)) (named_at is_lock_name s.locks lock named.1 less)
-lock_right s does.ReadUnlock lock thread right named known less = rw (named_at is_name s.threads thread named.0 (named.3 thread known)) (named_at is_lock_name s.locks lock named.1 less)
+lock_right s does.Read k lock thread right named known less = absurd (cc right)
+lock_right s does.Write k lock thread right named known less = absurd (cc right)
+lock_right s does.Lock k lock thread right named known less = rw (named_at is_name s.threads thread named.0 (named.3 thread known)) (named_at is_lock_name s.locks lock named.1 less)
+lock_right s does.Unlock k lock thread right named known less = rw (named_at is_name s.threads thread named.0 (named.3 thread known)) (named_at is_lock_name s.locks lock named.1 less)
+lock_right s does.ReadLock k lock thread right named known less = rw (named_at is_name s.threads thread named.0 (named.3 thread known)) (named_at is_lock_name s.locks lock named.1 less)
+lock_right s does.ReadUnlock k lock thread right named known less = rw (named_at is_name s.threads thread named.0 (named.3 thread known)) (named_at is_lock_name s.locks lock named.1 less)
 
 -- a right record leaves all names names of their kind
 and_left : (a b : Bool) → (a && b) ≡ true → a ≡ true

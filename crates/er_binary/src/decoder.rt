@@ -133,7 +133,7 @@ impl Decoder {
         Err(io::Error::from(ErrorKind::Other))
     }
 
-    /// Takes the next line, if it is an access or a lock event of a block that was read. It reads nothing on.
+    /// Takes the next line, if it is an access or a lock event of a block that was read. It reads nothing on. A refused allocation comes at the next `read`.
     pub(crate) fn take(&mut self) -> Option<ReadyLine>
         ensures none { IfNone result ((rest : List ℕ) → still self.old rest ≡ still self.new rest) }
         ensures some { IfSome result (λ line. (rest : List ℕ) → still self.old rest ≡ line_text self.new.state line ++ still self.new rest) }

@@ -2,7 +2,7 @@
 ghost use Rattle.std.specs.Prelude.{◌≡◌, ◌≤◌, ◌<◌, ◌^◌, ◌+◌, [], IfOk, IfSome, OnOk, OnErr, length, ◌++◌, ◌/◌, ℕ, List, Some, None, true, false, if◌then◌else◌};
 ghost use Rattle.std.specs.List.{list_all};
 ghost use Rattle.er_binary.specs.Inner.Taking.{HasTaken};
-ghost use Rattle.er_binary.specs.Inner.Words.{AreNamed, IsRight, IsSite, behind_first, counted, is_lock_verb, kind_for, line_text, passed, verb_for, words_at, words_text};
+ghost use Rattle.er_binary.specs.Inner.Words.{AreNamed, IsRight, IsSite, behind_first, counted, kind_for, line_text, passed, verb_for, words_at, words_text};
 ghost use Rattle.er_binary.specs.Meaning.{take_record, take_said};
 ghost use Rattle.er_binary.specs.Records.{body_len};
 ghost use Rattle.er_binary.specs.States.{address_of, after, at_block, first_state, is_access, is_note_byte, is_right, node_by, slot};
@@ -289,7 +289,7 @@ impl State {
 impl Kind {
     // What it does to a lock.
     fn lock_verb(self) -> Option<ReadyVerb>
-        ensures { IfSome result (λ verb. (self ≡ kind_for verb) × (is_lock_verb verb ≡ true)) }
+        ensures { IfSome result (λ verb. kind_for verb ≡ Some self) }
     {
         match self {
             Kind::Lock => Some(ReadyVerb::Lock),

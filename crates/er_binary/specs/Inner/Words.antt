@@ -44,16 +44,13 @@ abbrev pub AreNamed : State → Type 0
 AreNamed s = (list_all is_name s.threads ≡ true) × (list_all is_lock_name s.locks ≡ true) × (list_all is_place s.places ≡ true) × ((n : ℕ) → s.thread ≡ Some n → n < length s.threads)
 
 -- the record of a lock event by its verb
-abbrev pub kind_for : ReadyVerb → Kind
-kind_for does.Lock = kind.Lock
-kind_for does.Unlock = kind.Unlock
-kind_for does.ReadLock = kind.ReadLock
-kind_for v = kind.ReadUnlock
-
-abbrev pub is_lock_verb : ReadyVerb → Bool
-is_lock_verb does.Read = false
-is_lock_verb does.Write = false
-is_lock_verb v = true
+abbrev pub kind_for : ReadyVerb → Option Kind
+kind_for does.Read = None
+kind_for does.Write = None
+kind_for does.Lock = Some kind.Lock
+kind_for does.Unlock = Some kind.Unlock
+kind_for does.ReadLock = Some kind.ReadLock
+kind_for does.ReadUnlock = Some kind.ReadUnlock
 
 abbrev pub verb_for : Bool → ReadyVerb
 verb_for writes = if writes then does.Write else does.Read

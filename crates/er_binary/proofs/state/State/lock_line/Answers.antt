@@ -5,8 +5,8 @@ use Rattle.er_binary.proofs.state.State.lock_line.Goals as goal
 
 pub returns-clause-taken : goal.returns-clause-taken
 returns-clause-taken c = λ len rest.
-    rw c.in_ok-verb.ensures.0 (lock_taken c.args.self.now c.in_ok-verb.verb c.args.lock c.in_ok-thread.thread len rest c.in_ok-verb.ensures.1 c.in_ok-thread.was (omega arith))
+    lock_taken c.args.self.now c.in_ok-verb.verb c.args.kind c.args.lock c.in_ok-thread.thread len rest c.in_ok-verb.ensures c.in_ok-thread.was (omega arith)
 
 pub returns-clause-right : goal.returns-clause-right
 returns-clause-right c = λ named.
-    lock_right c.args.self.now c.in_ok-verb.verb c.args.lock c.in_ok-thread.thread c.in_ok-verb.ensures.1 named c.in_ok-thread.was (omega arith)
+    lock_right c.args.self.now c.in_ok-verb.verb c.args.kind c.args.lock c.in_ok-thread.thread c.in_ok-verb.ensures named c.in_ok-thread.was (omega arith)
