@@ -41,7 +41,8 @@ pub(crate) struct DetectorRunner<'a, 't, G: Gate> {
 
 impl<'a, 't, G: Gate> Runner for DetectorRunner<'a, 't, G> {
     fn run_task<R: Wait>(&self, rt: &R, alloc: Global, task: Task, mut seat: Seat) -> Answer {
-        let script = script_of(alloc, task)?;
+        let mut script = Vec::new(alloc);
+        add_task(&mut script, task)?;
         if seat.calls().is_empty() {
             self.gate.enter(seat.thread().number());
         }
@@ -103,15 +104,6 @@ enum Action {
 
 // The word that is shared, and the first one of several.
 const SHARED: u64 = 0x400;
-
-fn script_of(alloc: Global, task: Task) -> Result<Vec<Action>, AllocError>
-    requires { task.thread < thread_count task.workload }
-    ensures { IfOk result (λ script. events_in_all script.items ≡ stage_events task.workload task.stage task.thread) }
-{
-    let mut script = Vec::new(alloc);
-    add_task(&mut script, task)?;
-    Ok(script)
-}
 
 #[tactic(auto, unfolding(crate::specs::Workloads::stage_events, crate::specs::Inner::Scripts::events_in_all))]
 fn add_task(script: &mut Vec<Action>, task: Task) -> Put
