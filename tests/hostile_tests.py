@@ -1,7 +1,7 @@
 #!/usr/bin/env python3
 """Texts that were made to take long, or to take much memory: those of `bench/hostile`.
 
-`tests/run` calls `answers`, `costs`, `barriers`, `turns` and `second_looks`. By itself this file runs these tests alone.
+`tests/run` calls `answers`, `costs`, `barriers`, `rules`, `patterns`, `turns`, `second_looks` and `binary_traces`. By itself this file runs all tests.
 
 - each kind is answered as the references answer it: by locks and by happens-before, with reasons, by several workers, and also if the system gives no
   random bytes to hash by
@@ -13,6 +13,7 @@
 - two of many readers of a word that read it in turn, two million times, take no more than 16 MiB
 - a second look at a file, for the places of reasons, ends behind the last line that a reason names
 - as many rules of words as there are reuses, none of which takes a reuse, cost in the same way
+- a binary trace of accesses and lock events takes fewer instructions than its text, by each analysis
 - a text that is four times as long takes at most 5.5 times the instructions, as valgrind counts them. What compares each with all others takes up to 16
   times as many, and what keeps all for each does so too
 """
@@ -30,6 +31,7 @@ sys.path.insert(0, str(pathlib.Path(__file__).parent))
 sys.dont_write_bytecode = True
 import analysis_tests
 import reference
+import trace4
 from alone import program, run_alone
 from cases import NO_END
 from site_tests import preloaded
@@ -48,6 +50,8 @@ REUSES, BYTES_OF_REUSES = 40_000, 1 << 30
 FREED = 2000
 # Races that are compared with a pattern, and what one comparison may take for each byte of the name and each of the pattern.
 PATTERNED, MOST_FOR_TWO_BYTES = 500, 16
+# Turns of the threads of a binary trace, each of which takes a lock, accesses two words and gives the lock back.
+BINARY_TURNS = 1000
 # Lines that no reason names.
 SEEN_ONCE = 20_000
 # What is replayed of each kind: how many there are in the shorter text, and by which options.
@@ -253,6 +257,21 @@ def second_looks(record):
     record("hostile: a second look ends behind the last line that a reason names", times["front"] < 1.3 and times["end"] > 1.6, f"{times}")
 
 
+def binary_traces(record):
+    """A binary trace has its accesses and lock events ready, so they are answered in less work than the lines of its text."""
+    lines = []
+    for turn in range(BINARY_TURNS):
+        lock, word = f"m{turn % 7}", 0x1000 + 64 * (turn % 7)
+        lines += [f"t{turn % 4} {does}\n" for does in (f"lock {lock}", f"write {word:#x} worker.c:12", f"read {word + 4:#x} worker.c:13", f"unlock {lock}")]
+    text = trace4.plain(("eraser trace 3\n" + "".join(lines)).encode())
+    data = trace4.encode(text)
+    for options in ([], HAPPENS_BEFORE):
+        name, wanted, found = f"hostile: a binary trace {' '.join(options)}", run([*options, "-"], text), run([*options, "-"], data)
+        record(name, found == wanted and b"steps %d, " % len(lines) in found[0], f"{found}, {wanted}"[:300])
+        of_text, of_data = instructions([*options, "-"], text), instructions([*options, "-"], data)
+        record(f"{name}: instructions", of_data < of_text, f"{of_data}, and {of_text} of its text")
+
+
 def tests(record, preloaded):
     answers(record, preloaded)
     costs(record)
@@ -262,6 +281,7 @@ def tests(record, preloaded):
     turns(record)
     long_reuses(record)
     second_looks(record)
+    binary_traces(record)
 
 
 if __name__ == "__main__":

@@ -5,6 +5,7 @@
 
 - worked traces in each form, by each analysis, by several workers, with --strict and --until-fault, with notes and with faults: the same
   output, the same errors behind the lines of progress, the same status; the last line has the bytes, the steps and the races of the whole trace
+- a binary trace in each form: the last line has the bytes of its text, and no share
 - a pipe that gives a piece of a trace at a time: lines come while it is open, their numbers rise, and none comes sooner than half a second
   behind another
 - the second pass of --until-fault counts its time from its own beginning
@@ -30,6 +31,7 @@ import tty
 
 sys.path.insert(0, str(pathlib.Path(__file__).parent))
 sys.dont_write_bytecode = True
+import trace4
 from alone import each_failed, each_refused, outcome_of, run_alone
 from site_tests import PROGRAM, preloaded, run
 
@@ -124,6 +126,22 @@ def numbers(record, folder):
     record("progress: a file named - gives no share", len(lines) >= 1 and lines[-1][4] is None, f"{lines}")
     lines, rest = parted(run(["replay", "--progress", "-"], b"fault\n")[1])
     record("progress: a fault of the first batch", lines == [] and rest == b"line 1: no header\n", f"{lines} {rest}")
+
+
+def binary_traces(record, folder):
+    """The bytes of a binary trace are those of its text, also of the lines that are read before they are text."""
+    text = trace4.plain(THIRD + b"t1 lock m\n" + BATCH * 3 + b"t1 unlock m\n" + RACE + MORE)
+    data, path = trace4.encode(text), folder / "b.trace"
+    path.write_bytes(data)
+    wanted = (len(text), total(text, b"steps"))
+    for options in OPTIONS:
+        for words, given in ((["-"], data), ([str(path)], b"")):
+            plain = run(["replay", *options, *words], given)
+            output, errors, status = run(["replay", *options, "--progress", *words], given)
+            lines, rest = parted(errors)
+            title = f"progress: a binary trace {' '.join(options)} {words[0] == '-'}"
+            record(title, (output, rest, status) == plain, f"{(output, errors, status)}, {plain}"[:1000])
+            record(f"{title}: the last line", bool(lines) and lines[-1][:2] == wanted and lines[-1][4] is None, f"{errors}, {wanted}")
 
 
 # ---- A slow pipe
@@ -316,6 +334,7 @@ def tests(record, preloaded):
         folder = pathlib.Path(folder)
         same_replays(record, folder)
         numbers(record, folder)
+        binary_traces(record, folder)
         slow_pipe(record)
         second_pass(record)
         terminal(record)

@@ -42,9 +42,9 @@ SHOWN = (b"called at", b" more\n", b"    in Pool::take\n", b" in stats\n", b" st
     b'"calls":', b'"functions":[', b'"functions":[null', b'"variable":', b'"block":', b'"site":null}', b'"threads":', b'"name":null', b'"stacks":', b'"kind":"function"')
 SCHEMA = json.loads(json_tests.SCHEMA.read_text())
 # Options of a replay. Each trace is replayed with some of them.
-FORMS = ([], ["--explain"], ["--by-site"], ["--format", "json"], ["--format", "sarif"], ["--format", "html"], ["--workers", "3"], ["--strict"],
+FORMS = ([], ["--explain"], ["--by-site"], ["--format", "json"], ["--format", "sarif"], ["--format", "html"], ["--workers", "2"], ["--workers", "3"], ["--strict"],
     ["--strict", "--workers", "3"], ["--until-fault"], ["--workers", "3", "--explain", "--by-site"], ["--analysis", "happens-before"],
-    ["--analysis", "happens-before", "--workers", "3"], ["--analysis", "happens-before", "--explain"], ["--analysis", "both"],
+    ["--analysis", "happens-before", "--workers", "2"], ["--analysis", "happens-before", "--workers", "3"], ["--analysis", "happens-before", "--explain"], ["--analysis", "both"],
     ["--analysis", "both", "--by-site"], ["--analysis", "both", "--format", "json", "--workers", "3"], ["--analysis", "both", "--strict", "--until-fault"],
     ["--max-races", "1"])
 # As many threads, locks and places as need numbers of two bytes; accesses all over memory; events lost.
@@ -122,7 +122,7 @@ def long_traces(record):
     for name, data in (("usual blocks", trace4.encode(text)), ("small blocks", trace4.encode(text, most_bytes=500)), ("one block", trace4.encode(text, most_bytes=trace4.MOST_BYTES - 100))):
         found = run(["print", "-"], data)
         record(f"trace 4: the text of a long trace, {name}", found == (plain, b"", 0), f"{len(found[0])} {found[1:]}")
-        for options in ([], ["--workers", "3"], ["--analysis", "both", "--workers", "3", "--by-site"]):
+        for options in ([], ["--workers", "2"], ["--workers", "3"], ["--analysis", "both", "--workers", "3", "--by-site"]):
             found, wanted = run(["replay", *options, "-"], data), run(["replay", *options, "-"], plain)
             record(f"trace 4: a long trace, {name} {options}", found == wanted and wanted[2] == 1, f"{found[1:]}, {wanted[1:]}")
 
