@@ -50,7 +50,7 @@ REUSES, BYTES_OF_REUSES = 40_000, 1 << 30
 FREED = 2000
 # Races that are compared with a pattern, and what one comparison may take for each byte of the name and each of the pattern.
 PATTERNED, MOST_FOR_TWO_BYTES = 500, 16
-# Turns of the threads of a binary trace, each of which takes a lock, accesses two words and gives the lock back.
+# Turns of the threads of a binary trace, each of which takes a lock, writes 8 bytes, reads a word and gives the lock back.
 BINARY_TURNS = 1000
 # Lines that no reason names.
 SEEN_ONCE = 20_000
@@ -261,8 +261,9 @@ def binary_traces(record):
     """A binary trace has its accesses and lock events ready, so they are answered in less work than the lines of its text."""
     lines = []
     for turn in range(BINARY_TURNS):
-        lock, word = f"m{turn % 7}", 0x1000 + 64 * (turn % 7)
-        lines += [f"t{turn % 4} {does}\n" for does in (f"lock {lock}", f"write {word:#x} worker.c:12", f"read {word + 4:#x} worker.c:13", f"unlock {lock}")]
+        thread, lock, word = turn // 8 % 4, f"m{turn % 7}", 0x1000 + 64 * (turn % 7)
+        deeds = (f"lock {lock}", f"write {word:#x} worker.c:12", f"write {word + 4:#x} worker.c:12", f"read {word + 8:#x} worker.c:13", f"unlock {lock}")
+        lines += [f"t{thread} {deed}\n" for deed in deeds]
     text = trace4.plain(("eraser trace 3\n" + "".join(lines)).encode())
     data = trace4.encode(text)
     for options in ([], HAPPENS_BEFORE):
