@@ -595,6 +595,86 @@ def shaken(folder, findings):
     findings.check("a seed that is drawn", seed and command([RUN, "-q", "-o", folder / "shaken.trace", seed[1], program]).returncode == 0, f"{found}")
 
 
+# ---- Many threads, signals, and the order of all ----
+
+
+def lane_programs(folder, findings):
+    """The programs of tests/record/lanes by their names. Of turns.c one file is not instrumented."""
+    part, made = folder / "unseen.o", {}
+    command(["gcc", "-O2", *WARNINGS, "-c", SOURCES / "lanes/unseen.c", "-o", part])
+    for name in ("nested", "timed", "turns", "crowd"):
+        made[name] = folder / f"lanes-{name}"
+        more = [part] if name == "turns" else []
+        built = command(["gcc", "-g", "-fsanitize=thread", "-O2", *WARNINGS, SOURCES / f"lanes/{name}.c", *more, "-o", made[name]])
+        findings.check(f"lanes/{name}.c is built", built.returncode == 0 and built.stderr == "", built.stderr)
+    return made
+
+
+def whole_trace(folder, program, *words):
+    """The run, and the text of its trace, which is empty if the program failed or anything was lost."""
+    trace = folder / "lanes.trace"
+    done = command([RUN, "-o", trace, "--trace", "3", "--limit", "0", program, *words])
+    text = trace.read_text()
+    is_whole = done.returncode == 0 and re.search(r"^record: \d+ events recorded, 0 lost$", done.stderr, re.M) and text.endswith("none lost\nend\n")
+    return done, text if is_whole else ""
+
+
+def site_of(name, mark):
+    site, = marked(SOURCES / f"lanes/{name}.c", mark)
+    return site
+
+
+def writers(text, name, mark):
+    """The thread and the address of each write at a marked line, in the order of the trace."""
+    return re.findall(rf"^(t\d+) write (\S+) {re.escape(site_of(name, mark))}$", text, re.M)
+
+
+def nested_signals(folder, findings, nested):
+    """Handlers that interrupt a thread and each other: each write is in the trace once, also if a handler makes more events than a lane has room for."""
+    for signals, writes, runs in ((10000, 20, max(1, RUNS // 10)), (20, 50000, max(1, RUNS // 5))):
+        for nth in range(runs):
+            done, text = whole_trace(folder, nested, str(signals), str(writes))
+            found = [text.count(f" {site_of('nested', mark)}\n") for mark in ("ONE", "OTHER", "OWN")]
+            wanted = [signals * writes, signals * writes, int(done.stdout or 0)]
+            findings.check(f"{signals} signals of two kinds with {writes} writes each, run {nth}", found == wanted, f"{done} {found}, not {wanted}")
+
+
+def unseen_ends(folder, findings, timed):
+    """More threads of a timer than there are lanes: the recorder sees no end of theirs."""
+    done, text = whole_trace(folder, timed, "9000")
+    threads = {thread for thread, _ in writers(text, "timed", "TICK")}
+    found = text.count(f" {site_of('timed', 'TICK')}\n")
+    findings.check("threads of a timer", len(threads) == found == int(done.stdout or 0) >= 9000, f"{done} {len(threads)} threads, {found} writes")
+
+
+def unseen_order(folder, findings, turns):
+    """What orders threads is not recorded, and their writes are in the trace in that order."""
+    for count in (2, 4, 7):
+        done, text = whole_trace(folder, turns, str(count), "2000")
+        threads = [thread for thread, _ in writers(text, "turns", "TURN")]
+        is_round = len(threads) == 2000 * count and len(set(threads)) == count and threads == threads[:count] * 2000
+        findings.check(f"{count} threads that take turns unseen", is_round, f"{done} {len(threads)} writes of {sorted(set(threads))}")
+
+
+def crowds(folder, findings, crowd):
+    """Some hundred threads at a time, each with more events than its lane has room for; and more threads than there are lanes, a hundred at a time."""
+    for threads, rounds, writes in ((300, 1, 4500), (100, 90, 3)):
+        done, text = whole_trace(folder, crowd, str(threads), str(rounds), str(writes))
+        found = {}
+        for thread, address in writers(text, "crowd", "ROW"):
+            found.setdefault(thread, []).append(address)
+        is_right = len(found) == threads * rounds and all(own == (sorted(own[:16]) * writes)[:writes] and len(set(own)) == min(16, writes) for own in found.values())
+        findings.check(f"{rounds} times {threads} threads", is_right, f"{done} {len(found)} threads, {sum(map(len, found.values()))} writes")
+
+
+def lanes(folder, findings):
+    made = lane_programs(folder, findings)
+    nested_signals(folder, findings, made["nested"])
+    unseen_ends(folder, findings, made["timed"])
+    unseen_order(folder, findings, made["turns"])
+    crowds(folder, findings, made["crowd"])
+
+
 # ---- Programs that are recorded from later on, and other allocators ----
 
 
@@ -1258,6 +1338,7 @@ def tests(record):
         merged_texts(folder, findings, made[SOURCES / "recursive.cpp", "gcc", "-O0"])
         interrupted_runs(folder, findings, busy)
         shaken(folder, findings)
+        lanes(folder, findings)
         unusual_starts(folder, findings, counter)
         names(folder, findings)
         annotations_elsewhere(folder, findings)
