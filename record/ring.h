@@ -185,7 +185,7 @@ struct ring {
     uint32_t is_late;            /* the program ran before it was recorded, and may hold locks */
     _Atomic uint32_t threads;    /* numbers given to threads */
     _Atomic uint64_t abandoned;  /* some ticket below this one may never be published */
-    _Atomic uint32_t takes;      /* how often a lane was taken */
+    _Atomic uint32_t takes;      /* how often a lane was taken, or none was free */
     _Atomic uint32_t first_free; /* no lane before this one is free, as a rule: a thread looks from here on */
     _Atomic uint32_t lanes_used; /* no lane from this one on was ever taken */
     char program[RING_NAME_BYTES]; /* the name of the program's file, once there is an owner */
@@ -235,7 +235,7 @@ static inline uint32_t lane_slots(uint32_t lane)
 /* What a slot's `published` says once the event of this position is in it. Before that it is 0, or the mark of an earlier round through the lane. */
 static inline uint32_t lane_mark(uint32_t position)
 {
-    return position + 1;
+    return position | 0x80000000u;
 }
 
 #endif

@@ -31,6 +31,19 @@ static bool is_on_other_stack(void)
     return syscall(SYS_sigaltstack, NULL, &now) == 0 && (now.ss_flags & SS_ONSTACK);
 }
 
+/* No signal handler comes from here on, nor is the thread cancelled. Gives the signals that were blocked before. */
+static uint64_t hold_signals(void)
+{
+    uint64_t all = UINT64_MAX, before = 0;
+    syscall(SYS_rt_sigprocmask, SIG_SETMASK, &all, &before, sizeof before);
+    return before;
+}
+
+static void let_signals(uint64_t before)
+{
+    syscall(SYS_rt_sigprocmask, SIG_SETMASK, &before, NULL, sizeof before);
+}
+
 /* Some ticket that was drawn by now may have no event. */
 static void warn_writer(struct ring *ring)
 {
@@ -39,7 +52,15 @@ static void warn_writer(struct ring *ring)
         ;
 }
 
-/* The event that was begun last gets no other end: an empty one has its ticket. It may have been left right after it was published. */
+/* Whether the event that was begun in this course stands in its lane at this position. */
+static bool is_at(const struct course *course, uint32_t position)
+{
+    const struct slot *slot = &course->slots[position & course->mask];
+    return atomic_load_explicit(&slot->published, memory_order_relaxed) == lane_mark(position) && slot->ticket == (uint32_t)course->ticket;
+}
+
+/* The event that was begun last gets no other end: an empty one has its ticket. It may have been left right after it was published, and its position may
+ * have been counted then or not. No signal handler may come in between, since it might give up the same one. */
 static void give_up(struct ring *ring, struct self *me)
 {
     struct course *course = &me->courses[me->depth - 1];
@@ -47,14 +68,15 @@ static void give_up(struct ring *ring, struct self *me)
     if (course->ticket == TICKET_DRAWING)
         warn_writer(ring);
     if (has_ticket) {
-        struct slot *slot = &course->slots[course->next & course->mask];
-        is_published = atomic_load_explicit(&slot->published, memory_order_relaxed) == lane_mark(course->next);
+        bool is_counted = is_at(course, course->next - 1);
+        is_published = is_counted || is_at(course, course->next);
         if (!is_published) {
+            struct slot *slot = &course->slots[course->next & course->mask];
             slot->ticket = (uint32_t)course->ticket;
             slot->kind_and_stack = EVENT_VOID;
             atomic_store_explicit(&slot->published, lane_mark(course->next), memory_order_release);
         }
-        course->next++;
+        course->next += !is_counted;
     }
     course->ticket = TICKET_NONE;
     set_depth(me, me->depth - 1);
@@ -72,7 +94,8 @@ static uint32_t take_from(struct ring *ring, uint32_t at)
     return at;
 }
 
-static bool take_lane(struct ring *ring, const struct self *me, struct course *course)
+/* No signal handler may come in between, since it would find a course that is half changed, or leave it so. */
+static bool take_lane_held(struct ring *ring, const struct self *me, struct course *course)
 {
     uint32_t first = atomic_load(&ring->first_free), at = take_from(ring, first);
     if (at == LANES)
@@ -90,18 +113,29 @@ static bool take_lane(struct ring *ring, const struct self *me, struct course *c
     course->next = atomic_load(&ring->lanes[at].head);
     course->full = course->next + course->mask + 1;
     course->slots = &ring->slots[lane_begin(at)];
-    atomic_fetch_add(&ring->takes, 1);
     return true;
+}
+
+static bool take_lane(struct ring *ring, const struct self *me, struct course *course)
+{
+    uint64_t before = hold_signals();
+    bool is_taken = take_lane_held(ring, me, course);
+    /* If there was none, the writer has a reason to look whose threads are gone. */
+    atomic_fetch_add(&ring->takes, 1);
+    let_signals(before);
+    return is_taken;
 }
 
 /* The lane has no more events. */
 static void leave_lane(struct ring *ring, struct course *course)
 {
+    uint64_t before = hold_signals();
     struct lane *lane = &ring->lanes[course->lane];
     course->slots = NULL;
     course->full = course->next;
     lane->end = course->next;
     atomic_store_explicit(&lane->state, LANE_LEFT, memory_order_release);
+    let_signals(before);
 }
 
 /* Whether the writer waits for an event that the signal handler has interrupted which is to record one in this course. */
@@ -148,12 +182,23 @@ bool emit_wait(struct ring *ring, struct self *me, struct course *course, void *
     return has_room;
 }
 
-/* An event that was begun has been interrupted by a signal handler, whose frame is lower; or a handler left it for good by longjmp. */
+/* Whether a handler left the event for good that was begun last, by longjmp. */
+static bool was_left(const struct self *me, const void *frame)
+{
+    uint32_t depth = __atomic_load_n(&me->depth, __ATOMIC_RELAXED);
+    return depth && (const char *)frame >= (const char *)me->courses[depth - 1].frame && !is_on_other_stack();
+}
+
+/* An event that was begun has been interrupted by a signal handler, whose frame is lower; or a handler left it for good. */
 struct course *emit_prepare(struct ring *ring, struct self *me, void *frame)
 {
     int error = errno;
-    while (me->depth && (char *)frame >= (char *)me->courses[me->depth - 1].frame && !is_on_other_stack())
-        give_up(ring, me);
+    if (was_left(me, frame)) {
+        uint64_t before = hold_signals();
+        while (was_left(me, frame))
+            give_up(ring, me);
+        let_signals(before);
+    }
     bool has_course = me->depth < DEPTHS && !atomic_load_explicit(&ring->stop, memory_order_relaxed);
     if (!has_course)
         count_lost(ring, me);
@@ -163,8 +208,12 @@ struct course *emit_prepare(struct ring *ring, struct self *me, void *frame)
 
 void emit_end_of_thread(void)
 {
-    while (attached->ring && self.depth)
+    if (!attached->ring || !self.depth)
+        return;
+    uint64_t before = hold_signals();
+    while (self.depth)
         give_up(attached->ring, &self);
+    let_signals(before);
 }
 
 void emit_leave_lanes(void)
@@ -256,7 +305,11 @@ static struct ring *map_ring(const char *path)
         return NULL;
     void *ring = mmap(NULL, sizeof(struct ring), PROT_READ | PROT_WRITE, MAP_SHARED, file, 0);
     syscall(SYS_close, file);
-    return ring == MAP_FAILED || ((struct ring *)ring)->magic != RING_MAGIC ? NULL : ring;
+    if (ring == MAP_FAILED || ((struct ring *)ring)->magic != RING_MAGIC)
+        return NULL;
+    /* A core file would have all of its addresses. */
+    madvise(ring, sizeof(struct ring), MADV_DONTDUMP);
+    return ring;
 }
 
 /* A page that a forked child finds cleared. */
