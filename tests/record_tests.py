@@ -405,6 +405,26 @@ def exit_statuses(folder, findings, made):
             findings.check(f"the exit status {more}: {title}", str(found.returncode) == status and is_said, f"{found}, not {status} {pattern}")
 
 
+def workers(folder, findings, program):
+    """How many threads replay: as many as are asked for, and by default two if four processors may be used. The report is the same."""
+    replay = as_script(folder, "says-words", 'cat >/dev/null; echo "$@"\n')
+    for asked in ("1", "2", "16"):
+        found = command([RUN, "-q", "--report", "-", "--workers", asked, program], env={**os.environ, "ERASER": replay})
+        words = re.findall(r"--workers (\d+)", found.stdout)
+        findings.check(f"--workers {asked} is passed on", found.returncode == 3 and words == ([asked] if asked != "1" else []), f"{found}")
+        found = command([RUN, "-q", "--report", "-", "--workers", asked, program])
+        findings.check(f"the report by --workers {asked}", found.returncode == 3 and races(found.stdout) == marked(SOURCES / "counter.c", "RACE"), f"{found}")
+    allowed = sorted(os.sched_getaffinity(0))
+    for processors in (allowed[:1], allowed):
+        found = command([RUN, "-q", "--report", "-", program], env={**os.environ, "ERASER": replay}, preexec_fn=lambda: os.sched_setaffinity(0, processors))
+        is_right = (" --workers 2 " in found.stdout) == (len(processors) >= 4) and found.stdout.startswith("30\nreplay ")
+        findings.check(f"the workers of {len(processors)} processors", found.returncode == 3 and is_right, f"{found}")
+    for wrong in ("0", "17", "-1", "two", ""):
+        found = command([RUN, "--workers", wrong, program])
+        wanted = ("", 125, f"record: --workers wants a number from 1 to 16, not '{wrong}'\n")
+        findings.check(f"--workers {wrong!r}", (found.stdout, found.returncode, found.stderr) == wanted, f"{found}")
+
+
 def listed(folder):
     """What the list of a folder says of each file."""
     return dict(line.split(": ", 1) for line in (folder / "list.txt").read_text().splitlines())
@@ -602,7 +622,7 @@ def lane_programs(folder, findings):
     """The programs of tests/record/lanes by their names. Of turns.c one file is not instrumented."""
     part, made = folder / "unseen.o", {}
     command(["gcc", "-O2", *WARNINGS, "-c", SOURCES / "lanes/unseen.c", "-o", part])
-    for name in ("nested", "timed", "turns", "crowd"):
+    for name in ("nested", "left", "timed", "turns", "crowd"):
         made[name] = folder / f"lanes-{name}"
         more = [part] if name == "turns" else []
         built = command(["gcc", "-g", "-fsanitize=thread", "-O2", *WARNINGS, SOURCES / f"lanes/{name}.c", *more, "-o", made[name]])
@@ -639,6 +659,16 @@ def nested_signals(folder, findings, nested):
             findings.check(f"{signals} signals of two kinds with {writes} writes each, run {nth}", found == wanted, f"{done} {found}, not {wanted}")
 
 
+def left_events(folder, findings, left):
+    """Handlers that leave events for good beside other handlers, and signals at a thread's end: nothing hangs, and each later write is in the trace."""
+    for nth in range(max(1, RUNS // 5)):
+        trace = folder / "left.trace"
+        done = command([RUN, "-q", "-o", trace, "--trace", "3", "--limit", "0", left, "1000"])
+        found = trace.read_text()
+        writes = sum(found.count(f" {site}\n") for site in marked(SOURCES / "lanes/left.c", "LATER"))
+        findings.check(f"events that handlers left, run {nth}", (done.returncode, done.stdout) == (0, f"{writes}\n") and writes > 0, f"{done} {writes}")
+
+
 def unseen_ends(folder, findings, timed):
     """More threads of a timer than there are lanes: the recorder sees no end of theirs."""
     done, text = whole_trace(folder, timed, "9000")
@@ -670,6 +700,7 @@ def crowds(folder, findings, crowd):
 def lanes(folder, findings):
     made = lane_programs(folder, findings)
     nested_signals(folder, findings, made["nested"])
+    left_events(folder, findings, made["left"])
     unseen_ends(folder, findings, made["timed"])
     unseen_order(folder, findings, made["turns"])
     crowds(folder, findings, made["crowd"])
@@ -1317,6 +1348,7 @@ def tests(record):
         programs(folder, findings, made)
         ways_to_use(folder, findings, counter, made[SOURCES / "queue.cpp", "gcc", "-O0"])
         exit_statuses(folder, findings, made)
+        workers(folder, findings, counter)
         forks(findings, made[SOURCES / "forks.c", "gcc", "-O0"])
         large_report(folder, findings, counter)
         several_programs(folder, findings, made)
