@@ -34,7 +34,7 @@ complete -c eraser-record -n __eraser_record_before_program -l exit-status -x -a
 complete -c eraser-record -n __eraser_record_before_program -l shake -d 'Let threads wait for short random times before they acquire, signal or start, so that more of them meet; --shake=SEED repeats them'
 complete -c eraser-record -n __eraser_record_before_program -l runs -x -d 'Run the program N times, and report of each site in how many of the runs it was reported'
 complete -c eraser-record -n __eraser_record_before_program -l order -d 'Record what orders threads as well: starts and joins, semaphores, atomic operations ..'
-complete -c eraser-record -n __eraser_record_before_program -l trace -x -a '3 4' -d 'Write the trace as text 3 (the default without --stacks and --flow), or in the binary form 4, which is shorter; eraser print shows it as text'
+complete -c eraser-record -n __eraser_record_before_program -l trace -x -a '3 4' -d 'Write the trace as text 3 (the default of one that -o keeps, without --stacks and --flow), or in the binary form 4 (that of others), which is shorter; eraser print shows it as text'
 complete -c eraser-record -n __eraser_record_before_program -l stacks -d 'Record in a trace 4 the calls in which each event is made, their functions and where blocks of memory were got, and report accesses in system headers at the line that called them'
 complete -c eraser-record -n __eraser_record_before_program -l flow -d 'Record in a trace 4 what threads learn from each other without an order: relaxed atomics, and tries of locks that fail; records with --order'
 complete -c eraser-record -n __eraser_record_before_program -l limit -x -d 'Of a trace that is kept: keep at most BYTES of it; 0: no limit. With -o the default is 268435456'

@@ -573,7 +573,7 @@ def merged_texts(folder, findings, program):
             (folder / f"{name}.{number}").write_text(text)
         nth.write_text("0")
         replay = as_script(folder, name, f"n=$(sed -n 's/^# recorded from run.//p'); cat {folder}/{name}.${{n:-0}}; exit 1\n")
-        words = [RUN, "-q", "--runs", "3", "--analysis", "both", *(["--by-site"] if name == "sites" else []), "--report", "merged.txt", turns, *programs]
+        words = [RUN, "-q", "--runs", "3", "--trace", "3", "--analysis", "both", *(["--by-site"] if name == "sites" else []), "--report", "merged.txt", turns, *programs]
         found = command(words, cwd=folder, env={**os.environ, "ERASER": replay})
         head, rows = merged((folder / "merged.txt").read_text())
         rows = [[*row[:3], row[3][:2], *row[4:]] for row in rows[1:]]
@@ -1172,7 +1172,7 @@ def memory(folder, findings, busy):
         # A replay whose report is the number of bytes that it got.
         settings = {**os.environ, "ERASER": as_script(folder, "sink", "exec wc -c\n")}
         with open(folder / "errors", "w+") as errors:
-            recorder = subprocess.Popen([RUN, busy, rounds], env=settings, stdout=subprocess.DEVNULL, stderr=errors)
+            recorder = subprocess.Popen([RUN, "--trace", "3", busy, rounds], env=settings, stdout=subprocess.DEVNULL, stderr=errors)
             _, status, spent = os.wait4(recorder.pid, 0)
             recorder.returncode = status
             errors.seek(0)

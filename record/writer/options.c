@@ -23,7 +23,7 @@
 #define MANY_PROCESSORS 4
 
 /* The form of a trace that nobody keeps, unless an option says another one: that which a replay beside the program reads faster. */
-#define FORM_OF_PIPE text_form
+#define FORM_OF_PIPE binary_form
 
 struct options options = {.runs = 1};
 
@@ -50,7 +50,7 @@ static const char usage[] =
     "      --shake             let threads wait for short random times before they acquire, signal or start, so that more of them meet; --shake=SEED repeats them\n"
     "      --runs N            run the program N times, and report of each site in how many of the runs it was reported\n"
     "      --order             record what orders threads as well: starts and joins, semaphores, atomic operations ..\n"
-    "      --trace FORM        write the trace as text `3` (the default without --stacks and --flow), or in the binary form `4`, which is shorter; `eraser print` shows it as text\n"
+    "      --trace FORM        write the trace as text `3` (the default of one that -o keeps, without --stacks and --flow), or in the binary form `4` (that of others), which is shorter; `eraser print` shows it as text\n"
     "      --stacks            record in a trace 4 the calls in which each event is made, their functions and where blocks of memory were got, and report accesses in system headers at the line that called them\n"
     "      --flow              record in a trace 4 what threads learn from each other without an order: relaxed atomics, and tries of locks that fail; records with --order\n"
     "      --limit BYTES       of a trace that is kept: keep at most BYTES of it; 0: no limit. With -o the default is 268435456\n"
