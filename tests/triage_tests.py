@@ -201,16 +201,19 @@ def written_rules(record, folder):
 
 
 def rules_in(text):
-    return sum(1 for line in text.split(b"\n") if line.strip(b" \t") and not line.startswith(b"#"))
+    return len(reference.rules_of(text))
 
 
 def several_files(record, folder):
     one, parts = folder / "one.rules", [folder / f"part{n}.rules" for n in range(3)]
     for name, text, rules, options in texts():
         lines = re.findall(rb"[^\n]*\n|[^\n]+", rules)
+        # Each file has the header of the second edition, if the whole has it.
+        headers = [line for line in lines if line.split()[:1] == [b"eraser"]]
+        lines = [line for line in lines if line not in headers]
         cuts = [len(lines) // 3, 2 * len(lines) // 3]
         for part, some in zip(parts, (lines[:cuts[0]], lines[cuts[0]:cuts[1]], lines[cuts[1]:])):
-            part.write_bytes(b"".join(some))
+            part.write_bytes(b"\n".join([*headers, b"".join(some)]))
         one.write_bytes(rules)
         words = [word for part in parts for word in ("--suppress", part)]
         whole = run(["replay", *options, "--suppress", one, "-"], text)
