@@ -11,14 +11,13 @@ ghost use Rattle.er_table.specs.declared.known.TheConstants.{MOST_REMEMBERED};
 ghost use Rattle.er_table.specs.Numbers.{IsNumbered};
 ghost use Rattle.er_table.specs.Sets.{with_set, set_at, AreDistinct, most_sets, KeepsNumbers};
 
-use crate::LocksetTable;
 use crate::numbers::Numbers;
+use crate::{Grow, LocksetTable, Owned, Shared, Store};
 use er_event::{Lockset, NoRoom};
-use er_keys::NumberHasher;
+use er_keys::{HashKeys, NumberHasher};
 use std::alloc::{AllocError, Global};
 use std::collections::HashMap;
 use std::marker::Model;
-use std::sync::Wait;
 
 /// How many intersections are remembered. Beyond that they are found anew each time.
 const MOST_REMEMBERED: usize = 65536;
@@ -32,12 +31,18 @@ struct Pair {
 
 /// One owner's numbers for the sets that it met. Contracts see the sets, by number: number 0 is the empty set.
 #[derive(Drop)]
-pub struct Known<'t> {
-    numbers: Numbers<'t>,
+pub struct KnownIn<S: Store> {
+    numbers: Numbers<S>,
     meets: HashMap<Pair, u32, NumberHasher>,
 }
 
-impl<'t> Model for Known<'t> {
+/// The numbers of an owner that shares its sets by a table.
+pub type Known<'t> = KnownIn<Shared<'t>>;
+
+/// The numbers of an owner that has its sets for itself.
+pub type OwnKnown = KnownIn<Owned>;
+
+impl<S: Store> Model for KnownIn<S> {
     ghost use Rattle.std.specs.Prelude.{◌≤◌, List, ℕ};
     ghost use Rattle.std.specs.HashMap.{get, hash_map_len};
     ghost use Rattle.er_table.specs.Known.{RemembersMeets, same_pair};
@@ -50,17 +55,32 @@ impl<'t> Model for Known<'t> {
     ghost invariant = { λ k. RemembersMeets k.numbers (get same_pair k.meets) × (hash_map_len k.meets ≤ MOST_REMEMBERED) };
 }
 
-impl<'t> Known<'t> {
-    /// The empty set alone has a number yet.
+impl<'t> KnownIn<Shared<'t>> {
+    /// The empty set alone has a number yet. The others go into the table.
     pub fn new(alloc: Global, table: &'t LocksetTable) -> Result<Known<'t>, AllocError>
         ensures { IfOk result (λ known. known ≡ [] ∷ []) }
     {
-        Ok(Known {
-            numbers: Numbers::new(alloc, table)?,
+        Ok(KnownIn {
+            numbers: Numbers::new(alloc, Shared::new(alloc, table)?),
             meets: HashMap::with_hasher(alloc, NumberHasher::new(table.keys())),
         })
     }
+}
 
+impl KnownIn<Owned> {
+    /// The empty set alone has a number yet, and `max_sets` others may get one. Whoever chooses the sets can make it slow.
+    pub fn new(alloc: Global, max_sets: u32) -> OwnKnown
+        requires few { max_sets ≤ most_sets }
+        ensures { result ≡ [] ∷ [] }
+    {
+        KnownIn {
+            numbers: Numbers::new(alloc, Owned::new(alloc, max_sets)),
+            meets: HashMap::with_hasher(alloc, NumberHasher::new(HashKeys::KNOWN)),
+        }
+    }
+}
+
+impl<S: Store> KnownIn<S> {
     /// How many sets have a number: the numbers are those below.
     pub fn count(&self) -> u32
         ensures count { result ≡ length self.now }
@@ -83,8 +103,10 @@ impl<'t> Known<'t> {
     }
 
     /// The number of a set, which is the next one if it had none. Refused (`TableFull`) if it had none, and either this owner
-    /// has numbered all the sets that the table takes or the table is full of others.
-    pub fn number_of<R: Wait>(&mut self, rt: &R, set: &Lockset) -> Result<u32, NoRoom>
+    /// has numbered all the sets that it may or the table is full of others.
+    pub fn number_of<R>(&mut self, rt: &R, set: &Lockset) -> Result<u32, NoRoom>
+    where
+        S: Grow<R>,
         ensures ok { OnOk result (self.new ≡ with_set self.old set.now) }
         ensures number { IfOk result (λ n. n < length self.new) }
         ensures names { IfOk result (λ n. set_at self.new n ≡ set.now) }
@@ -102,7 +124,9 @@ impl<'t> Known<'t> {
     }
 
     /// The number of the locks that two sets have in common, which is the next one if they had none. Refused as `number_of` is.
-    pub fn intersect<R: Wait>(&mut self, rt: &R, first: u32, second: u32) -> Result<u32, NoRoom>
+    pub fn intersect<R>(&mut self, rt: &R, first: u32, second: u32) -> Result<u32, NoRoom>
+    where
+        S: Grow<R>,
         requires first { first < length self.old }
         requires second { second < length self.old }
         ensures ok { OnOk result (self.new ≡ with_set self.old (meet (set_at self.old first) (set_at self.old second))) }
@@ -138,8 +162,8 @@ impl<'t> Known<'t> {
 }
 
 // The number of what the sets of a pair have in common, found anew. It is remembered unless as many as may be are.
-fn number_anew<R: Wait>(
-    numbers: &mut Numbers<'_>,
+fn number_anew<R, S: Grow<R>>(
+    numbers: &mut Numbers<S>,
     meets: &mut HashMap<Pair, u32, NumberHasher>,
     rt: &R,
     pair: Pair,

@@ -21,12 +21,14 @@
 #![tactic(auto)]
 
 pub use book::{Book, Sets};
-pub use known::Known;
+pub use known::{Known, KnownIn, OwnKnown};
 pub use set_ref::SetRef;
+pub use store::{Grow, Owned, Shared, Store};
 pub use table::LocksetTable;
 
 mod book;
 mod known;
 mod numbers;
 mod set_ref;
+mod store;
 mod table;

@@ -1,48 +1,43 @@
-//! Numbers for the sets of a table, as one owner gives them.
-ghost use Rattle.std.specs.Prelude.{◌≡◌, ◌≢◌, ◌+◌, ◌<◌, ◌≤◌, [], ◌∷◌, ◌++◌, length, IsTrue, IsFalse, IsOk, IfOk, IfSome, OnOk, OnErr, IsErrOf, Contains};
+//! Numbers for the sets of a store, as its owner gives them.
+ghost use Rattle.std.specs.Prelude.{◌≡◌, ◌+◌, ◌<◌, ◌≤◌, [], ◌∷◌, ◌++◌, length, IsTrue, IsFalse, IsOk, IfOk, IfSome, OnOk, OnErr, IsErrOf, Contains};
 ghost use Rattle.er_event.specs.Lockset.{meet};
-ghost use Rattle.er_table.specs.Numbers.{numbered, IsNumbered};
+ghost use Rattle.er_table.specs.Numbers.{IsNumbered};
 ghost use Rattle.er_table.specs.Sets.{set_at, AreDistinct, most_sets};
 
-use crate::LocksetTable;
+use crate::{Grow, Store};
 use er_event::{Lockset, NoRoom};
-use er_keys::NumberHasher;
-use indexmap::IndexSet;
-use std::alloc::{AllocError, Global};
+use std::alloc::Global;
 use std::marker::Model;
-use std::sync::Wait;
 
-/// One owner's numbers for the sets of a table. Contracts see the sets, by number.
+/// One owner's numbers for the sets of its store. Contracts see the sets, by number.
 #[derive(Drop)]
-pub(crate) struct Numbers<'t> {
-    table: &'t LocksetTable,
+pub(crate) struct Numbers<S: Store> {
     empty: Lockset,
-    others: IndexSet<&'t Lockset, NumberHasher>,
-    limit: u32,
+    others: S,
 }
 
-impl<'t> Model for Numbers<'t> {
+impl<S: Store> Model for Numbers<S> {
     ghost use Rattle.std.specs.Prelude.{◌≡◌, List, ℕ, []};
     ghost use Rattle.er_table.specs.Numbers.{numbered, AreNumbers};
 
     ghost Value = { List (List ℕ) };
 
-    ghost view = { λ n. numbered n.others.keys };
+    ghost view = { λ n. numbered (S.kept n.others) };
 
-    ghost invariant = { λ n. (n.empty ≡ []) × AreNumbers n.limit (numbered n.others.keys) × (n.limit ≡ n.table.now.limit) };
+    ghost invariant = { λ n. (n.empty ≡ []) × AreNumbers (S.limit n.others) (numbered (S.kept n.others)) };
 }
 
-impl<'t> Numbers<'t> {
+impl<S: Store> Numbers<S> {
     /// The empty set alone has a number yet.
-    pub(crate) fn new(alloc: Global, table: &'t LocksetTable) -> Result<Numbers<'t>, AllocError>
-        ensures { IfOk result (λ numbers. numbers ≡ [] ∷ []) }
+    pub(crate) fn new(alloc: Global, others: S) -> Numbers<S>
+        requires none { S.kept others ≡ [] }
+        requires few { S.limit others ≤ most_sets }
+        ensures { result ≡ [] ∷ [] }
     {
-        Ok(Numbers {
-            table,
+        Numbers {
             empty: Lockset::new(alloc),
-            others: IndexSet::with_capacity_and_hasher(alloc, 1, NumberHasher::new(table.keys()))?,
-            limit: table.max_sets(),
-        })
+            others,
+        }
     }
 
     pub(crate) fn count(&self) -> u32
@@ -64,7 +59,7 @@ impl<'t> Numbers<'t> {
         if number == 0 {
             &self.empty
         } else {
-            self.others.as_slice()[number as usize - 1]
+            self.others.get(number as usize - 1)
         }
     }
 
@@ -88,7 +83,9 @@ impl<'t> Numbers<'t> {
     }
 
     /// The number of a set, which is the next one if it had none.
-    pub(crate) fn number_of<R: Wait>(&mut self, rt: &R, set: &Lockset) -> Result<u32, NoRoom>
+    pub(crate) fn number_of<R>(&mut self, rt: &R, set: &Lockset) -> Result<u32, NoRoom>
+    where
+        S: Grow<R>,
         ensures numbered { IsNumbered self.old set.now result self.new }
         ensures found { Contains self.old set.now → IsOk result }
     {
@@ -96,19 +93,21 @@ impl<'t> Numbers<'t> {
         if set.is_empty() {
             return Ok(0);
         }
-        match others.get_index_of(&set) {
-            Some(index) => Ok(index as u32 + 1),
+        match others.place_of(set) {
+            Some(place) => Ok(place as u32 + 1),
             None => self.add(rt, set),
         }
     }
 
     /// The number of the locks that two sets have in common.
-    pub(crate) fn number_of_meet<R: Wait>(
+    pub(crate) fn number_of_meet<R>(
         &mut self,
         rt: &R,
         first: u32,
         second: u32,
     ) -> Result<u32, NoRoom>
+    where
+        S: Grow<R>,
         requires first { first < length self.old }
         requires second { second < length self.old }
         ensures { IsNumbered self.old (meet (set_at self.old first) (set_at self.old second)) result self.new }
@@ -119,17 +118,22 @@ impl<'t> Numbers<'t> {
         self.number_of(rt, &meet)
     }
 
-    fn add<R: Wait>(&mut self, rt: &R, set: &Lockset) -> Result<u32, NoRoom>
+    fn add<R>(&mut self, rt: &R, set: &Lockset) -> Result<u32, NoRoom>
+    where
+        S: Grow<R>,
         requires { ¬ Contains self.old set.now }
         ensures ok { OnOk result (self.new ≡ self.old ++ set.now ∷ []) }
         ensures number { IfOk result (λ n. n ≡ length self.old) }
         ensures err { OnErr result (self.new ≡ self.old) }
         ensures refusals { ¬ IsErrOf result NoRoom.JournalFull }
     {
-        if self.has_all(self.limit) {
+        if self.has_all(self.others.max_sets()) {
             return Err(NoRoom::TableFull);
         }
-        append(&mut self.others, self.table, rt, set)
+        let others = &mut self.others;
+        let number = others.len() as u32 + 1;
+        others.push(rt, set)?;
+        Ok(number)
     }
 
     // Whether it has numbered so many sets, beside the empty one.
@@ -139,31 +143,4 @@ impl<'t> Numbers<'t> {
     {
         self.others.len() >= max_sets as usize
     }
-}
-
-// Gives a set that has no number the next one.
-#[inline]
-fn append<'t, R: Wait>(
-    others: &mut IndexSet<&'t Lockset, NumberHasher>,
-    table: &'t LocksetTable,
-    rt: &R,
-    set: &Lockset,
-) -> Result<u32, NoRoom>
-    requires new { ¬ Contains (numbered others.old.keys) set.now }
-    requires few { length others.old.keys < most_sets }
-    ensures ok { OnOk result (numbered others.new.keys ≡ numbered others.old.keys ++ set.now ∷ []) }
-    ensures number { IfOk result (λ n. n ≡ length (numbered others.old.keys)) }
-    ensures err { OnErr result (numbered others.new.keys ≡ numbered others.old.keys) }
-    ensures refusals { ¬ IsErrOf result NoRoom.JournalFull }
-{
-    let Ok(()) = others.reserve(1) else {
-        return Err(NoRoom::OutOfMemory);
-    };
-    let set_ref = match table.intern(rt, set) {
-        Ok(set_ref) => set_ref,
-        Err(refused) => return Err(refused),
-    };
-    let number = others.len() as u32 + 1;
-    others.insert(table.get(&set_ref)).unwrap();
-    Ok(number)
 }

@@ -8,19 +8,20 @@ use Rattle.er_table.proofs.numbers.Numbers.number_of.Goals as goal
 pub add-requires : goal.add-requires
 add-requires g c =
     let some : c.args.set.now ≢ [] = λ none. true≢false (sym (c.is_empty.ensures.1 none) ∙ c.if-is_empty.false) in
-    absent_from_others c.args.set c.self.inside.others.keys c.args.self.now c.self.view_is some (sym c.in-None.ensures.found)
+    absent_from_others (g.S.Store.kept c.self.inside.others) c.args.self.now c.self.view_is c.args.set.now some c.in-None.ensures.none
 
 pub returns-in-Some-clause-numbered : goal.returns-in-Some-clause-numbered
 returns-in-Some-clause-numbered g c =
     let some : c.args.set.now ≢ [] = λ none. true≢false (sym (c.is_empty.ensures.1 none) ∙ c.if-is_empty.false) in
-    let there = present_from_others c.args.set c.self.inside.others.keys c.args.self.now c.self.view_is some (sym c.in-Some.ensures.found) in
-    IsNumbered-as _ _ _ there (within-found c.args.set c.self.inside.others.keys c.args.self.now c.self.view_is c.in-Some.index (sym c.in-Some.ensures.index)) (set_at-found c.args.set c.self.inside.others.keys c.args.self.now c.self.view_is c.in-Some.index (sym c.in-Some.ensures.index))
+    let kept = g.S.Store.kept c.self.inside.others in
+    let there = present_from_others kept c.args.self.now c.self.view_is c.in-Some.place c.args.set.now c.in-Some.ensures.within c.in-Some.ensures.found in
+    IsNumbered-as _ _ _ there (within-found kept c.args.self.now c.self.view_is c.in-Some.place c.in-Some.ensures.within) (set_at-found kept c.args.self.now c.self.view_is c.in-Some.place c.args.set.now c.in-Some.ensures.found)
     (λ none. absurd (some none)) (λ zero. absurd (omega (arith, zero)))
 
 pub returns-in-None-clause-numbered : goal.returns-in-None-clause-numbered
 returns-in-None-clause-numbered g c =
     let some : c.args.set.now ≢ [] = λ none. true≢false (sym (c.is_empty.ensures.1 none) ∙ c.if-is_empty.false) in
-    let absent = absent_from_others c.args.set c.self.inside.others.keys c.args.self.now c.self.view_is some (sym c.in-None.ensures.found) in
+    let absent = absent_from_others (g.S.Store.kept c.self.inside.others) c.args.self.now c.self.view_is c.args.set.now some c.in-None.ensures.none in
     let first : 0 < length c.args.self.now = omega (arith, ap length c.self.view_is) in
     let added = c.add.ensures in
     record {
@@ -39,4 +40,4 @@ returns-in-None-clause-numbered g c =
 pub returns-in-None-clause-found : goal.returns-in-None-clause-found
 returns-in-None-clause-found g c = λ there.
     let some : c.args.set.now ≢ [] = λ none. true≢false (sym (c.is_empty.ensures.1 none) ∙ c.if-is_empty.false) in
-    absurd (absent_from_others c.args.set c.self.inside.others.keys c.args.self.now c.self.view_is some (sym c.in-None.ensures.found) there)
+    absurd (absent_from_others (g.S.Store.kept c.self.inside.others) c.args.self.now c.self.view_is c.args.set.now some c.in-None.ensures.none there)

@@ -4,7 +4,7 @@ use Rattle.er_event.specs.declared.refusals.NoRoom.TheVariants.{TableFull}
 use Rattle.er_table.specs.Sets.{set_at, with_set}
 use Rattle.er_table.proofs.SetsLemmas.{with_set-present}
 use Rattle.er_table.proofs.KnownLemmas.{Contains-meet}
-use Rattle.er_table.proofs.known.Known.intersect.Goals as goal
+use Rattle.er_table.proofs.known.KnownIn.intersect.Goals as goal
 
 pub returns-in-Some-clause-ok : goal.returns-in-Some-clause-ok
 returns-in-Some-clause-ok g c = sym (with_set-present _ _ (Contains-meet _ _ _ c.in-Some.ensures))
