@@ -1,11 +1,12 @@
 //! Every word's state.
-ghost use Rattle.std.specs.Prelude.{◌≡◌, ◌<◌, ◌%◌, ℕ, nat_eq, slice_get, Some, None, IsTrue, IsOk, IsSome, IfOk, IfSome, IfNone, false, OnOk, OnErr, IsErrOf};
+ghost use Rattle.std.specs.Prelude.{◌≡◌, ◌<◌, ◌≤◌, ◌%◌, ℕ, nat_eq, slice_get, Some, None, IsTrue, IsOk, IsSome, IfOk, IfSome, IfNone, false, OnOk, OnErr, IsErrOf};
 ghost use Rattle.indexmap.specs.IndexMap.{keys, index_map_len, IsUnique};
 ghost use Rattle.er_event.specs.declared.steps.WordState.TheVariants.{Virgin, Exclusive};
 ghost use Rattle.er_journal.specs.Journals.{stamped};
 ghost use Rattle.er_model.specs.Table.{advanced, moved, reports};
 ghost use Rattle.er_model.specs.Words.{Counted, Reused};
 ghost use Rattle.er_shadow.specs.Replies.{reply_if};
+ghost use Rattle.er_table.specs.Sets.{most_sets};
 
 use crate::Hints;
 use crate::page::{Page, WORDS};
@@ -14,11 +15,10 @@ use er_event::{Event, Kind, Lockset, NoRoom, PageRange, Reply, Step, ThreadId, W
 use er_journal::Stamp;
 use er_keys::{HashKeys, NumberHasher, index_of};
 use er_owner::Shadow;
-use er_table::{Known, LocksetTable};
+use er_table::{Grow, Known, KnownIn, LocksetTable, OwnKnown, Owned, Shared, Store};
 use indexmap::IndexMap;
 use std::alloc::{AllocError, Global};
 use std::marker::Model;
-use std::sync::Wait;
 
 /// What a counted access did.
 #[derive(Clone, Copy)]
@@ -31,11 +31,11 @@ pub struct Noted {
 
 /// The state of every word, by pages of 1,024 words that are made at their first access. Contracts see the `states` of its words.
 #[derive(Drop)]
-pub struct ShadowMap<'t> {
+pub struct Words<S: Store> {
     pages: IndexMap<u64, Page, NumberHasher>,
     // Where the page of a number stands.
     places: Hints,
-    known: Known<'t>,
+    known: KnownIn<S>,
     // The number of what a thread's accesses of a kind are covered by.
     covers: Hints,
     // What `look_ahead` has read. Nobody asks for it.
@@ -43,7 +43,13 @@ pub struct ShadowMap<'t> {
     alloc: Global,
 }
 
-impl<'t> Model for ShadowMap<'t> {
+/// The words of an owner that shares its sets of locks by a table, which may make it wait.
+pub type ShadowMap<'t> = Words<Shared<'t>>;
+
+/// The words of an owner that has its sets of locks for itself, and waits for nobody.
+pub type OwnWords = Words<Owned>;
+
+impl<S: Store> Model for Words<S> {
     ghost use Rattle.er_shadow.specs.Shadows.{Shadows, AreNumbered};
 
     ghost Value = { Shadows };
@@ -53,9 +59,8 @@ impl<'t> Model for ShadowMap<'t> {
     ghost invariant = { λ m. AreNumbered (record { pages = m.pages.entries; sets = m.known }) };
 }
 
-impl<'t> ShadowMap<'t> {
-    ghost use Rattle.er_owner.specs.Numbering.{IsNumbered};
-    ghost use Rattle.er_shadow.specs.Shadows.{numbered_state, states, needs_set};
+impl<'t> Words<Shared<'t>> {
+    ghost use Rattle.er_shadow.specs.Shadows.{states};
 
     /// How many words `look_ahead` reads at most.
     pub const AHEAD: usize = 16;
@@ -76,11 +81,34 @@ impl<'t> ShadowMap<'t> {
     ) -> Result<ShadowMap<'t>, AllocError>
         ensures { IfOk result (λ map. (w : ℕ) → states map w ≡ Virgin) }
     {
+        let known = Known::new(alloc, table)?;
+        Words::over(alloc, known, keys)
+    }
+}
+
+impl Words<Owned> {
+    ghost use Rattle.er_shadow.specs.Shadows.{states};
+
+    /// A map whose words are all virgin. It takes `max_sets` sets of locks. Whoever chooses the pages or the sets can make it slow.
+    pub fn new(alloc: Global, max_sets: u32) -> Result<OwnWords, AllocError>
+        requires few { max_sets ≤ most_sets }
+        ensures { IfOk result (λ map. (w : ℕ) → states map w ≡ Virgin) }
+    {
+        Words::over(alloc, OwnKnown::new(alloc, max_sets), HashKeys::KNOWN)
+    }
+}
+
+impl<S: Store> Words<S> {
+    ghost use Rattle.er_owner.specs.Numbering.{IsNumbered};
+    ghost use Rattle.er_shadow.specs.Shadows.{numbered_state, states, needs_set};
+
+    fn over(alloc: Global, known: KnownIn<S>, keys: HashKeys) -> Result<Words<S>, AllocError>
+        ensures { IfOk result (λ map. (w : ℕ) → states map w ≡ Virgin) }
+    {
         let places = Hints::new(alloc)?;
         let covers = Hints::new(alloc)?;
-        let known = Known::new(alloc, table)?;
         let pages = IndexMap::with_hasher(alloc, NumberHasher::new(keys));
-        Ok(ShadowMap {
+        Ok(Words {
             pages,
             places,
             known,
@@ -93,7 +121,7 @@ impl<'t> ShadowMap<'t> {
     /// One counted access of a word, with the locks that cover it: those that the thread holds in any mode for a read, and those
     /// that it holds in write mode for a write. If it needs a set, the thread's locks go into the table first, and then what they have in common
     /// with the candidates.
-    pub fn access_noting<R: Wait>(
+    pub fn access_noting<R>(
         &mut self,
         rt: &R,
         thread: ThreadId,
@@ -101,12 +129,14 @@ impl<'t> ShadowMap<'t> {
         kind: Kind,
         locks: &Lockset,
     ) -> Result<Noted, NoRoom>
+    where
+        S: Grow<R>,
         ensures ok { OnOk result ((w : ℕ) → states self.new w ≡ moved (states self.old w) w (Counted thread kind word locks.now)) }
         ensures reply { IfOk result (λ noted. noted.is_race ≡ reports (states self.old word) (advanced (states self.old word) thread kind locks.now)) }
         ensures unchanged { IfOk result (λ noted. noted.has_changed ≡ false → (w : ℕ) → states self.new w ≡ states self.old w) }
         ensures err { OnErr result ((w : ℕ) → states self.new w ≡ states self.old w) }
 
-        // The table isn't asked for a set while one thread alone has accessed the word, and that thread's accesses ask for nothing.
+        // No set is asked for while one thread alone has accessed the word, and that thread's accesses ask for nothing.
         ensures full { IsErrOf result NoRoom.TableFull → IsTrue (needs_set (states self.old word) thread) }
         ensures own { states self.old word ≡ Exclusive thread → IsOk result }
         ensures refusals { ¬ IsErrOf result NoRoom.JournalFull }
@@ -175,7 +205,9 @@ impl<'t> ShadowMap<'t> {
     }
 
     /// The access of a stamp, as `access_noting` takes it. Returns whether it is reported as a race.
-    pub fn apply<R: Wait>(&mut self, rt: &R, stamp: &Stamp) -> Result<Reply, NoRoom>
+    pub fn apply<R>(&mut self, rt: &R, stamp: &Stamp) -> Result<Reply, NoRoom>
+    where
+        S: Grow<R>,
         ensures ok { OnOk result ((w : ℕ) → states self.new w ≡ moved (states self.old w) w (Counted stamp.now.thread stamp.now.kind stamp.now.word (stamped stamp.now stamp.now.kind))) }
         ensures reply { IfOk result (λ reply. reply ≡ reply_if (reports (states self.old stamp.now.word) (advanced (states self.old stamp.now.word) stamp.now.thread stamp.now.kind (stamped stamp.now stamp.now.kind)))) }
         ensures err { OnErr result ((w : ℕ) → states self.new w ≡ states self.old w) }

@@ -9,14 +9,13 @@ ghost use Rattle.er_table.specs.Sets.{KeepsNumbers, set_at};
 use crate::Hints;
 use er_event::{Kind, LockId, Lockset, NoRoom, ThreadId, WordState};
 use er_owner::{Need, NumberedState, Shadow, advance, need};
-use er_table::Known;
+use er_table::{Grow, KnownIn, Store};
 use std::alloc::AllocError;
-use std::sync::Wait;
 
 /// The word after an access, and whether the access is reported as a race.
-pub(crate) fn step<R: Wait>(
+pub(crate) fn step<R, S: Grow<R>>(
     rt: &R,
-    known: &mut Known,
+    known: &mut KnownIn<S>,
     covers: &mut Hints,
     shadow: Shadow,
     thread: ThreadId,
@@ -37,8 +36,8 @@ pub(crate) fn step<R: Wait>(
 
 /// Whether an access leaves the word as it is. Then it is no race that is to be reported.
 #[inline(always)]
-pub(crate) fn is_settled(
-    known: &Known,
+pub(crate) fn is_settled<S: Store>(
+    known: &KnownIn<S>,
     shadow: Shadow,
     thread: ThreadId,
     kind: Kind,
@@ -57,7 +56,7 @@ pub(crate) fn is_settled(
 
 // Whether all candidates are among these locks.
 #[inline(always)]
-fn covers_all(known: &Known, candidates: u32, locks: &Lockset) -> bool
+fn covers_all<S: Store>(known: &KnownIn<S>, candidates: u32, locks: &Lockset) -> bool
     requires { candidates < length known.now }
     ensures { IsTrue result → meet (set_at known.now candidates) locks.now ≡ set_at known.now candidates }
 {
@@ -80,9 +79,9 @@ fn are_among(some: &[LockId], all: &[LockId]) -> bool
 }
 
 // The number of the set that is needed. The thread's locks go into the table before what they have in common with the candidates.
-fn refined<R: Wait>(
+fn refined<R, S: Grow<R>>(
     rt: &R,
-    known: &mut Known,
+    known: &mut KnownIn<S>,
     covers: &mut Hints,
     need: Need,
     locks: &Lockset,
@@ -108,9 +107,9 @@ fn refined<R: Wait>(
 
 // The number of a thread's locks. The number that was found last for them, or for others with the same key, is tried first: two short lists
 // are compared sooner than one is found by its hash.
-fn number_near<R: Wait>(
+fn number_near<R, S: Grow<R>>(
     rt: &R,
-    known: &mut Known,
+    known: &mut KnownIn<S>,
     covers: &mut Hints,
     locks: &Lockset,
 ) -> Result<u32, NoRoom>
@@ -141,7 +140,10 @@ fn key_of(locks: &[LockId]) -> u64 {
 }
 
 /// The state, with the set for its number.
-pub(crate) fn named(known: &Known, state: NumberedState) -> Result<WordState, AllocError>
+pub(crate) fn named<S: Store>(
+    known: &KnownIn<S>,
+    state: NumberedState,
+) -> Result<WordState, AllocError>
     requires { IsNumbered known.now state }
     ensures { IfOk result (λ named. named ≡ state_in known.now state) }
 {

@@ -1,5 +1,5 @@
 -- All were found, so none is left out of what both lists have.
-use Rattle.std.proofs.Common.{◌≡◌, ◌<◌, length, subst, sym}
+use Rattle.std.proofs.Common.{◌<◌, length, subst, sym}
 use Rattle.std.proofs.lemmas.Bool.{eqb-true}
 use Rattle.er_event.specs.Lockset.{has, meet}
 use Rattle.er_event.proofs.Lists.{filter_all}

@@ -1,21 +1,20 @@
 -- The word's page was found, or made for it: in each case one word of one page is written, or none.
-use Rattle.std.proofs.Common.{◌≡◌, ◌∙◌, ℕ, Bool, true, false, not, true≢false, IsTrue, List, sym, subst, refl, ap, arith}
+use Rattle.std.proofs.Common.{◌≡◌, ◌∙◌, ℕ, Bool, true, false, not, true≢false, IsTrue, sym, subst, refl, ap}
 use Rattle.er_model.specs.Words.{Counted}
 use Rattle.er_model.specs.Table.{advanced, moved, reports}
 use Rattle.er_event.specs.declared.steps.WordState.{WordState}
 use Rattle.er_event.specs.declared.steps.WordState.TheVariants as known
 use Rattle.er_owner.specs.Numbering.{IsNumbered, state_in}
-use Rattle.er_table.specs.Sets.{KeepsNumbers}
 use Rattle.er_shadow.specs.Shadows.{Shadows, states, needs_set}
-use Rattle.er_shadow.specs.declared.map.ShadowMap.TheInside.{Inside}
+use Rattle.er_shadow.specs.declared.map.Words.TheInside.{Inside}
 use Rattle.er_shadow.proofs.Moves.{found_word, state_found, state_absent, unwritten_page, written_page, made_page, all_numbered, all_kept, states_kept, states_put, needs_from_need, own_needs_nothing, put_same, keeps_all}
 use Rattle.er_event.proofs.Results.{on_err_of}
 use Rattle.er_keys.proofs.MapLemmas.{entry_found, entry_put}
 use Rattle.indexmap.specs.IndexMap.{with_value_at}
-use Rattle.er_shadow.proofs.map.ShadowMap.access_noting.Goals as goal
+use Rattle.er_shadow.proofs.map.Words.access_noting.Goals as goal
 
 -- what contracts see of the fields
-abbrev seen : Inside → Shadows
+abbrev seen : {S : Type 0} → Inside S → Shadows
 seen inside = record { pages = inside.pages.entries; sets = inside.known }
 
 pub step-requires : goal.step-requires
