@@ -1,5 +1,5 @@
 //! Every word's state.
-ghost use Rattle.std.specs.Prelude.{◌≡◌, ◌<◌, ◌≤◌, ◌%◌, ℕ, nat_eq, slice_get, Some, None, IsTrue, IsOk, IsSome, IfOk, IfSome, IfNone, false, OnOk, OnErr, IsErrOf};
+ghost use Rattle.std.specs.Prelude.{◌≡◌, ◌<◌, ◌≤◌, ◌%◌, ℕ, nat_eq, slice_get, Some, None, IsTrue, IsOk, IsSome, IfOk, IfSome, IfNone, false, true, OnOk, OnErr, IsErrOf};
 ghost use Rattle.indexmap.specs.IndexMap.{keys, index_map_len, IsUnique};
 ghost use Rattle.er_event.specs.declared.steps.WordState.TheVariants.{Virgin, Exclusive};
 ghost use Rattle.er_journal.specs.Journals.{stamped};
@@ -191,6 +191,7 @@ impl<S: Store> Words<S> {
         ensures taken { IsSome result → (w : ℕ) → states self.new w ≡ moved (states self.old w) w (Counted thread kind word locks.now) }
         ensures quiet { IsSome result → reports (states self.old word) (advanced (states self.old word) thread kind locks.now) ≡ false }
         ensures unchanged { IfSome result (λ changed. changed ≡ false → (w : ℕ) → states self.new w ≡ states self.old w) }
+        ensures first { IfSome result (λ changed. changed ≡ true → states self.old word ≡ Virgin) }
         ensures none { IfNone result (self.new ≡ self.old) }
     {
         let number = word.page();

@@ -61,6 +61,11 @@ returns-then-eq-clause-quiet g c = λ yes.
     subst (λ (v : Shadows). reports (states v c.args.word) (advanced (states v c.args.word) c.args.thread c.args.kind c.args.locks.now) ≡ false) c.self.view_is
     (ap (λ s. reports s (advanced s c.args.thread c.args.kind c.args.locks.now)) (virgin g at))
 
+pub returns-then-eq-clause-first : goal.returns-then-eq-clause-first
+returns-then-eq-clause-first g c = λ yes.
+    let at = (goal.at.returns-then-eq-clause-first g c).After-set in
+    subst (λ (v : Shadows). states v c.args.word ≡ known.Virgin) c.self.view_is (virgin g at)
+
 pub returns-clause-taken : goal.returns-clause-taken
 returns-clause-taken g c = λ yes.
     let settled : IsTrue c.is_settled.result = search rules in
