@@ -33,18 +33,6 @@ impl<'a> Model for PlacedEntry<'a> {
     ghost view = { λ d. entry_at d.place d.entry.now };
 }
 
-impl<'a> PlacedEntry<'a> {
-    /// The same entry again.
-    pub(crate) fn copy(&self) -> PlacedEntry<'a>
-        ensures { result ≡ self.now }
-    {
-        PlacedEntry {
-            place: self.place,
-            entry: self.entry,
-        }
-    }
-}
-
 /// The entries of all journals, by rising ticket, taken by least next ticket.
 pub(crate) fn merge_journals<'a>(
     alloc: Global,

@@ -47,12 +47,13 @@ pub(crate) fn group_by_thread<'a>(
 {
     let mut groups = empty_groups(alloc, seats)?;
     for placed in order {
-        let thread = placed.entry.thread.number();
+        let (place, entry) = (placed.place, placed.entry);
+        let thread = entry.thread.number();
         let Some(at) = index.get(&thread).copied() else {
             return Err(Unsettled::Entries);
         };
         let group = &mut groups[at];
-        let Ok(()) = group.entries.push(placed.copy()) else {
+        let Ok(()) = group.entries.push(PlacedEntry { place, entry }) else {
             return Err(Unsettled::Memory);
         };
     }
@@ -82,19 +83,14 @@ fn is_matched<'a>(calls: &[Call], group: &[PlacedEntry<'a>]) -> bool
         if at >= group.len() {
             return false;
         }
-        if !is_asked(ticket, call.event(), &group[at]) {
+        let placed = &group[at];
+        let entry = placed.entry;
+        if ticket != entry.ticket || !is_event_of(call.event(), &entry.what) {
             return false;
         }
         at += 1;
     }
     at == group.len()
-}
-
-fn is_asked(ticket: u64, event: Event, placed: &PlacedEntry) -> bool
-    ensures { IsTrue result ↔ ((ticket ≡ placed.now.entry.ticket) × (event ≡ event_of placed.now.entry.what)) }
-{
-    let entry = placed.entry;
-    ticket == entry.ticket && is_event_of(event, &entry.what)
 }
 
 fn is_event_of(event: Event, what: &What) -> bool

@@ -31,5 +31,5 @@ loop-placed-preserved c =
     let had = slice_get_read c.loop-placed.groups.items _ _ c.index_mut-group.result.now refl inside c.index_mut-group.ensures.value in
     let thread = seat.2 ∙ (c.number-thread.ensures.value ∙ ap (λ (e : Entry). e.thread) (ap (λ (d : EntryAt). d.entry) c.placed.view_is)) in
     let r = deal-more c.args.seats.now c.args.order.now c.loop-placed.placed-index c.in-Some.at c.placed-item.result c.loop-placed.groups.items _ c.index_mut-group.result.now c.push.new.self.items seat.0
-    c.requires.once c.loop-placed.invariant.dealt c.loop-placed.invariant.given here seat.1 thread had (rw (c.copy.ensures, c.group.view_is) at c.in-Ok.ensures.items) refl in
+    c.requires.once c.loop-placed.invariant.dealt c.loop-placed.invariant.given here seat.1 thread had (rw (c.placed.view_is, c.group.view_is) at c.in-Ok.ensures.items) refl in
     record { dealt = r.0; given = r.1 }
