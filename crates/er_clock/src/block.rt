@@ -110,7 +110,6 @@ impl Block {
         (low, high)
     }
 
-    /// The same block again.
     pub(crate) fn copy(&self) -> Result<Block, AllocError>
         ensures { IfOk result (λ copied. copied ≡ self.now) }
     {
@@ -180,10 +179,8 @@ impl Shared {
         ensures { IfOk result (λ shared. shared ≡ block) }
     {
         let (low, high) = block.bounds();
-        match Rc::new(room.alloc, (block, low, high, room.block()?)) {
-            Ok(block) => Ok(Shared { block }),
-            Err(_) => Err(AllocError),
-        }
+        let block = Rc::new(room.alloc, (block, low, high, room.block()?))?;
+        Ok(Shared { block })
     }
 
     // The block, to look at.
@@ -191,11 +188,6 @@ impl Shared {
         ensures { result.now ≡ self.now }
     {
         &self.block.as_ref().0
-    }
-
-    // The greatest of its counts.
-    fn greatest(&self) -> u32 {
-        self.block.as_ref().2
     }
 
     // Whether the least count is as great as the other's greatest. So blocks whose counts are all the same are compared at once.
@@ -230,7 +222,8 @@ impl Part for Shared {
         if self.exceeds(other) {
             return true;
         }
-        if other.greatest() > self.greatest() {
+        // The greatest counts.
+        if other.block.as_ref().2 > self.block.as_ref().2 {
             return false;
         }
         room.count_work();
@@ -250,9 +243,8 @@ impl Part for Shared {
         if self.covers(other, room) {
             return self.again();
         }
-        let (one, two) = (self.block(), other.block());
-        let mut block = one.copy()?;
-        block.join(two)?;
+        let mut block = self.block().copy()?;
+        block.join(other.block())?;
         Shared::new(room, block)
     }
 

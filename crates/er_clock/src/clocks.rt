@@ -141,7 +141,11 @@ impl Clocks {
                 self.threads
                     .give(thread, &mut self.objects, object.number(), false)
             }
-            Sync::Await(object) => Ok(self.await_signals(thread, object)?),
+            // The signals before happen before what comes now.
+            Sync::Await(object) => {
+                let signals = self.objects.get(object.number());
+                Ok(self.threads.take(thread, signals)?)
+            }
         }
     }
 
@@ -180,14 +184,6 @@ impl Clocks {
                     .give(thread, &mut self.written, lock.number(), is_covered)
             }
         }
-    }
-
-    // The signals before happen before what comes now.
-    fn await_signals(&mut self, thread: ThreadId, object: LockId) -> Result<(), AllocError>
-        ensures ok { OnOk result (Moves self.old (Some (record { thread = thread; sync = Effect.Awaited object })) self.new) }
-        ensures err { OnErr result (SameCounts self.old self.new) }
-    {
-        self.threads.take(thread, self.objects.get(object.number()))
     }
 }
 

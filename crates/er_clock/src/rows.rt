@@ -79,10 +79,8 @@ impl<P: Part> Row<P> {
     fn of(room: &Room, parts: Vec<P>) -> Result<Self, AllocError>
         ensures { IfOk result (λ row. row ≡ parts.items) }
     {
-        match Rc::new(room.alloc, (parts, room.row()?)) {
-            Ok(parts) => Ok(Row { parts: Some(parts) }),
-            Err(_) => Err(AllocError),
-        }
+        let parts = Rc::new(room.alloc, (parts, room.row()?))?;
+        Ok(Row { parts: Some(parts) })
     }
 
     // The parts, to look at.

@@ -11,9 +11,7 @@ const SLOTS: usize = 512;
 /// A lock, and the thread that took its clock.
 #[derive(Clone, Copy)]
 pub(crate) struct Taken {
-    /// The lock.
     pub(crate) lock: u32,
-    /// The thread.
     pub(crate) thread: u32,
 }
 
