@@ -67,8 +67,21 @@ def total(trace, word):
 
 # ---- The same replay
 
+def watched(record, name, data, path):
+    """Replays of a trace with --progress beside those without it: the title and the options of each, its words, its lines and all its errors."""
+    path.write_bytes(data)
+    for options in OPTIONS:
+        for words, given in ((["-"], data), ([str(path)], b"")):
+            plain = run(["replay", *options, *words], given)
+            output, errors, status = run(["replay", *options, "--progress", *words], given)
+            lines, rest = parted(errors)
+            title = f"progress: {name} {' '.join(options)} {words[0] == '-'}"
+            record(title, (output, rest, status) == plain, f"{(output, errors, status)}, {plain}"[:1000])
+            record(f"{title}: its lines come first", errors == errors[:len(errors) - len(rest)] + rest, f"{errors}")
+            yield title, options, words, lines, errors, status
+
+
 def same_replays(record, folder):
-    path = folder / "p.trace"
     traces = {
         "two races": HEAD + RACE + MORE, "no race": HEAD + b"t1 write 0\n", "no step": HEAD, "a refused step": HEAD + b"t1 unlock m\n" + RACE,
         "a text 3 with its end": THIRD + b"t1 start t2\n" + RACE + b"end\n", "no line feed": (HEAD + RACE)[:-1], "several batches": HEAD + BATCH * 3 + RACE,
@@ -76,21 +89,13 @@ def same_replays(record, folder):
         "no header": RACE, "a text that is too long": HEAD + RACE + b"t1 write 0x5000 " + b"s" * 1100 + b"\n",
     }
     for name, text in traces.items():
-        path.write_bytes(text)
-        for options in OPTIONS:
-            for words, given in ((["-"], text), ([str(path)], b"")):
-                plain = run(["replay", *options, *words], given)
-                output, errors, status = run(["replay", *options, "--progress", *words], given)
-                lines, rest = parted(errors)
-                title = f"progress: {name} {' '.join(options)} {words[0] == '-'}"
-                record(title, (output, rest, status) == plain, f"{(output, errors, status)}, {plain}"[:1000])
-                record(f"{title}: its lines come first", errors == errors[:len(errors) - len(rest)] + rest, f"{errors}")
-                shares = [None if words == ["-"] else 100 * line[0] // len(text) for line in lines]
-                record(f"{title}: the share of a file", [line[4] for line in lines] == shares, f"{errors}")
-                if plain[2] <= 1:
-                    record(f"{title}: the last line", bool(lines) and lines[-1][:2] == (len(text), total(text, b"steps")), f"{errors}, {len(text)}")
-                    if not {"happens-before", "both"} & set(options):
-                        record(f"{title}: the races", lines[-1][3] == total(text, b"races"), f"{errors}")
+        for title, options, words, lines, errors, status in watched(record, name, text, folder / "p.trace"):
+            shares = [None if words == ["-"] else 100 * line[0] // len(text) for line in lines]
+            record(f"{title}: the share of a file", [line[4] for line in lines] == shares, f"{errors}")
+            if status <= 1:
+                record(f"{title}: the last line", bool(lines) and lines[-1][:2] == (len(text), total(text, b"steps")), f"{errors}, {len(text)}")
+                if not {"happens-before", "both"} & set(options):
+                    record(f"{title}: the races", lines[-1][3] == total(text, b"races"), f"{errors}")
 
 
 def numbers(record, folder):
@@ -131,17 +136,9 @@ def numbers(record, folder):
 def binary_traces(record, folder):
     """The bytes of a binary trace are those of its text, also of the lines that are read before they are text."""
     text = trace4.plain(THIRD + b"t1 lock m\n" + BATCH * 3 + b"t1 unlock m\n" + RACE + MORE)
-    data, path = trace4.encode(text), folder / "b.trace"
-    path.write_bytes(data)
     wanted = (len(text), total(text, b"steps"))
-    for options in OPTIONS:
-        for words, given in ((["-"], data), ([str(path)], b"")):
-            plain = run(["replay", *options, *words], given)
-            output, errors, status = run(["replay", *options, "--progress", *words], given)
-            lines, rest = parted(errors)
-            title = f"progress: a binary trace {' '.join(options)} {words[0] == '-'}"
-            record(title, (output, rest, status) == plain, f"{(output, errors, status)}, {plain}"[:1000])
-            record(f"{title}: the last line", bool(lines) and lines[-1][:2] == wanted and lines[-1][4] is None, f"{errors}, {wanted}")
+    for title, _, _, lines, errors, _ in watched(record, "a binary trace", trace4.encode(text), folder / "b.trace"):
+        record(f"{title}: the last line", bool(lines) and lines[-1][:2] == wanted and lines[-1][4] is None, f"{errors}, {wanted}")
 
 
 # ---- A slow pipe
