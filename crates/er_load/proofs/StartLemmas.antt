@@ -5,7 +5,6 @@ use Rattle.std.proofs.lemmas.Option.{slice_get_within}
 use Rattle.er_event.specs.declared.steps.Event.{Event}
 use Rattle.er_settle.specs.Seats.{SeatList}
 use Rattle.er_load.specs.declared.runs.Worker.{Worker}
-use Rattle.er_load.specs.declared.runs.Worker.TheVariants.{Idle}
 use Rattle.er_load.specs.declared.workloads.Workload.{Workload}
 use Rattle.er_load.specs.declared.workloads.Stage.{Stage}
 use Rattle.er_load.specs.declared.workloads.Stage.TheVariants.{First, Second}
@@ -13,11 +12,6 @@ use Rattle.er_load.specs.Inner.Progress.{IsSeatAt, AreSeatsAt, EndsAt, AreWorker
 use Rattle.er_load.specs.Workloads.{stage_events}
 use Rattle.er_event.proofs.Lists.{get_seam}
 use Rattle.er_load.proofs.JoinLemmas.{placed-push}
-
--- a task is what comes between
-done-more : (w : Workload) (s : Stage) (t : ℕ) → stage_events w s t ≡ [] → done_before w s t ≡ done_after w s t
-done-more w First t none = sym none
-done-more w Second t none = sym (append-nil (stage_events w First t)) ∙ ap (λ (es : List Event). stage_events w First t ++ es) (sym none)
 
 -- the workers of the seats that are gone
 pub record AreStarted (w : Workload) (s : Stage) (seats rest : List SeatList) (workers : List Worker) : Type 0 where
@@ -50,14 +44,6 @@ started-more w s seats rest left workers now seat worker far next grown last = r
   count = (let c = far.count in let a = length-append workers (worker ∷ []) in let b = length-append far.gone (seat ∷ []) in rw grown (omega arith));
   ends = rw grown (placed-push (λ t x. EndsAt w s t x) workers worker far.ends last);
 }
-
--- a seat with nothing to do
-pub idle-more : (w : Workload) (s : Stage) (seats rest left : List SeatList) (workers now : List Worker) (seat : SeatList) → AreStarted w s seats rest workers → rest ≡ seat ∷ left
-    → AreSeatsAt (done_before w s) seats → now ≡ workers ++ Idle seat ∷ [] → stage_events w s seat.thread ≡ [] → AreStarted w s seats left now
-idle-more w s seats rest left workers now seat far next before grown idle =
-    let at = (next-seat w s seats rest left workers seat far next before).1 in
-    let none : stage_events w s (length workers) ≡ [] = ap (λ (t : ℕ). stage_events w s t) (sym at.thread) ∙ idle in
-    started-more w s seats rest left workers now seat (Idle seat) far next grown (record { name = at.name; thread = at.thread; events = at.events ∙ done-more w s (length workers) none })
 
 -- at the end there is one for each seat
 pub started-all : (w : Workload) (s : Stage) (seats rest : List SeatList) (workers : List Worker) → AreStarted w s seats rest workers → rest ≡ [] → length workers ≡ length seats

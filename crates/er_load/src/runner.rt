@@ -43,7 +43,7 @@ impl<'a, 't, G: Gate> Runner for DetectorRunner<'a, 't, G> {
     fn run_task<R: Wait>(&self, rt: &R, alloc: Global, task: Task, mut seat: Seat) -> Answer {
         let mut script = Vec::new(alloc);
         add_task(&mut script, task)?;
-        if seat.calls().is_empty() {
+        if seat.calls().is_empty() && !script.is_empty() {
             self.gate.enter(seat.thread().number());
         }
         run_script(rt, self.detector, &mut seat, script.as_slice())?;

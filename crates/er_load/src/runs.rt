@@ -6,7 +6,7 @@ ghost use Rattle.er_model.specs.Locality.{events_of};
 ghost use Rattle.er_journal.specs.Merges.{reply_at};
 ghost use Rattle.er_load.specs.declared.workloads.Workload.{Workload as WorkloadShown};
 ghost use Rattle.er_load.specs.Faults.{MayFail, may_meet};
-ghost use Rattle.er_load.specs.Inner.Progress.{detector_name, AreSeatsAt, done_before, done_after, IsSeatAt, EndsAt, AreWorkers, AreAnswersAt, AreMet, first_refusal};
+ghost use Rattle.er_load.specs.Inner.Progress.{detector_name, AreSeatsAt, done_before, done_after, IsSeatAt, AreWorkers, AreAnswersAt, AreMet, first_refusal};
 ghost use Rattle.er_load.specs.Workloads.{workload_events, step_count, thread_count};
 ghost use Rattle.er_load.specs.declared.workloads.Stage.{Stage as StageShown};
 
@@ -108,23 +108,10 @@ impl Promise<Result<Seat, Refusal>> for Task {
     ghost kept_by = { λ p r. IfOk r (λ seat. IsSeatAt p.thread (done_after p.workload p.stage p.thread) seat) × IfErr r (λ why. IsTrue (may_meet why)) };
 }
 
-// The thread that runs a seat's task, or the seat if its task is nothing.
+// The thread that runs a seat's task.
 #[derive(Drop)]
-enum Worker {
-    Idle(Seat),
-    Started(PromisedHandle<Result<Seat, Refusal>, Task>),
-}
-
-impl Worker {
-    fn join<R: Threads>(self, rt: &R) -> Answer
-        ensures seat { (workload : WorkloadShown) (stage : StageShown) (t : ℕ) → EndsAt workload stage t self → IfOk result (λ seat. IsSeatAt t (done_after workload stage t) seat) }
-        ensures refusals { IfErr result (λ why. IsTrue (may_meet why)) }
-    {
-        match self {
-            Worker::Idle(seat) => Ok(seat),
-            Worker::Started(handle) => handle.join(rt),
-        }
-    }
+struct Worker {
+    handle: PromisedHandle<Result<Seat, Refusal>, Task>,
 }
 
 // Runs one stage of a workload, each task on a thread of its own. All threads are joined, whatever they answer.
@@ -159,10 +146,6 @@ fn run_stage<P: Runner, R: Threads + Wait + Sync>(
                     stage,
                     thread: seat.thread(),
                 };
-                if task.is_idle() {
-                    workers.push_reserved(Worker::Idle(seat));
-                    continue;
-                }
                 let started = scope.spawn_with(
                     task,
                     move || -> Result<Seat, Refusal>
@@ -175,7 +158,7 @@ fn run_stage<P: Runner, R: Threads + Wait + Sync>(
                     drop(join_all(rt, workers, room));
                     return Err(LoadFault::WorkerNotStarted);
                 };
-                workers.push_reserved(Worker::Started(handle));
+                workers.push_reserved(Worker { handle });
             }
             let answers = join_all(rt, workers, room);
             Ok(all_seats(alloc, answers)?)
@@ -192,7 +175,7 @@ fn join_all<R: Threads>(rt: &R, workers: Vec<Worker>, mut answers: Vec<Answer>) 
     ensures refusals { AreMet result.items }
 {
     for worker in workers {
-        answers.push_reserved(worker.join(rt));
+        answers.push_reserved(worker.handle.join(rt));
     }
     answers
 }

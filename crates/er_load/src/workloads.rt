@@ -1,6 +1,6 @@
 //! The workloads, by name, and why one has no run.
-ghost use Rattle.std.specs.Prelude.{◌≡◌, [], IsTrue};
-ghost use Rattle.er_load.specs.Workloads.{name_of, stage_events, thread_count};
+ghost use Rattle.std.specs.Prelude.{◌≡◌};
+ghost use Rattle.er_load.specs.Workloads.{name_of, thread_count};
 ghost use Rattle.er_event.specs.declared.refusals.Refusal.TheVariants.{OutOfMemory};
 ghost use Rattle.er_load.specs.declared.workloads.LoadFault.TheVariants.{Refused};
 
@@ -72,24 +72,6 @@ impl Workload {
         match self {
             Workload::InitThenRead | Workload::RwTable => 3,
             _ => 2,
-        }
-    }
-}
-
-impl Task {
-    /// Whether there is nothing to do.
-    #[tactic(auto, unfolding(crate::specs::Workloads::stage_events))]
-    pub(crate) fn is_idle(self) -> bool
-        ensures { IsTrue result → stage_events self.workload self.stage self.thread ≡ [] }
-    {
-        let writes_first = self.thread.number() == 0;
-        match self.stage {
-            Stage::First => self.workload == Workload::InitThenRead && !writes_first,
-            Stage::Second => match self.workload {
-                Workload::InitThenRead => writes_first,
-                Workload::ReusePool => false,
-                _ => true,
-            },
         }
     }
 }

@@ -8,7 +8,6 @@ use Rattle.er_load.specs.declared.workloads.Workload.{Workload}
 use Rattle.er_load.specs.declared.workloads.Stage.{Stage}
 use Rattle.er_load.specs.declared.workloads.Stage.TheVariants.{First, Second}
 use Rattle.er_load.specs.declared.runs.Worker.{Worker}
-use Rattle.er_load.specs.declared.runs.Worker.TheVariants.{Idle, Started}
 use Rattle.er_load.specs.Faults.{may_meet}
 use Rattle.er_load.specs.Workloads.{stage_events}
 
@@ -42,10 +41,9 @@ pub record IsSeatAt (t : ℕ) (all : List Event) (seat : SeatList) : Type 0 wher
 abbrev pub AreSeatsAt : (ℕ → List Event) → List SeatList → Type 0
 AreSeatsAt events seats = (t : ℕ) (seat : SeatList) → slice_get seats t ≡ Some seat → IsSeatAt t (events t) seat
 
--- where it ends well, the worker has thread t's seat, which is done with the stage, or promised it
+-- the worker promised thread t's seat, which is done with the stage if it ends well
 abbrev pub EndsAt : Workload → Stage → ℕ → Worker → Type 0
-EndsAt workload stage t (Idle seat) = IsSeatAt t (done_after workload stage t) seat
-EndsAt workload stage t (Started handle) = handle.promise ≡ record { workload = workload; stage = stage; thread = t }
+EndsAt workload stage t worker = worker.handle.promise ≡ record { workload = workload; stage = stage; thread = t }
 
 -- the workers are those of the threads from 0 on
 abbrev pub AreWorkers : Workload → Stage → List Worker → Type 0

@@ -1,22 +1,11 @@
 use Rattle.std.proofs.Common.{rules, List, Err, IsTrue, ◌≡◌, ◌<◌, ◌∙◌, ap, arith, length, ℕ}
-use Rattle.er_load.specs.declared.runs.Worker.TheVariants.{Started}
 use Rattle.er_load.specs.Workloads.{thread_count}
 use Rattle.er_load.specs.Inner.Progress.{done_after}
 use Rattle.er_settle.specs.Seats.{SeatList}
 use Rattle.er_load.specs.Faults.{may_meet}
 use Rattle.er_load.proofs.JoinLemmas.{seats-are, seats-count, first-met, no-value, refused-fault}
-use Rattle.er_load.proofs.StartLemmas.{next-seat, started-more, idle-more}
+use Rattle.er_load.proofs.StartLemmas.{next-seat, started-more}
 use Rattle.er_load.proofs.runs.fn.run_stage.scope.Goals as goal
-
-pub loop-seat-preserved-then-is_idle : goal.loop-seat-preserved-then-is_idle
-loop-seat-preserved-then-is_idle g c =
-    let next = c.in-Some.ensures.steps in
-    let before = rw (← c.into_iter-seat-iterator.ensures.into_iter_gives.0) at c.requires.1 in
-    record {
-      all = (let a = next.1 in let b = c.push_reserved.ensures.len in let e = c.loop-seat.invariant.all in omega arith);
-      room = (let d = c.push_reserved.ensures.capacity in let e = c.loop-seat.invariant.room in omega arith);
-      started = idle-more _ _ _ _ _ _ _ c.in-Some.seat c.loop-seat.invariant.started next.0 before c.push_reserved.ensures.items (search rules);
-    }
 
 pub spawn_with-started-requires-clause-runs : goal.spawn_with-started-requires-clause-runs
 spawn_with-started-requires-clause-runs g c κs within =
@@ -33,9 +22,9 @@ loop-seat-preserved g c =
     let at = next-seat _ _ _ _ _ _ c.in-Some.seat c.loop-seat.invariant.started next.0 before in
     let thread : c.thread.result ≡ length c.loop-seat.workers.items = c.thread.ensures ∙ at.1.thread in
     record {
-      all = (let a = next.1 in let b = c.push_reserved-in-loop-seat.ensures.len in let e = c.loop-seat.invariant.all in omega arith);
-      room = (let d = c.push_reserved-in-loop-seat.ensures.capacity in let e = c.loop-seat.invariant.room in omega arith);
-      started = started-more _ _ _ _ _ _ _ c.in-Some.seat (Started c.in-Ok.handle) c.loop-seat.invariant.started next.0 c.push_reserved-in-loop-seat.ensures.items
+      all = (let a = next.1 in let b = c.push_reserved.ensures.len in let e = c.loop-seat.invariant.all in omega arith);
+      room = (let d = c.push_reserved.ensures.capacity in let e = c.loop-seat.invariant.room in omega arith);
+      started = started-more _ _ _ _ _ _ _ c.in-Some.seat (record { handle = c.in-Ok.handle }) c.loop-seat.invariant.started next.0 c.push_reserved.ensures.items
           (c.in-Ok.ensures.ok ∙ ap (λ (t : ℕ). record { workload = c.captures.workload; stage = c.captures.stage; thread = t }) thread);
     }
 
