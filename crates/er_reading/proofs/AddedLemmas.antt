@@ -68,18 +68,18 @@ all_can before names (p ∷ ps) (q ∷ qs) entered fit =
     (all_can (before + p.lines) (with_table names p.told.names) ps qs entered.1 fit.2)
 
 -- the numbers of the pieces' lines fit
-fit_behind : (reader : Reached) (ps : List ReadPiece) (before room : ℕ) → StandInFront reader ps → All IsWhole ps → before + reader.place.limit ≤ reader.place.start + room → room < 2 ^ 64
+fit_behind : (names : NameTable) (reader : Reached) (ps : List ReadPiece) (before room : ℕ) → StandInFront names reader ps → All IsWhole ps → before + reader.place.limit ≤ reader.place.start + room → room < 2 ^ 64
     → FitBehind before ps
-fit_behind reader [] before room all whole bound small = tt
-fit_behind reader (p ∷ ps) before room all whole bound small =
-    let front = first_in_front reader p ps all in
+fit_behind names reader [] before room all whole bound small = tt
+fit_behind names reader (p ∷ ps) before room all whole bound small =
+    let front = first_in_front names reader p ps all in
     let one : p.whole ≡ true = All-head IsWhole p ps whole in
-    let few = piece_few reader p front one in
-    let below = piece_small reader p front one in
+    let few = piece_few names reader p front one in
+    let below = piece_small names reader p front one in
     let within = front.within in (
       (λ i d h. let less = below i d h in omega (arith, less, few, within, bound, small)),
       omega (arith, few, within, bound, small),
-      fit_behind (past_piece reader p no_tail) ps (before + p.lines) room (others_in_front reader (past_piece reader p no_tail) p ps all refl refl refl refl refl)
+      fit_behind (with_table names p.told.names) (past_piece reader p no_tail) ps (before + p.lines) room (others_in_front names reader (past_piece reader p no_tail) p ps all refl refl refl refl refl)
           (All-tail IsWhole p ps whole) (omega (arith, few, bound)) small,
     )
 
@@ -101,7 +101,7 @@ sites_behind_named names [] sites named = named
 sites_behind_named names (p ∷ ps) sites named = sites_behind_named (with_table names p.told.names) ps sites (sites_still_named names p.told.names sites named)
 
 -- the first piece
-first_by : (reader : Reached) (t : Recording) (z : ReadPiece) (zs : List ReadPiece) (names : NameTable) (read : List ReadPiece) → StandInFront reader read → All IsWhole read
+first_by : (reader : Reached) (t : Recording) (z : ReadPiece) (zs : List ReadPiece) (names : NameTable) (read : List ReadPiece) → StandInFront names reader read → All IsWhole read
     → AreReady reader.place.number names read (z ∷ zs) → t.names ≡ names_behind names read → MayBeAdded reader t z
 first_by reader t z zs names [] front whole ready named = absurd ready
 first_by reader t z zs names (p ∷ ps) front whole ready named =
@@ -112,8 +112,9 @@ first_by reader t z zs names (p ∷ ps) front whole ready named =
     subst (λ (s : List ℕ). All (HasSiteName all) s) (sym ready.0.sites) (new_sites_named names p.told.names p.told.sites ready.0.named_sites) in
     record {
       read = p;
+      before = names;
       names = all;
-      front = first_in_front reader p ps front;
+      front = first_in_front names reader p ps front;
       whole = All-head IsWhole p ps whole;
       ready = ready.0;
       named = subst (λ (n : NameTable). All (IsNamed n) z.steps) (sym named) (behind_named all ps z.steps steps);
@@ -127,16 +128,16 @@ first_may reader t z zs may = first_by reader t z zs may.names may.read may.fron
 module _ (old mid : Reached) (t u : Recording) (z : ReadPiece) (zs : List ReadPiece) (stage : mid.stage ≡ old.stage) (idle : mid.idle ≡ old.idle)
     (number : mid.place.number ≡ old.place.number + z.lines) (start : mid.place.start ≡ old.place.start + z.len) (limit : mid.place.limit ≡ old.place.limit)
     (ahead : mid.place.ahead ≡ drop z.len old.place.ahead) (same : u.names ≡ t.names) where
-  module _ (p : ReadPiece) (ps : List ReadPiece) (names : NameTable) (front : StandInFront old (p ∷ ps)) (ready : AreReady old.place.number names (p ∷ ps) (z ∷ zs)) where
-    next_front : StandInFront mid ps
+  module _ (p : ReadPiece) (ps : List ReadPiece) (names : NameTable) (front : StandInFront names old (p ∷ ps)) (ready : AreReady old.place.number names (p ∷ ps) (z ∷ zs)) where
+    next_front : StandInFront (with_table names p.told.names) mid ps
     next_front =
-        others_in_front old mid p ps front stage idle (start ∙ ap (λ (n : ℕ). old.place.start + n) ready.0.len) limit (ahead ∙ ap (λ (n : ℕ). drop n old.place.ahead) ready.0.len)
+        others_in_front names old mid p ps front stage idle (start ∙ ap (λ (n : ℕ). old.place.start + n) ready.0.len) limit (ahead ∙ ap (λ (n : ℕ). drop n old.place.ahead) ready.0.len)
 
     next_ready : AreReady mid.place.number (with_table names p.told.names) ps zs
     next_ready =
         subst (λ (n : ℕ). AreReady n (with_table names p.told.names) ps zs) (sym (number ∙ ap (λ (n : ℕ). old.place.number + n) ready.0.lines)) ready.1
 
-  others_by : (names : NameTable) (read : List ReadPiece) → StandInFront old read → All IsWhole read → AreReady old.place.number names read (z ∷ zs) → t.names ≡ names_behind names read
+  others_by : (names : NameTable) (read : List ReadPiece) → StandInFront names old read → All IsWhole read → AreReady old.place.number names read (z ∷ zs) → t.names ≡ names_behind names read
       → MayAllBeAdded mid u zs
   others_by names [] front whole ready named = absurd ready
   others_by names (p ∷ ps) front whole ready named = record {
@@ -153,16 +154,16 @@ module _ (old mid : Reached) (t u : Recording) (z : ReadPiece) (zs : List ReadPi
 
   -- what the first piece gives, and then the others
   pub told_on : (text : List ℕ) (steps : List Step) (numbers sites : List ℕ) (known : Option (List ℕ)) (G : Type 0)
-      → ((names : NameTable) (read : ReadPiece) → StandsInFront old read → read.whole ≡ true → IsReady old.place.number (with_table names read.told.names) read z
+      → ((names : NameTable) (read : ReadPiece) → StandsInFront names old read → read.whole ≡ true → IsReady old.place.number (with_table names read.told.names) read z
       → HasRead text steps numbers sites old known (record t { names = names }) → HasRead text steps numbers sites mid known (record u { names = with_table names read.told.names }))
-      → ((names : NameTable) (read : List ReadPiece) → StandInFront mid read → All IsWhole read → AreReady mid.place.number names read zs → u.names ≡ names_behind names read
+      → ((names : NameTable) (read : List ReadPiece) → StandInFront names mid read → All IsWhole read → AreReady mid.place.number names read zs → u.names ≡ names_behind names read
       → HasRead text steps numbers sites mid known (record u { names = names }) → G)
-      → (names : NameTable) (read : List ReadPiece) → StandInFront old read → All IsWhole read → AreReady old.place.number names read (z ∷ zs) → t.names ≡ names_behind names read
+      → (names : NameTable) (read : List ReadPiece) → StandInFront names old read → All IsWhole read → AreReady old.place.number names read (z ∷ zs) → t.names ≡ names_behind names read
       → HasRead text steps numbers sites old known (record t { names = names }) → G
   told_on text steps numbers sites known G one others names [] front whole ready named had = absurd ready
   told_on text steps numbers sites known G one others names (p ∷ ps) front whole ready named had =
       others (with_table names p.told.names) ps (next_front p ps names front ready) (All-tail IsWhole p ps whole) (next_ready p ps names front ready) (same ∙ named)
-      (one names p (first_in_front old p ps front) (All-head IsWhole p ps whole) ready.0 had)
+      (one names p (first_in_front names old p ps front) (All-head IsWhole p ps whole) ready.0 had)
 
 -- once all pieces are added the names are those of the trace
 pub names_are : (n : ℕ) (names : NameTable) (read pieces : List ReadPiece) (t : Recording) → length pieces ≡ 0 → AreReady n names read pieces → t.names ≡ names_behind names read
@@ -226,12 +227,12 @@ same_first all some qs zs n before names is whole entered numbered =
     numbered_first qs zs numbered ∙ entered_first before names some qs entered ∙ ap first_len (is ∙ take_all n all (omega (arith, whole)))
 
 -- the first pieces in front of a reader
-front_pieces : (v : Version) (front : List ℕ) (ps : List ReadPiece) (n : ℕ) → ArePiecesOf v front ps
-    → (a : List ℕ) × (b : List ℕ) × (front ≡ a ++ b) × ArePiecesOf v a (take n ps)
-front_pieces v front ps zero are = ([], front, refl, refl)
-front_pieces v front [] (suc n) are = ([], front, refl, refl)
-front_pieces v front (p ∷ ps) (suc n) are =
-    let rest = front_pieces v (drop p.len front) ps n are.3 in
+front_pieces : (v : Version) (names : NameTable) (front : List ℕ) (ps : List ReadPiece) (n : ℕ) → ArePiecesOf v names front ps
+    → (a : List ℕ) × (b : List ℕ) × (front ≡ a ++ b) × ArePiecesOf v names a (take n ps)
+front_pieces v names front ps zero are = ([], front, refl, refl)
+front_pieces v names front [] (suc n) are = ([], front, refl, refl)
+front_pieces v names front (p ∷ ps) (suc n) are =
+    let rest = front_pieces v names (drop p.len front) ps n are.3 in
     let c : List ℕ = take p.len front in
     let long : length c ≡ p.len = length-take-le p.len front are.0 in
     let whole : take p.len (c ++ rest.0) ≡ c = take-append-le p.len c rest.0 (omega (arith, long)) ∙ take_all p.len c (omega (arith, long)) in
@@ -242,14 +243,14 @@ front_pieces v front (p ∷ ps) (suc n) are =
       (
         omega (arith, long, length-append c rest.0),
         subst AreWhole (sym whole) are.1,
-        subst (λ (l : List ℕ). IsPieceOf v l p) (sym whole) are.2,
-        subst (λ (l : List ℕ). ArePiecesOf v l (take n ps)) (sym others) rest.3,
+        subst (λ (l : List ℕ). IsPieceOf v names l p) (sym whole) are.2,
+        subst (λ (l : List ℕ). ArePiecesOf v names l (take n ps)) (sym others) rest.3,
       ),
     )
 
-front_of : (reader : Reached) (ps : List ReadPiece) (n : ℕ) → StandInFront reader ps → StandInFront reader (take n ps)
-front_of reader ps n all =
-    let some = front_pieces all.version all.front ps n all.read in
+front_of : (names : NameTable) (reader : Reached) (ps : List ReadPiece) (n : ℕ) → StandInFront names reader ps → StandInFront names reader (take n ps)
+front_of names reader ps n all =
+    let some = front_pieces all.version names all.front ps n all.read in
     record {
       version = all.version;
       stage = all.stage;
@@ -262,19 +263,19 @@ front_of reader ps n all =
     }
 
 -- of the pieces in front those of which all was read
-module _ (reader : Reached) (all some : List ReadPiece) (n before : ℕ) (front : StandInFront reader all) (is : some ≡ take n all) (whole : All IsWhole (take n all)) where
-  some_front : StandInFront reader some
-  some_front = subst (λ (l : List ReadPiece). StandInFront reader l) (sym is) (front_of reader all n front)
+module _ (t : Recording) (reader : Reached) (all some : List ReadPiece) (n before : ℕ) (front : StandInFront t.names reader all) (is : some ≡ take n all) (whole : All IsWhole (take n all)) where
+  some_front : StandInFront t.names reader some
+  some_front = subst (λ (l : List ReadPiece). StandInFront t.names reader l) (sym is) (front_of t.names reader all n front)
 
   some_whole : All IsWhole some
   some_whole = subst (λ (l : List ReadPiece). All IsWhole l) (sym is) whole
 
   pub some_fit : before ≤ reader.place.limit + 1 → reader.place.limit ≤ 2 ^ 62 → FitBehind before some
-  some_fit bound limit = fit_behind reader some before (reader.place.limit + reader.place.limit + 1) some_front some_whole (omega (arith, bound)) (omega (arith, limit))
+  some_fit bound limit = fit_behind t.names reader some before (reader.place.limit + reader.place.limit + 1) some_front some_whole (omega (arith, bound)) (omega (arith, limit))
 
-  pub may_add : (t u : Recording) (qs zs : List ReadPiece) → before ≡ reader.place.number → AreEntered before t.names some qs → AreNumbered qs zs
+  pub may_add : (u : Recording) (qs zs : List ReadPiece) → before ≡ reader.place.number → AreEntered before t.names some qs → AreNumbered qs zs
       → u ≡ record t { names = names_behind t.names some } → MayAllBeAdded reader u zs
-  may_add t u qs zs number entered numbered names = record {
+  may_add u qs zs number entered numbered names = record {
     read = some;
     names = t.names;
     front = some_front;
@@ -284,12 +285,12 @@ module _ (reader : Reached) (all some : List ReadPiece) (n before : ℕ) (front 
   }
 
   -- what they give, once they are added
-  pub told_some : (text : List ℕ) (steps : List Step) (numbers sites : List ℕ) (known : Option (List ℕ)) (t u : Recording) (qs zs : List ReadPiece) (G : Type 0) → before ≡ reader.place.number
+  pub told_some : (text : List ℕ) (steps : List Step) (numbers sites : List ℕ) (known : Option (List ℕ)) (u : Recording) (qs zs : List ReadPiece) (G : Type 0) → before ≡ reader.place.number
       → AreEntered before t.names some qs → AreNumbered qs zs → u ≡ record t { names = names_behind t.names some }
-      → ((names : NameTable) (read : List ReadPiece) → StandInFront reader read → All IsWhole read → AreReady reader.place.number names read zs → u.names ≡ names_behind names read
+      → ((names : NameTable) (read : List ReadPiece) → StandInFront names reader read → All IsWhole read → AreReady reader.place.number names read zs → u.names ≡ names_behind names read
       → HasRead text steps numbers sites reader known (record u { names = names }) → G)
       → HasRead text steps numbers sites reader known t → G
-  told_some text steps numbers sites known t u qs zs G number entered numbered names gives read =
+  told_some text steps numbers sites known u qs zs G number entered numbered names gives read =
       let same : record u { names = t.names } ≡ t = ap (λ (r : Recording). record r { names = t.names }) names in
       gives t.names some some_front some_whole (subst (λ (n : ℕ). AreReady n t.names some zs) number (all_ready before t.names some qs zs entered numbered))
       (ap (λ (r : Recording). r.names) names) (subst (λ (r : Recording). HasRead text steps numbers sites reader known r) (sym same) read)

@@ -2,6 +2,9 @@
 use Rattle.std.proofs.Common.{◌≡◌, ℕ, ◌+◌, ◌≤◌, List, [], ◌∷◌, ◌++◌, length, take, drop, sym, ap, ◌∙◌, subst, arith}
 use Rattle.std.proofs.lemmas.List.{take-append-le, drop-append-le, length-append, length-drop}
 use Rattle.std.specs.Prelude.{Result, Ok, Err, OnOk}
+use Rattle.er_trace.proofs.RenumberingLemmas.{still_has_all}
+use Rattle.er_trace.specs.Appended.{with_table}
+use Rattle.er_trace.specs.Names.{NameTable}
 use Rattle.er_trace.specs.Trace.{Recording}
 use Rattle.er_text.specs.Named.{Grows}
 use Rattle.er_text.proofs.GrowthLemmas.{grows_on}
@@ -12,15 +15,15 @@ use Rattle.er_text.specs.Places.{Reached}
 use Rattle.er_reading.specs.Inner.Adding.{StandInFront, first_len}
 use Rattle.er_reading.specs.Pieces.{ArePiecesOf}
 
-pub pieces_append : (v : Version) (a b : List ℕ) (ps qs : List ReadPiece) → ArePiecesOf v a ps → ArePiecesOf v b qs → ArePiecesOf v (a ++ b) (ps ++ qs)
-pieces_append v a b [] qs first second = subst (λ (c : List ℕ). ArePiecesOf v (c ++ b) qs) (sym first) second
-pieces_append v a b (p ∷ ps) qs first second =
+pub pieces_append : (v : Version) (names : NameTable) (a b : List ℕ) (ps qs : List ReadPiece) → ArePiecesOf v names a ps → ArePiecesOf v names b qs → ArePiecesOf v names (a ++ b) (ps ++ qs)
+pieces_append v names a b [] qs first second = subst (λ (c : List ℕ). ArePiecesOf v names (c ++ b) qs) (sym first) second
+pieces_append v names a b (p ∷ ps) qs first second =
     let front : take p.len (a ++ b) ≡ take p.len a = take-append-le p.len a b first.0 in
     let back : drop p.len (a ++ b) ≡ drop p.len a ++ b = drop-append-le p.len a b first.0 in (
       omega (arith, first.0, length-append a b),
       subst AreWhole (sym front) first.1,
-      subst (λ (c : List ℕ). IsPieceOf v c p) (sym front) first.2,
-      subst (λ (c : List ℕ). ArePiecesOf v c (ps ++ qs)) (sym back) (pieces_append v (drop p.len a) b ps qs first.3 second),
+      subst (λ (c : List ℕ). IsPieceOf v names c p) (sym front) first.2,
+      subst (λ (c : List ℕ). ArePiecesOf v names c (ps ++ qs)) (sym back) (pieces_append v names (drop p.len a) b ps qs first.3 second),
     )
 
 -- if the first piece has bytes, it is the first of all
@@ -29,8 +32,8 @@ first_append [] qs some = absurd (omega (arith, some))
 first_append (p ∷ ps) qs some = some
 
 -- the first of the pieces in front of a reader
-pub first_in_front : (reader : Reached) (p : ReadPiece) (ps : List ReadPiece) → StandInFront reader (p ∷ ps) → StandsInFront reader p
-first_in_front reader p ps all =
+pub first_in_front : (names : NameTable) (reader : Reached) (p : ReadPiece) (ps : List ReadPiece) → StandInFront names reader (p ∷ ps) → StandsInFront names reader p
+first_in_front names reader p ps all =
     let front : take p.len reader.place.ahead ≡ take p.len all.front = ap (take p.len) all.ahead ∙ take-append-le p.len all.front all.more all.read.0 in
     record {
       version = all.version;
@@ -39,13 +42,27 @@ first_in_front reader p ps all =
       fits = omega (arith, all.read.0, ap length all.ahead, length-append all.front all.more);
       lines = subst AreWhole (sym front) all.read.1;
       within = omega (arith, all.within, all.read.0);
-      read = subst (λ (b : List ℕ). IsPieceOf all.version b p) (sym front) all.read.2;
+      read = subst (λ (b : List ℕ). IsPieceOf all.version names b p) (sym front) all.read.2;
     }
 
+-- pieces that were read behind some names stand behind more of them
+pub pieces_behind : (v : Version) (names more : NameTable) (bytes : List ℕ) (ps : List ReadPiece) → ArePiecesOf v names bytes ps → ArePiecesOf v (with_table names more) bytes ps
+pieces_behind v names more bytes [] are = are
+pieces_behind v names more bytes (p ∷ ps) are = (
+  are.0,
+  are.1,
+  (
+    are.2.0,
+    (λ whole. let over = are.2.1 whole in record { kept = over.kept; has = still_has_all names more over.kept over.has; read = over.read }),
+    are.2.2,
+  ),
+  pieces_behind v names more (drop p.len bytes) ps are.3,
+)
+
 -- past the first of them
-pub others_in_front : (old new : Reached) (p : ReadPiece) (ps : List ReadPiece) → StandInFront old (p ∷ ps) → new.stage ≡ old.stage → new.idle ≡ old.idle
-    → new.place.start ≡ old.place.start + p.len → new.place.limit ≡ old.place.limit → new.place.ahead ≡ drop p.len old.place.ahead → StandInFront new ps
-others_in_front old new p ps all stage idle start limit ahead = record {
+pub others_in_front : (names : NameTable) (old new : Reached) (p : ReadPiece) (ps : List ReadPiece) → StandInFront names old (p ∷ ps) → new.stage ≡ old.stage → new.idle ≡ old.idle
+    → new.place.start ≡ old.place.start + p.len → new.place.limit ≡ old.place.limit → new.place.ahead ≡ drop p.len old.place.ahead → StandInFront (with_table names p.told.names) new ps
+others_in_front names old new p ps all stage idle start limit ahead = record {
   version = all.version;
   stage = stage ∙ all.stage;
   idle = idle ∙ all.idle;
@@ -53,7 +70,7 @@ others_in_front old new p ps all stage idle start limit ahead = record {
   more = all.more;
   ahead = ahead ∙ ap (drop p.len) all.ahead ∙ drop-append-le p.len all.front all.more all.read.0;
   within = omega (arith, all.within, all.read.0, start, limit, length-drop p.len all.front);
-  read = all.read.3;
+  read = pieces_behind all.version names p.told.names (drop p.len all.front) ps all.read.3;
 }
 
 -- what grew goes on to grow, unless a call failed

@@ -3,8 +3,9 @@ use Rattle.std.specs.Prelude.{◌≡◌, ◌≤◌, ℕ, List, [], ◌∷◌, le
 use Rattle.er_text.specs.declared.verbs.Version.{Version}
 use Rattle.er_lines.specs.Lines.{AreWhole}
 use Rattle.er_text.specs.Pieces.{ReadPiece, IsPieceOf}
+use Rattle.er_trace.specs.Names.{NameTable}
 
--- these pieces were read of the bytes, one behind the other, each of whole lines
-abbrev pub ArePiecesOf : Version → List ℕ → List ReadPiece → Type 0
-ArePiecesOf v bytes [] = bytes ≡ []
-ArePiecesOf v bytes (p ∷ ps) = (p.len ≤ length bytes) × AreWhole (take p.len bytes) × IsPieceOf v (take p.len bytes) p × ArePiecesOf v (drop p.len bytes) ps
+-- these pieces were read of the bytes behind these names, one behind the other, each of whole lines
+abbrev pub ArePiecesOf : Version → NameTable → List ℕ → List ReadPiece → Type 0
+ArePiecesOf v names bytes [] = bytes ≡ []
+ArePiecesOf v names bytes (p ∷ ps) = (p.len ≤ length bytes) × AreWhole (take p.len bytes) × IsPieceOf v names (take p.len bytes) p × ArePiecesOf v names (drop p.len bytes) ps

@@ -54,7 +54,7 @@ fn add_numbered(lines: &mut TraceReader, trace: &mut Trace, pieces: &mut [Piece]
     requires within { lines.old.place.start ≤ lines.old.place.limit }
     requires most { taken_by lines.old.place ≤ lines.old.place.limit + bytes_past_limit }
     ensures told { (text : List ℕ) (steps : List Step) (numbers sites : List ℕ) (known : Option (List ℕ)) (names : NameTable) (read : List ReadPiece)
-        → StandInFront lines.old read → All IsWhole read → AreReady lines.old.place.number names read pieces.old → trace.old.names ≡ names_behind names read
+        → StandInFront names lines.old read → All IsWhole read → AreReady lines.old.place.number names read pieces.old → trace.old.names ≡ names_behind names read
         → HasRead text steps numbers sites lines.old known (record trace.old { names = names })
         → OnOk result (HasRead text steps numbers sites lines.new known trace.new) }
     ensures grows { OnOk result (Grows trace.old trace.new) }
@@ -101,7 +101,7 @@ pub(crate) fn add_ahead<R: Threads + Sync>(
     if bytes.len() / PIECE_BYTES < pieces.len() {
         return Ok(false);
     }
-    read_pieces(rt, version, bytes, pieces);
+    read_pieces(rt, version, trace.names(), bytes, pieces);
     let count = whole_count(pieces);
     let all = count == pieces.len();
     let before = lines.lines_before();

@@ -7,6 +7,7 @@ ghost use Rattle.er_lines.specs.Lines.{AreWhole};
 ghost use Rattle.er_text.specs.Pieces.{CanBeNumbered};
 
 use er_text::{Piece, Version};
+use er_trace::Names;
 use memchr::memchr;
 use std::thread::{Threads, join_mut};
 
@@ -25,21 +26,22 @@ fn front_len(bytes: &[u8], least: usize) -> usize
     }
 }
 
-/// Reads whole lines into so many pieces of about the same size, each in a thread of its own if one can be started.
+/// Reads whole lines behind these names into so many pieces of about the same size, each in a thread of its own if one can be started.
 pub(crate) fn read_pieces<R: Threads + Sync>(
     rt: &R,
     version: Version,
+    names: &Names,
     bytes: &[u8],
     pieces: &mut [Piece],
 )
     requires some { (1 ≤ length pieces.old) × (length pieces.old ≤ 16) }
     requires whole { AreWhole bytes.now }
-    ensures pieces { ArePiecesOf version bytes.now pieces.new }
+    ensures pieces { ArePiecesOf version names.now bytes.now pieces.new }
     ensures first { 1 ≤ length bytes.now → 1 ≤ first_len pieces.new }
 {
     let count = pieces.len();
     if count == 1 {
-        pieces[0].read(version, bytes);
+        pieces[0].read(version, names, bytes);
         return;
     }
     let half = count / 2;
@@ -49,13 +51,13 @@ pub(crate) fn read_pieces<R: Threads + Sync>(
         rt,
         &mut ||
             requires { IsSync R.row × (1 ≤ length first.now) × (length first.now ≤ 16) × AreWhole front.now }
-            ensures pieces { ArePiecesOf version front.entry.now first.exit.now }
+            ensures pieces { ArePiecesOf version names.entry.now front.entry.now first.exit.now }
             ensures first { 1 ≤ length front.entry.now → 1 ≤ first_len first.exit.now }
-        { read_pieces(rt, version, front, first) },
+        { read_pieces(rt, version, names, front, first) },
         &mut ||
             requires { IsSync R.row × (1 ≤ length second.now) × (length second.now ≤ 16) × AreWhole back.now }
-            ensures { ArePiecesOf version back.entry.now second.exit.now }
-        { read_pieces(rt, version, back, second) },
+            ensures { ArePiecesOf version names.entry.now back.entry.now second.exit.now }
+        { read_pieces(rt, version, names, back, second) },
     );
 }
 

@@ -10,10 +10,10 @@ use Rattle.er_event.specs.declared.steps.Kind.{Kind}
 use Rattle.er_event.specs.declared.steps.Step.{Step}
 use Rattle.er_event.specs.declared.steps.Sync.TheVariants as order
 use Rattle.er_trace.specs.Names.{NameTable, number_of, with_name}
-use Rattle.er_trace.specs.Trace.{Recording, no_steps, IsNamed, HasSiteName, with_step, with_steps, with_thread_name, with_lock_name, with_site_name}
+use Rattle.er_trace.specs.Trace.{Recording, IsNamed, HasSiteName, with_step, with_steps, with_thread_name, with_lock_name, with_site_name}
 use Rattle.er_trace.specs.Appended.{with_names, with_table, renumbered, renumbered_site, renumbered_event, renumbered_step, appended}
 use Rattle.er_trace.proofs.AppendedLemmas.{with_more, new_number, same_number, below_more, more_names}
-use Rattle.er_trace.proofs.AppendedSteps.{appended_thread, appended_lock, appended_site, appended_steps, appended_nothing, named_with_thread, named_with_lock, named_with_site, known_with_site}
+use Rattle.er_trace.proofs.AppendedSteps.{appended_thread, appended_lock, appended_site, appended_steps, named_with_thread, named_with_lock, named_with_site, known_with_site}
 use Rattle.er_text.specs.Named.{KeepsNumbers, Grows}
 use Rattle.er_text.proofs.NamedLaws.{name_goes_on}
 use Rattle.er_text.specs.Events.{EventLine, Operation, Acquires, Releases, Accesses, Reuses, IgnoresOn, IgnoresOff, Shows, Levels, Starts, Joins, Signals, Awaits, run_parts, with_reuses, with_operation, with_line}
@@ -43,10 +43,6 @@ same_sites : (old new : List (List ℕ)) (site far : ℕ) → renumbered_site ol
 same_sites old new site far is [] = refl
 same_sites old new site far is (part ∷ parts) =
     ap (λ (n : ℕ). n ∷ map (renumbered_site old new) (map (λ part. site) parts)) is ∙ ap (λ (ns : List ℕ). far ∷ ns) (same_sites old new site far is parts)
-
--- nothing to append
-pub nothing_appended : (before : ℕ) (r : Recording) → appended before r no_steps ≡ r
-nothing_appended = appended_nothing
 
 module _ (before : ℕ) (r : Recording) where
   -- what appending makes of the recording, and its names

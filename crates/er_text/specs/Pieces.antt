@@ -2,7 +2,7 @@
 use Rattle.std.specs.Prelude.{◌≡◌, ℕ, ◌+◌, ◌<◌, ◌≤◌, ◌^◌, Bool, true, List, [], Option, None, length, map, take}
 use Rattle.std.specs.List.{All}
 use Rattle.er_event.specs.declared.steps.Step.{Step}
-use Rattle.er_trace.specs.Appended.{AreNumbers, renumbered_site, renumbered_step}
+use Rattle.er_trace.specs.Appended.{AreNumbers, HasAll, renumbered_site, renumbered_step}
 use Rattle.er_trace.specs.Names.{NameTable}
 use Rattle.er_trace.specs.Trace.{Recording, IsNamed, HasSiteName, no_steps}
 use Rattle.er_trace.specs.declared.appending.NewTable.{NewTable}
@@ -10,7 +10,7 @@ use Rattle.er_text.specs.declared.endings.Lost.{Lost}
 use Rattle.er_text.specs.declared.verbs.Version.{Version}
 use Rattle.er_text.specs.declared.stages.Stage.TheVariants.{Events}
 use Rattle.er_text.specs.Ending.{comment_after}
-use Rattle.er_lines.specs.Lines.{lines_of, placed_from, AreWhole}
+use Rattle.er_lines.specs.Lines.{Line, lines_of, placed_from, AreWhole}
 use Rattle.er_text.specs.Places.{Reached}
 use Rattle.er_text.specs.Inner.Pieces.{AreRead}
 
@@ -38,21 +38,27 @@ pub record ReadPiece : Type 0 where
   pub places : List ℕ
   pub sites : List ℕ
 
--- the piece is these bytes, and if all of it was read, it says what they say
-abbrev pub IsPieceOf : Version → List ℕ → ReadPiece → Type 0
-IsPieceOf v bytes piece =
-    (piece.len ≡ length bytes) × (piece.whole ≡ true → AreRead v (lines_of bytes) 0 no_steps piece.lines piece.told)
+-- the piece was read of these lines, over no names but some of these
+pub record IsReadOver (v : Version) (names : NameTable) (lines : List Line) (piece : ReadPiece) : Type 0 where
+  pub kept : NameTable
+  pub has : HasAll names kept
+  pub read : AreRead v lines 0 (record no_steps { names = kept }) piece.lines piece.told
+
+-- the piece is these bytes, and if all of it was read, it says what they say behind these names
+abbrev pub IsPieceOf : Version → NameTable → List ℕ → ReadPiece → Type 0
+IsPieceOf v names bytes piece =
+    (piece.len ≡ length bytes) × (piece.whole ≡ true → IsReadOver v names (lines_of bytes) piece)
     × (piece.whole ≡ true → piece.comment ≡ comment_after None (placed_from 0 0 (lines_of bytes)))
 
--- the piece was read of the lines in front of a reader that has come to event lines, and no thread is idle
-pub record StandsInFront (reader : Reached) (piece : ReadPiece) : Type 0 where
+-- the piece was read, behind these names, of the lines in front of a reader that has come to event lines, and no thread is idle
+pub record StandsInFront (names : NameTable) (reader : Reached) (piece : ReadPiece) : Type 0 where
   pub version : Version
   pub stage : reader.stage ≡ Events version
   pub idle : reader.idle ≡ []
   pub fits : piece.len ≤ length reader.place.ahead
   pub lines : AreWhole (take piece.len reader.place.ahead)
   pub within : reader.place.start + piece.len ≤ reader.place.limit
-  pub read : IsPieceOf version (take piece.len reader.place.ahead) piece
+  pub read : IsPieceOf version names (take piece.len reader.place.ahead) piece
 
 -- the piece knows the numbers that its names have among these, and how many lines stand before its own
 pub record IsEntered (before : ℕ) (names : NameTable) (old new : ReadPiece) : Type 0 where
@@ -98,8 +104,9 @@ pub record IsReady (before : ℕ) (names : NameTable) (old new : ReadPiece) : Ty
 -- it stands in front of a reader, all of it was read, and the trace that it is added to has names for its steps and sites
 pub record MayBeAdded (reader : Reached) (trace : Recording) (piece : ReadPiece) : Type 0 where
   pub read : ReadPiece
+  pub before : NameTable
   pub names : NameTable
-  pub front : StandsInFront reader read
+  pub front : StandsInFront before reader read
   pub whole : read.whole ≡ true
   pub ready : IsReady reader.place.number names read piece
   pub named : All (IsNamed trace.names) piece.steps

@@ -17,7 +17,7 @@ use crate::stages::Stage;
 use crate::verbs::Version;
 use er_event::{Site, Step};
 use er_lines::line_len;
-use er_trace::{NameKeys, NewTable, Trace};
+use er_trace::{NameKeys, Names, NewTable, Trace};
 use std::alloc::{AllocError, Global};
 use std::marker::Model;
 
@@ -90,14 +90,15 @@ impl Piece {
         self.whole
     }
 
-    /// Reads these lines of a text of this version, and forgets what was read before.
+    /// Reads these lines of a text of this version, and forgets what was read before, but not its names if they are few and all among those of
+    /// the lines before.
     ///
     /// A line can't be read apart if what it says depends on threads that are named in lines before: a start, and most joins.
-    pub fn read(&mut self, version: Version, bytes: &[u8])
-        ensures { IsPieceOf version bytes.now self.new }
+    pub fn read(&mut self, version: Version, names: &Names, bytes: &[u8])
+        ensures { IsPieceOf version names.now bytes.now self.new }
     {
         let mut header = Header::new(self.alloc, Stage::Events(version));
-        self.trace.restart(self.alloc, self.keys);
+        self.trace.restart(names, self.alloc, self.keys);
         self.len = bytes.len();
         match read_lines(&mut header, version, &mut self.trace, bytes) {
             Some(lines) => {
@@ -244,7 +245,7 @@ impl TraceReader {
 
         // Of a text that was read so far under some names it gives the steps of the piece behind the others, under its names too.
         ensures told { (text : List ℕ) (steps : List Steps) (lines sites : List ℕ) (known : Option (List ℕ)) (names : NameTable) (read : ReadPiece)
-            → StandsInFront self.old read → read.whole ≡ true → IsReady self.old.place.number (with_table names read.told.names) read piece.old
+            → StandsInFront names self.old read → read.whole ≡ true → IsReady self.old.place.number (with_table names read.told.names) read piece.old
             → HasRead text steps lines sites self.old known (record trace.old { names = names })
             → OnOk result (HasRead text steps lines sites self.new known (record trace.new { names = with_table names read.told.names })) }
 

@@ -10,7 +10,7 @@ use Rattle.er_event.specs.declared.steps.Sync.{Sync as Order}
 use Rattle.er_event.specs.declared.steps.Sync.TheVariants.{Start, Join, Signal, Await}
 use Rattle.er_trace.specs.Names.{NameTable}
 use Rattle.er_trace.specs.Trace.{Recording, no_steps, HasOrderNames, HasNames, IsNamed, HasSiteName, with_steps, with_thread_name, with_lock_name, with_site_name}
-use Rattle.er_trace.specs.Appended.{with_names, with_table, renumbered, renumbered_site, renumbered_order, renumbered_event, renumbered_step, appended}
+use Rattle.er_trace.specs.Appended.{HasAll, with_names, with_table, renumbered, renumbered_site, renumbered_order, renumbered_event, renumbered_step, appended}
 use Rattle.er_trace.proofs.AppendedLemmas.{with_more, renumbered_below, same_number, more_names, all_more}
 
 -- new numbers have names
@@ -149,8 +149,10 @@ appended_steps before r q steps lines sites =
     ) refl
 
 -- nothing to append
-pub appended_nothing : (before : ℕ) (r : Recording) → appended before r no_steps ≡ r
-appended_nothing before r = rw (append-nil r.steps, append-nil r.lines, append-nil r.sites) refl
+pub nothing_appended : (before : ℕ) (r : Recording) (kept : NameTable) → HasAll r.names kept → appended before r (record no_steps { names = kept }) ≡ r
+nothing_appended before r kept has =
+    ap (λ (names : NameTable). record { steps = r.steps ++ []; lines = r.lines ++ []; sites = r.sites ++ []; names = names }) has
+    ∙ rw (append-nil r.steps, append-nil r.lines, append-nil r.sites) refl
 
 -- steps that have names keep them once another one has appeared
 order_still : (b c : NameTable) (o : Order) → length b.threads ≤ length c.threads → length b.locks ≤ length c.locks → HasOrderNames b o → HasOrderNames c o

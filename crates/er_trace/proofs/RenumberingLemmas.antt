@@ -1,14 +1,15 @@
 -- A list of new numbers gives the number that stands for each old one.
-use Rattle.std.proofs.Common.{◌≡◌, ℕ, zero, suc, ◌+◌, ◌<◌, ◌≤◌, true, List, [], ◌∷◌, ◌++◌, map, take, length, get_or, Some, refl, ap, sym, ◌∙◌, arith}
+use Rattle.std.proofs.Common.{◌≡◌, ℕ, zero, suc, ◌+◌, ◌<◌, ◌≤◌, true, List, [], ◌∷◌, ◌++◌, map, take, length, get_or, Some, subst, refl, ap, sym, ◌∙◌, arith}
 use Rattle.std.specs.List.{AllByRecursion, slice_get}
 use Rattle.std.proofs.lemmas.List.{map-append, take_more}
 use Rattle.std.proofs.lemmas.List.Elements.{All-from_get_or, recursion_from_All}
 use Rattle.std.proofs.lemmas.Option.{slice_get_within, get_or_from_slice_get}
-use Rattle.er_trace.specs.Names.{is_known, number_of, with_name}
-use Rattle.er_trace.specs.Appended.{with_names, name_at, renumbered, renumbered_site}
+use Rattle.er_trace.specs.Names.{NameTable, is_known, number_of, with_name}
+use Rattle.er_trace.specs.Appended.{HasAll, with_names, with_table, name_at, renumbered, renumbered_site}
 use Rattle.er_trace.specs.Inner.Renumbering.{new_site}
+use Rattle.er_trace.proofs.NamesLemmas.{with_known}
 use Rattle.er_trace.proofs.NumberLemmas.{kept, again}
-use Rattle.er_trace.proofs.AppendedLemmas.{there, known_at, last, all_more}
+use Rattle.er_trace.proofs.AppendedLemmas.{still_there, there, known_at, last, all_more}
 
 mapped_at : (new old : List (List ℕ)) (n : ℕ) → n < length old → get_or (map (number_of new) old) n 0 ≡ number_of new (name_at old n)
 mapped_at new [] n below = absurd (omega (arith, below))
@@ -32,6 +33,29 @@ all_known : (a b : List (List ℕ)) → AllByRecursion (λ y. is_known (with_nam
 all_known a b =
     let P : List ℕ → Type 0 = λ y. is_known (with_names a b) y ≡ true in
     recursion_from_All P b (All-from_get_or P b [] (λ i below. there a b (name_at b i) (known_at b i below)))
+
+-- names that are there add nothing, and still don't once others have appeared
+adds_nothing : (a b : List (List ℕ)) → AllByRecursion (λ y. is_known a y ≡ true) b → with_names a b ≡ a
+adds_nothing a [] known = refl
+adds_nothing a (y ∷ b) known = ap (λ (names : List (List ℕ)). with_names names b) (with_known a y known.0) ∙ adds_nothing a b known.1
+
+still_known : (a c b : List (List ℕ)) → AllByRecursion (λ y. is_known a y ≡ true) b → AllByRecursion (λ y. is_known (with_names a c) y ≡ true) b
+still_known a c [] known = tt
+still_known a c (y ∷ b) known = (still_there a c y known.0, still_known a c b known.1)
+
+still_nothing : (a c b : List (List ℕ)) → with_names a b ≡ a → with_names (with_names a c) b ≡ with_names a c
+still_nothing a c b is =
+    adds_nothing (with_names a c) b (still_known a c b (subst (λ (names : List (List ℕ)). AllByRecursion (λ y. is_known names y ≡ true) b) is (all_known a b)))
+
+pub still_has_all : (names more kept : NameTable) → HasAll names kept → HasAll (with_table names more) kept
+still_has_all names more kept has =
+    let all = with_table names more in
+    ap (λ (t : List (List ℕ)). record { threads = t; locks = with_names all.locks kept.locks; sites = with_names all.sites kept.sites })
+    (still_nothing names.threads more.threads kept.threads (ap (λ (n : NameTable). n.threads) has))
+    ∙ ap (λ (l : List (List ℕ)). record { threads = all.threads; locks = l; sites = with_names all.sites kept.sites })
+    (still_nothing names.locks more.locks kept.locks (ap (λ (n : NameTable). n.locks) has))
+    ∙ ap (λ (s : List (List ℕ)). record { threads = all.threads; locks = all.locks; sites = s })
+    (still_nothing names.sites more.sites kept.sites (ap (λ (n : NameTable). n.sites) has))
 
 pub one_more : (a b : List (List ℕ)) (x : List ℕ)
     → map (number_of (with_names a (b ++ x ∷ []))) (b ++ x ∷ []) ≡ map (number_of (with_names a b)) b ++ number_of (with_names a b) x ∷ []

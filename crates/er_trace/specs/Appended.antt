@@ -19,6 +19,10 @@ abbrev pub with_table : NameTable → NameTable → NameTable
 with_table names more =
     record { threads = with_names names.threads more.threads; locks = with_names names.locks more.locks; sites = with_names names.sites more.sites }
 
+-- all of these have appeared already
+abbrev pub HasAll : NameTable → NameTable → Type 0
+HasAll names more = with_table names more ≡ names
+
 -- the name that has this number, or no byte if there is none
 abbrev pub name_at : List (List ℕ) → ℕ → List ℕ
 name_at names n = get_or names n []

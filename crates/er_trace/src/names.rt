@@ -1,6 +1,6 @@
 //! Numbers for the names of threads, locks and sites.
 ghost use Rattle.std.specs.Prelude.{◌≡◌, ◌+◌, ◌-◌, ◌<◌, ◌≤◌, ◌++◌, ◌∷◌, ℕ, List, [], length, drop, map, Some, slice_get, IsTrue, IsOk, IsErr, IfOk, IfSome, IfNone, OnOk, OnErr, true, false};
-ghost use Rattle.er_trace.specs.Appended.{AreNumbers, with_names, with_table};
+ghost use Rattle.er_trace.specs.Appended.{AreNumbers, HasAll, with_names, with_table};
 ghost use Rattle.er_trace.specs.Inner.Recent.{Knows, bytes_of};
 ghost use Rattle.er_trace.specs.Inner.Renumbering.{HasMore};
 ghost use Rattle.er_trace.specs.Names.{is_known, number_of, with_name, no_names, most_names, IsPlain};
@@ -118,6 +118,9 @@ impl Model for CachedNames {
 }
 
 impl CachedNames {
+    /// So many names are soon looked up.
+    const FEW: usize = 1024;
+
     fn new(alloc: Global, keys: NameKeys) -> Self
         ensures { result ≡ [] }
     {
@@ -165,6 +168,40 @@ impl CachedNames {
         ensures within { IfSome result (λ number. number < most_names) }
     {
         self.recent.find(name)
+    }
+
+    /// The place of a name that has appeared.
+    #[inline(always)]
+    fn find(&self, name: &str) -> Option<usize>
+        ensures some { IfSome result (λ n. (n ≡ number_of self.now name.now) × (is_known self.now name.now ≡ true)) }
+        ensures none { IfNone result (is_known self.now name.now ≡ false) }
+        ensures within { IfSome result (λ n. n < most_names) }
+    {
+        if let Some(short) = ShortName::of(name.as_bytes())
+            && let Some(number) = self.plain(short)
+        {
+            return Some(number as usize);
+        }
+        let hint = self.hints.hint(ending_of(name));
+        if self.list.is_at(hint, name) {
+            return Some(hint);
+        }
+        self.list.find(name)
+    }
+
+    /// Whether those names are few and have all appeared here.
+    fn has_few(&self, others: &CachedNames) -> bool
+        ensures { IsTrue result → with_names self.now others.now ≡ self.now }
+    {
+        if others.list.len() > CachedNames::FEW {
+            return false;
+        }
+        for at in 0..others.list.len() {
+            let Some(_known) = self.find(others.list.name(at)) else {
+                return false;
+            };
+        }
+        true
     }
 
     /// The numbers here of all those names, by their numbers there. Those of them that are new come behind, in their order.
@@ -271,16 +308,7 @@ impl Names {
         ensures some { IfSome result (λ thread. (thread ≡ number_of self.now.threads name.now) × (is_known self.now.threads name.now ≡ true)) }
         ensures none { IfNone result (is_known self.now.threads name.now ≡ false) }
     {
-        if let Some(short) = ShortName::of(name.as_bytes())
-            && let Some(number) = self.threads.plain(short)
-        {
-            return Some(ThreadId::new(number));
-        }
-        let hint = self.threads.hints.hint(ending_of(name));
-        if self.threads.list.is_at(hint, name) {
-            return Some(ThreadId::new(hint as u32));
-        }
-        let number = self.threads.list.find(name)?;
+        let number = self.threads.find(name)?;
         Some(ThreadId::new(number as u32))
     }
 
@@ -311,6 +339,15 @@ impl Names {
     {
         let number = self.sites.plain(ShortName::at_end(bytes, len)?)?;
         Some(Site::new(number + 1))
+    }
+
+    /// Whether these names are few and have all appeared in those.
+    pub(crate) fn are_few_of(&self, others: &Names) -> bool
+        ensures { IsTrue result → HasAll others.now self.now }
+    {
+        others.threads.has_few(&self.threads)
+            && others.locks.has_few(&self.locks)
+            && others.sites.has_few(&self.sites)
     }
 
     /// The numbers here of all those names, by their numbers there. Those of them that are new come behind, in their order.

@@ -1,6 +1,6 @@
 //! `Trace`, steps with their lines, sites and names.
 ghost use Rattle.std.specs.Prelude.{◌≡◌, ◌+◌, ◌^◌, ◌<◌, ◌≤◌, All, length, map, IsTrue, IsOk, IsErr, IfOk, OnOk, OnErr, false};
-ghost use Rattle.er_trace.specs.Appended.{AreNumbers, renumbered_site, renumbered_step, with_table};
+ghost use Rattle.er_trace.specs.Appended.{AreNumbers, HasAll, renumbered_site, renumbered_step, with_table};
 ghost use Rattle.er_trace.specs.Names.{NameTable, is_known, number_of, most_names};
 ghost use Rattle.er_trace.specs.Trace.{IsNamed, HasSiteName, no_steps, with_step, with_steps, without_steps, with_thread_name, with_lock_name, with_site_name};
 
@@ -187,14 +187,16 @@ impl Trace {
         count_behind(before, lines.as_mut_slice());
     }
 
-    /// Forgets the steps, their lines and sites, and all names. It keeps the room for as many steps. Names are hashed by these keys from then on.
-    pub fn restart(&mut self, alloc: Global, keys: NameKeys)
-        ensures { self.new ≡ no_steps }
+    /// Forgets the steps, their lines and sites. It keeps the room for as many steps, and the names if they are few and have all appeared in
+    /// those. Otherwise it forgets them, and names are hashed by these keys from then on.
+    pub fn restart(&mut self, others: &Names, alloc: Global, keys: NameKeys)
+        ensures empty { self.new ≡ record no_steps { names = self.new.names } }
+        ensures known { HasAll others.now self.new.names }
     {
-        self.steps.clear();
-        self.lines.clear();
-        self.sites.clear();
-        drop(mem::replace(&mut self.names, Names::keyed(alloc, keys)));
+        self.clear();
+        if !self.names.are_few_of(others) {
+            drop(mem::replace(&mut self.names, Names::keyed(alloc, keys)));
+        }
     }
 
     /// Forgets the steps, their lines and their sites. It keeps the names, and the room for as many steps.

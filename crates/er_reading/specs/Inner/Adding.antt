@@ -10,8 +10,8 @@ use Rattle.er_trace.specs.Names.{NameTable}
 use Rattle.er_trace.specs.Trace.{Recording}
 use Rattle.er_reading.specs.Pieces.{ArePiecesOf}
 
--- the reader has come to event lines, and no thread is idle; the pieces were read of the bytes in front, which are within its limit
-pub record StandInFront (reader : Reached) (pieces : List ReadPiece) : Type 0 where
+-- the reader has come to event lines, and no thread is idle; the pieces were read, behind these names, of the bytes in front, which are within its limit
+pub record StandInFront (names : NameTable) (reader : Reached) (pieces : List ReadPiece) : Type 0 where
   pub version : Version
   pub stage : reader.stage ≡ Events version
   pub idle : reader.idle ≡ []
@@ -19,7 +19,7 @@ pub record StandInFront (reader : Reached) (pieces : List ReadPiece) : Type 0 wh
   pub more : List ℕ
   pub ahead : reader.place.ahead ≡ front ++ more
   pub within : reader.place.start + length front ≤ reader.place.limit
-  pub read : ArePiecesOf version front pieces
+  pub read : ArePiecesOf version names front pieces
 
 -- all of the piece was read
 abbrev pub IsWhole : ReadPiece → Type 0
@@ -65,7 +65,7 @@ AreReady before names (p ∷ ps) (q ∷ qs) = IsReady before (with_table names p
 pub record MayAllBeAdded (reader : Reached) (trace : Recording) (pieces : List ReadPiece) : Type 0 where
   pub read : List ReadPiece
   pub names : NameTable
-  pub front : StandInFront reader read
+  pub front : StandInFront names reader read
   pub whole : All IsWhole read
   pub ready : AreReady reader.place.number names read pieces
   pub named : trace.names ≡ names_behind names read

@@ -1,17 +1,19 @@
 -- The pieces in front, of which those up to the first broken one are added: their names, their numbers, their steps.
-use Rattle.std.proofs.Common.{◌≤◌, length, arith}
+use Rattle.std.proofs.Common.{◌≤◌, length, subst, arith}
 use Rattle.std.proofs.lemmas.Bool.{eqb-true}
 use Rattle.er_text.proofs.GrowthLemmas.{grows_not, grows_on}
 use Rattle.er_text.specs.Batches.{HasRead}
 use Rattle.er_reading.proofs.AddedLemmas.{all_can, may_add, names_grow, same_first, some_fit, told_some}
+use Rattle.er_trace.specs.Names.{NameTable}
 use Rattle.er_reading.specs.Inner.Adding.{StandInFront}
+use Rattle.er_reading.specs.Pieces.{ArePiecesOf}
 use Rattle.er_reading.proofs.adding.add_ahead.Goals as goal
 
 pub enter_pieces-requires : goal.enter_pieces-requires
 enter_pieces-requires g c =
     let lines = c.args.lines.now in
     let pieces = c.read_pieces.new.pieces in
-    let front : StandInFront lines pieces = record {
+    let front : StandInFront c.args.trace.now.names lines pieces = record {
       version = c.in-Some.version;
       stage = c.in-Some.ensures.0;
       idle = c.in-Some.ensures.1;
@@ -19,16 +21,16 @@ enter_pieces-requires g c =
       more = c.ahead-bytes.ensures.front.0;
       ahead = c.ahead-bytes.ensures.front.1;
       within = c.ahead-bytes.ensures.within;
-      read = c.read_pieces.ensures.pieces;
+      read = subst (λ (names : NameTable). ArePiecesOf c.in-Some.version names c.ahead-bytes.result.now pieces) c.names.ensures c.read_pieces.ensures.pieces;
     } in
-    some_fit lines pieces c.split_at_mut-whole.result.0.now c.whole_count-count.result c.lines_before-before.result front
+    some_fit c.args.trace.now lines pieces c.split_at_mut-whole.result.0.now c.whole_count-count.result c.lines_before-before.result front
     c.split_at_mut-whole.ensures.front c.whole_count-count.ensures.whole c.lines_before-before.ensures.bound c.lines_before-before.ensures.most_limit
 
 pub number_pieces-requires-after_bounds : goal.number_pieces-requires-after_bounds
 number_pieces-requires-after_bounds g c κs within =
     let lines = c.args.lines.now in
     let pieces = c.read_pieces.new.pieces in
-    let front : StandInFront lines pieces = record {
+    let front : StandInFront c.args.trace.now.names lines pieces = record {
       version = c.in-Some.version;
       stage = c.in-Some.ensures.0;
       idle = c.in-Some.ensures.1;
@@ -36,17 +38,17 @@ number_pieces-requires-after_bounds g c κs within =
       more = c.ahead-bytes.ensures.front.0;
       ahead = c.ahead-bytes.ensures.front.1;
       within = c.ahead-bytes.ensures.within;
-      read = c.read_pieces.ensures.pieces;
+      read = subst (λ (names : NameTable). ArePiecesOf c.in-Some.version names c.ahead-bytes.result.now pieces) c.names.ensures c.read_pieces.ensures.pieces;
     } in
     all_can c.lines_before-before.result c.args.trace.now.names c.split_at_mut-whole.result.0.now c.enter_pieces.new.pieces c.in_ok-enter_pieces.ensures.entered
-    (some_fit lines pieces c.split_at_mut-whole.result.0.now c.whole_count-count.result c.lines_before-before.result front
+    (some_fit c.args.trace.now lines pieces c.split_at_mut-whole.result.0.now c.whole_count-count.result c.lines_before-before.result front
     c.split_at_mut-whole.ensures.front c.whole_count-count.ensures.whole c.lines_before-before.ensures.bound c.lines_before-before.ensures.most_limit)
 
 pub add_numbered-requires-clause-front : goal.add_numbered-requires-clause-front
 add_numbered-requires-clause-front g c =
     let lines = c.args.lines.now in
     let pieces = c.read_pieces.new.pieces in
-    let front : StandInFront lines pieces = record {
+    let front : StandInFront c.args.trace.now.names lines pieces = record {
       version = c.in-Some.version;
       stage = c.in-Some.ensures.0;
       idle = c.in-Some.ensures.1;
@@ -54,17 +56,17 @@ add_numbered-requires-clause-front g c =
       more = c.ahead-bytes.ensures.front.0;
       ahead = c.ahead-bytes.ensures.front.1;
       within = c.ahead-bytes.ensures.within;
-      read = c.read_pieces.ensures.pieces;
+      read = subst (λ (names : NameTable). ArePiecesOf c.in-Some.version names c.ahead-bytes.result.now pieces) c.names.ensures c.read_pieces.ensures.pieces;
     } in
-    may_add lines pieces c.split_at_mut-whole.result.0.now c.whole_count-count.result c.lines_before-before.result front
-    c.split_at_mut-whole.ensures.front c.whole_count-count.ensures.whole c.args.trace.now c.enter_pieces.new.trace c.enter_pieces.new.pieces c.number_pieces.new.pieces
+    may_add c.args.trace.now lines pieces c.split_at_mut-whole.result.0.now c.whole_count-count.result c.lines_before-before.result front
+    c.split_at_mut-whole.ensures.front c.whole_count-count.ensures.whole c.enter_pieces.new.trace c.enter_pieces.new.pieces c.number_pieces.new.pieces
     c.lines_before-before.ensures.value c.in_ok-enter_pieces.ensures.entered c.number_pieces.ensures c.in_ok-enter_pieces.ensures.names
 
 pub returns-clause-told : goal.returns-clause-told
 returns-clause-told g c = λ text steps numbers sites known read.
     let lines = c.args.lines.now in
     let pieces = c.read_pieces.new.pieces in
-    let front : StandInFront lines pieces = record {
+    let front : StandInFront c.args.trace.now.names lines pieces = record {
       version = c.in-Some.version;
       stage = c.in-Some.ensures.0;
       idle = c.in-Some.ensures.1;
@@ -72,10 +74,10 @@ returns-clause-told g c = λ text steps numbers sites known read.
       more = c.ahead-bytes.ensures.front.0;
       ahead = c.ahead-bytes.ensures.front.1;
       within = c.ahead-bytes.ensures.within;
-      read = c.read_pieces.ensures.pieces;
+      read = subst (λ (names : NameTable). ArePiecesOf c.in-Some.version names c.ahead-bytes.result.now pieces) c.names.ensures c.read_pieces.ensures.pieces;
     } in
-    told_some lines pieces c.split_at_mut-whole.result.0.now c.whole_count-count.result c.lines_before-before.result front
-    c.split_at_mut-whole.ensures.front c.whole_count-count.ensures.whole text steps numbers sites known c.args.trace.now c.enter_pieces.new.trace c.enter_pieces.new.pieces
+    told_some c.args.trace.now lines pieces c.split_at_mut-whole.result.0.now c.whole_count-count.result c.lines_before-before.result front
+    c.split_at_mut-whole.ensures.front c.whole_count-count.ensures.whole text steps numbers sites known c.enter_pieces.new.trace c.enter_pieces.new.pieces
     c.number_pieces.new.pieces (HasRead text steps numbers sites c.add_numbered.new.lines known c.add_numbered.new.trace) c.lines_before-before.ensures.value
     c.in_ok-enter_pieces.ensures.entered c.number_pieces.ensures c.in_ok-enter_pieces.ensures.names
     (λ names read front whole ready named had. c.in_ok-add_numbered.ensures.told text steps numbers sites known names read front whole ready named had) read

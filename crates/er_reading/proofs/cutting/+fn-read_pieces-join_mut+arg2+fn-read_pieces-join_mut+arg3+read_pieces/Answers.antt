@@ -9,12 +9,12 @@ pub returns-clause-pieces : goal.returns-clause-pieces
 returns-clause-pieces g t c =
     let a = c.split_at.result.0.now in
     let b = c.split_at.result.1.now in
-    let front : ArePiecesOf c.args.version a c.first-1.given.0 = search rules in
-    let back : ArePiecesOf c.args.version b c.second-1.given.0 = search rules in
+    let front : ArePiecesOf c.args.version c.args.names.now a c.first-1.given.0 = search rules in
+    let back : ArePiecesOf c.args.version c.args.names.now b c.second-1.given.0 = search rules in
     let n = c.front_len.result in
     let bytes = c.args.bytes.now in
     let whole : a ++ b ≡ bytes = ap (λ (l : List ℕ). l ++ b) c.split_at.ensures.front ∙ ap (λ (l : List ℕ). take n bytes ++ l) c.split_at.ensures.back ∙ take-append-drop n bytes in
-    subst (λ (bytes : List ℕ). ArePiecesOf c.args.version bytes (c.first-1.given.0 ++ c.second-1.given.0)) whole (pieces_append c.args.version a b _ _ front back)
+    subst (λ (bytes : List ℕ). ArePiecesOf c.args.version c.args.names.now bytes (c.first-1.given.0 ++ c.second-1.given.0)) whole (pieces_append c.args.version c.args.names.now a b _ _ front back)
 
 pub returns-clause-first : goal.returns-clause-first
 returns-clause-first g t c = λ some.

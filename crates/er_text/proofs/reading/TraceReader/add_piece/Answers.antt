@@ -14,7 +14,7 @@ use Rattle.er_text.proofs.reading.TraceReader.add_piece.Goals.{then-self, else-s
 
 pub pass_lines-requires-clause-lines : goal.pass_lines-requires-clause-lines
 pass_lines-requires-clause-lines c =
-    let few = piece_few c.args.self.now c.requires.read c.requires.front c.requires.whole in
+    let few = piece_few c.requires.before c.args.self.now c.requires.read c.requires.front c.requires.whole in
     let ready = c.requires.ready in
     let same : c.args.piece.now.lines ≤ c.args.piece.now.len = omega (arith, few, ready.lines, ready.len) in
     subst (λ (p : ReadPiece). p.lines ≤ p.len) (sym c.piece.view_is) same
@@ -23,7 +23,7 @@ pub comment_behind-self-inside-requires : goal.comment_behind-self-inside-requir
 comment_behind-self-inside-requires c =
     let inside : Reached = record { place = c.self.inside.lines; stage = c.self.inside.header.stage; idle = c.self.inside.header.idle; tail = record { cut = c.self.inside.cut; comment = c.self.inside.header.comment } } in
     let read = c.requires.read in
-    let fits = comment_fits inside read c.number-line.result (subst (λ (r : Reached). StandsInFront r read) (sym c.self.view_is) c.requires.front) c.requires.whole c.number-line.ensures.bound c.number-line.ensures.most_limit in
+    let fits = comment_fits c.requires.before inside read c.number-line.result (subst (λ (r : Reached). StandsInFront c.requires.before r read) (sym c.self.view_is) c.requires.front) c.requires.whole c.number-line.ensures.bound c.number-line.ensures.most_limit in
     let same : c.args.piece.now.comment ≡ read.comment = c.requires.ready.comment in
     subst (λ (p : ReadPiece). IfSome p.comment (λ lost. c.number-line.result + lost.line < 2 ^ 64)) (sym c.piece.view_is)
     (subst (λ (l : Option Lost). IfSome l (λ lost. c.number-line.result + lost.line < 2 ^ 64)) (sym same) fits)
@@ -50,5 +50,5 @@ returns-clause-told c = λ text steps lines sites known names read front whole r
     ∙ ap (λ (l : Option Lost). comment_behind inside.place.number inside.tail.comment l) known_ready.comment in
     let tail : Tail = record { cut = c.if-self.self; comment = c.comment_behind-self-inside.result } in
     added_gives text steps lines sites inside c.pass_lines.new.self read inside.place.number tail known t u
-    (subst (λ (r : Reached). StandsInFront r read) (sym c.self.view_is) front) whole refl told passed cut comment
+    (subst (λ (r : Reached). StandsInFront names r read) (sym c.self.view_is) front) whole refl told passed cut comment
     (subst (λ (r : Reached). HasRead text steps lines sites r known t) (sym c.self.view_is) had)
