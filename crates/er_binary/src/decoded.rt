@@ -53,12 +53,18 @@ impl<R> Decoded<R> {
     ghost use Rattle.er_binary.specs.Decoded.{IsFresh, source_of};
 
     /// A reader of what the other one gives.
-    #[rattlefmt::skip]
     pub fn new(alloc: Global, inner: R) -> Decoded<R>
         ensures source { source_of result ≡ inner }
         ensures fresh { IsFresh result }
     {
-        Decoded { inner, alloc, form: Form::Unknown, first: [0; 8], held: 0, given: 0 }
+        Decoded {
+            inner,
+            alloc,
+            form: Form::Unknown,
+            first: [0; 8],
+            held: 0,
+            given: 0,
+        }
     }
 
     /// Whether it has read the beginning of a binary trace.
@@ -87,8 +93,11 @@ impl<R: Read> Decoded<R> {
     ghost use Rattle.er_binary.specs.declared.decoded.Form.TheVariants as form;
 
     /// Reads as [`Read::read`] does. The listener hears each record whose text comes next.
-    #[rattlefmt::skip]
-    pub fn read_with<L: Listener>(&mut self, buffer: &mut [u8], listener: &mut L) -> io::Result<usize>
+    pub fn read_with<L: Listener>(
+        &mut self,
+        buffer: &mut [u8],
+        listener: &mut L,
+    ) -> io::Result<usize>
         ensures bound { ReadsAtMost result buffer.new }
         ensures bytes { ReadConsumes (option_map (to_come self.old) (R.remaining (source_of self.old))) (option_map (to_come self.new) (R.remaining (source_of self.new))) result buffer.new }
     {

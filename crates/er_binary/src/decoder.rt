@@ -81,13 +81,19 @@ impl Decoder {
     ghost use Rattle.er_binary.specs.declared.decoder.Phase.TheVariants as phase;
 
     /// A decoder behind the first 8 bytes of a trace.
-    #[rattlefmt::skip]
     pub(crate) fn new(alloc: Global) -> Result<Decoder, AllocError>
         ensures { IfOk result (λ d. (bytes : List ℕ) → still d bytes ≡ text_behind bytes) }
     {
         Ok(Decoder {
             state: State::new(alloc),
-            spot: Spot { block: 0, start: 8, at: 0, found: 0, count: 0, sum: 0 },
+            spot: Spot {
+                block: 0,
+                start: 8,
+                at: 0,
+                found: 0,
+                count: 0,
+                sum: 0,
+            },
             phase: Phase::Header,
             header: [0; 16],
             header_held: 0,
@@ -96,7 +102,12 @@ impl Decoder {
             next: 0,
             text: Vec::from_slice(alloc, b"eraser trace 3\n")?,
             given: 0,
-            words: Words { writes: false, node: 0, at: 0, end: 0 },
+            words: Words {
+                writes: false,
+                node: 0,
+                at: 0,
+                end: 0,
+            },
             is_taken: false,
         })
     }
@@ -110,8 +121,12 @@ impl Decoder {
     }
 
     /// Gives text, and reads on where it must. No byte means that the text ended, or that the buffer has no room.
-    #[rattlefmt::skip]
-    pub(crate) fn read<R: Read, L: Listener>(&mut self, reader: &mut R, buffer: &mut [u8], listener: &mut L) -> io::Result<usize>
+    pub(crate) fn read<R: Read, L: Listener>(
+        &mut self,
+        reader: &mut R,
+        buffer: &mut [u8],
+        listener: &mut L,
+    ) -> io::Result<usize>
         ensures bound { ReadsAtMost result buffer.new }
         ensures bytes { ReadConsumes (option_map (still self.old) (R.remaining reader.old)) (option_map (still self.new) (R.remaining reader.new)) result buffer.new }
     {

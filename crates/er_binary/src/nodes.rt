@@ -17,8 +17,11 @@ pub(crate) struct Node {
     pub(crate) place: u32,
 }
 
-#[rattlefmt::skip]
-const NO_NODE: Node = Node { caller: 0, shown: 0, place: 0 };
+const NO_NODE: Node = Node {
+    caller: 0,
+    shown: 0,
+    place: 0,
+};
 
 /// Nodes, numbered from 1.
 #[derive(Drop)]

@@ -10,11 +10,33 @@ use Kind::*;
 pub(crate) const ADDRESS_END: u64 = 1 << 48;
 
 /// What a record is of, if it isn't an access.
-#[rattlefmt::skip]
 #[derive(Clone, Copy)]
 pub enum Kind {
-    Thread, Node, Lock, Unlock, ReadLock, ReadUnlock, FailedTry, Signal, Await, Start, Join, IgnoreOn,
-    IgnoreOff, Reuse, Show, Level, Flow, ThreadName, LockName, Place, NewNode, Note, Fact, Lost, End,
+    Thread,
+    Node,
+    Lock,
+    Unlock,
+    ReadLock,
+    ReadUnlock,
+    FailedTry,
+    Signal,
+    Await,
+    Start,
+    Join,
+    IgnoreOn,
+    IgnoreOff,
+    Reuse,
+    Show,
+    Level,
+    Flow,
+    ThreadName,
+    LockName,
+    Place,
+    NewNode,
+    Note,
+    Fact,
+    Lost,
+    End,
 }
 
 /// An access: how many bytes, how far from the last address modulo 2^48, and its node if that is another than before.
@@ -74,7 +96,6 @@ pub fn record_at(bytes: &[u8]) -> Option<Head>
     }
 }
 
-#[rattlefmt::skip]
 #[inline(always)]
 fn access_at(tag: u8, bytes: &[u8]) -> Option<Head>
     ensures value { result ≡ access_at tag bytes.now }
@@ -96,7 +117,11 @@ fn access_at(tag: u8, bytes: &[u8]) -> Option<Head>
         writes: tag >= 64,
         size,
         distance: signed(tag, number(&bytes[distance_at..node_at])),
-        node: if tag % 4 == 0 { None } else { Some(number(&bytes[node_at..len])) },
+        node: if tag % 4 == 0 {
+            None
+        } else {
+            Some(number(&bytes[node_at..len]))
+        },
     });
     Some(Head { says, len })
 }

@@ -62,12 +62,22 @@ impl Words {
 }
 
 impl State {
-    #[rattlefmt::skip]
     pub(crate) fn new(alloc: Global) -> State
         ensures { result ≡ first_state }
     {
         let (threads, locks, places) = (Names::new(alloc), Names::new(alloc), Names::new(alloc));
-        State { threads, locks, places, nodes: Nodes::new(alloc), thread: None, node: 0, last: [0; 256], events: 0, lost: 0, ended: false }
+        State {
+            threads,
+            locks,
+            places,
+            nodes: Nodes::new(alloc),
+            thread: None,
+            node: 0,
+            last: [0; 256],
+            events: 0,
+            lost: 0,
+            ended: false,
+        }
     }
 
     pub(crate) fn begin_block(&mut self)
@@ -121,7 +131,6 @@ impl State {
         }
     }
 
-    #[rattlefmt::skip]
     fn node_by(&self, caller: u64, body: &[u8]) -> TreeNode
         requires { length body.now ≡ 5 }
         ensures { result ≡ node_by self.now caller body.now }
@@ -131,7 +140,11 @@ impl State {
         } else {
             self.nodes.len().wrapping_add(1)
         };
-        TreeNode { caller, shown, place: number(&body[0..4]) as u32 }
+        TreeNode {
+            caller,
+            shown,
+            place: number(&body[0..4]) as u32,
+        }
     }
 
     /// Adds another record that may come next. An error changes nothing.
@@ -182,8 +195,14 @@ impl State {
         }
     }
 
-    #[rattlefmt::skip]
-    fn take_other(&mut self, out: &mut Vec<u8>, kind: Kind, number: u64, len: usize, rest: &[u8]) -> Taking
+    fn take_other(
+        &mut self,
+        out: &mut Vec<u8>,
+        kind: Kind,
+        number: u64,
+        len: usize,
+        rest: &[u8],
+    ) -> Taking
         requires { len + length rest.now < 2 ^ 64 }
         ensures taken { IfOk result (λ n. HasTaken (take_said self.old len rest.now (Record.Other kind number)) out.old.items out.new.items self.old self.new n) }
         ensures len { IfOk result (λ n. IfSome n (λ k. (len ≤ k) × (k ≤ len + length rest.now))) }
@@ -206,7 +225,6 @@ impl State {
 
     /// The words of an access, if it may come.
     #[inline(always)]
-    #[rattlefmt::skip]
     pub(crate) fn words_of(&self, access: Access) -> Option<Words>
         requires some { 1 ≤ access.size }
         requires size { access.size ≤ 16 }
@@ -219,7 +237,12 @@ impl State {
         if !(self.thread.is_some() && node <= self.nodes.len() && is_below) {
             return None;
         }
-        Some(Words { writes: access.writes, node, at, end: (at + access.size - 1) / 4 + 1 })
+        Some(Words {
+            writes: access.writes,
+            node,
+            at,
+            end: (at + access.size - 1) / 4 + 1,
+        })
     }
 
     /// Goes on behind the access of these words.
@@ -234,14 +257,18 @@ impl State {
 
     /// The line of the first of some words. Split for the prover: there is none where a name isn't known, and all are.
     #[inline(always)]
-    #[rattlefmt::skip]
     pub(crate) fn line_of(&self, words: &Words) -> Option<ReadyLine>
         requires some { words.now.at / 4 < words.now.end }
         requires end { words.now.end ≤ 2 ^ 46 }
         ensures text { IfSome result (λ line. AreNamed self.now → words_text self.now words.now ≡ line_text self.now line ++ words_text self.now (behind_first words.now)) }
         ensures right { IfSome result (λ line. AreNamed self.now → IsRight self.now line) }
     {
-        Some(ReadyLine { verb: words.verb(), address: words.at / 4 * 4, thread: self.thread?, name: self.known_site(words.node)? })
+        Some(ReadyLine {
+            verb: words.verb(),
+            address: words.at / 4 * 4,
+            thread: self.thread?,
+            name: self.known_site(words.node)?,
+        })
     }
 
     // The place that is shown for a node. None if its name isn't known; of node 0 there is none.
@@ -257,7 +284,6 @@ impl State {
 
     /// The line of a lock event that may come. Another record has none.
     #[inline(always)]
-    #[rattlefmt::skip]
     pub(crate) fn lock_line(&self, kind: Kind, lock: u64) -> Option<ReadyLine>
         ensures taken { IfSome result (λ line. (len : ℕ) (rest : List ℕ) → take_said self.now len rest (said.Other kind lock) ≡ Some (record { text = line_text self.now line; state = counted self.now; len = len })) }
         ensures right { IfSome result (λ line. AreNamed self.now → IsRight self.now line) }
@@ -267,7 +293,12 @@ impl State {
         if lock >= self.locks.len() {
             return None;
         }
-        Some(ReadyLine { verb, address: 0, thread, name: Some(lock) })
+        Some(ReadyLine {
+            verb,
+            address: 0,
+            thread,
+            name: Some(lock),
+        })
     }
 
     /// Goes on at a thread or a node that there is. Another record changes nothing.

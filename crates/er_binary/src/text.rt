@@ -50,13 +50,21 @@ impl State {
     }
 
     /// Puts the text of another record that comes next.
-    #[rattlefmt::skip]
     pub(crate) fn put_record(&self, out: &mut Vec<u8>, kind: Kind, number: u64, body: &[u8]) -> Put
         requires { length body.now ≡ body_len kind number }
         ensures { OnOk result (out.new.items ≡ out.old.items ++ text_of self.now kind number body.now) }
     {
         match kind {
-            Thread | Node | FailedTry | Flow | ThreadName | LockName | Place | NewNode | Fact | Lost => Ok(()),
+            Thread
+            | Node
+            | FailedTry
+            | Flow
+            | ThreadName
+            | LockName
+            | Place
+            | NewNode
+            | Fact
+            | Lost => Ok(()),
             Note => {
                 out.extend_from_slice(b"# ")?;
                 out.extend_from_slice(body)?;
