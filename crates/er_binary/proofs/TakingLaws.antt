@@ -1,12 +1,13 @@
 -- A decoder that took a line, and one that made the text of its words.
 use Rattle.std.proofs.Common.{◌≡◌, ℕ, ◌+◌, ◌*◌, ◌<◌, ◌≤◌, true, zero, suc, List, ◌++◌, length, drop, vec_items, vec_len, Some, refl, sym, ap, ◌∙◌, append_assoc}
+use Rattle.er_lines.specs.Ready.{line_text}
 use Rattle.er_lines.specs.declared.ready.ReadyLine.{ReadyLine}
 use Rattle.er_binary.specs.Inner.Decoders.{HasGiven, IsGiven, all_records, still, undecoded}
-use Rattle.er_binary.specs.Inner.Words.{line_text, passed, words_at, words_text}
+use Rattle.er_binary.specs.Inner.Words.{passed, words_at, words_text}
 use Rattle.er_binary.specs.Meaning.{Taken, past, take_record, take_said}
 use Rattle.er_binary.specs.Numbers.{address_word, plus}
 use Rattle.er_binary.specs.Records.{record_at}
-use Rattle.er_binary.specs.States.{after_access, is_access}
+use Rattle.er_binary.specs.States.{after_access, is_access, names_in}
 use Rattle.er_binary.specs.Texts.{access_lines, access_text, feed, site, thread_does}
 use Rattle.er_binary.specs.declared.decoder.Decoder.{Decoder}
 use Rattle.er_binary.specs.declared.decoder.Phase.TheVariants as phase
@@ -19,14 +20,14 @@ use Rattle.er_binary.proofs.DecoderLaws.{given_is, record_is, words_left}
 use Rattle.er_binary.proofs.MeaningLaws.{record_some, take_some}
 
 -- a decoder whose text is given took a word's line
-pub word_taken : (d e : Decoder) (line : ReadyLine) (rest : List ℕ) → HasGiven d → HasGiven e → words_text d.state d.words ≡ line_text d.state line ++ words_text e.state e.words
-    → undecoded e.phase e rest ≡ undecoded d.phase d rest → still d rest ≡ line_text d.state line ++ still e rest
+pub word_taken : (d e : Decoder) (line : ReadyLine) (rest : List ℕ) → HasGiven d → HasGiven e → words_text d.state d.words ≡ line_text (names_in d.state) line ++ words_text e.state e.words
+    → undecoded e.phase e rest ≡ undecoded d.phase d rest → still d rest ≡ line_text (names_in d.state) line ++ still e rest
 word_taken d e line rest given done one same =
     words_left d rest given
     ∙ ap (λ (t : List ℕ). t ++ undecoded d.phase d rest) one
-    ∙ append_assoc (line_text d.state line) (words_text e.state e.words) (undecoded d.phase d rest)
-    ∙ ap (λ (t : List ℕ). line_text d.state line ++ (words_text e.state e.words ++ t)) (sym same)
-    ∙ ap (λ (t : List ℕ). line_text d.state line ++ t) (sym (words_left e rest done))
+    ∙ append_assoc (line_text (names_in d.state) line) (words_text e.state e.words) (undecoded d.phase d rest)
+    ∙ ap (λ (t : List ℕ). line_text (names_in d.state) line ++ (words_text e.state e.words ++ t)) (sym same)
+    ∙ ap (λ (t : List ℕ). line_text (names_in d.state) line ++ t) (sym (words_left e rest done))
 
 -- the words' text doesn't change behind their access
 passed_lines : (s : State) (w : Words) (verb : List ℕ) (node first count : ℕ) → access_lines (passed s w) verb node first count ≡ access_lines s verb node first count

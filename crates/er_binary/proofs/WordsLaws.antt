@@ -1,17 +1,21 @@
 -- Lines that are taken of words and of lock events.
-use Rattle.std.proofs.Common.{◌≡◌, ◌==◌, ◌&&◌, ℕ, ◌+◌, ◌-◌, ◌*◌, ◌/◌, ◌%◌, ◌^◌, ◌<◌, Bool, true, false, nat_lt, List, [], ◌∷◌, ◌++◌, length, codes, Option, Some, IfSome, refl, sym, ap, subst, ◌∙◌, arith, append_assoc, if◌then◌else◌, None, length-append}
+use Rattle.std.proofs.Common.{◌≡◌, ◌==◌, ◌&&◌, ℕ, zero, suc, ◌+◌, ◌-◌, ◌*◌, ◌/◌, ◌%◌, ◌^◌, ◌<◌, Bool, true, false, nat_lt, List, [], ◌∷◌, ◌++◌, length, codes, Option, Some, IfSome, refl, sym, ap, subst, ◌∙◌, arith, append_assoc, if◌then◌else◌, None, length-append}
 use Rattle.std.proofs.lemmas.Bool.Decides.{nat_tests}
 use Rattle.std.proofs.lemmas.List.Folds.{list_all_at}
 use Rattle.std.specs.List.{list_all}
 use Rattle.er_lines.specs.Naming.{is_name, is_lock_name}
-use Rattle.er_lines.specs.Ready.{is_ready, name_word, ready_text}
+use Rattle.er_lines.specs.Lines.{has_bytes}
+use Rattle.er_lines.specs.Ready.{IsRight, KeepsNames, is_ready, kind_behind, line_text, name_by, name_word, operand_name, ready_text, thread_name}
+use Rattle.er_lines.specs.declared.ready.NameKind.{NameKind}
+use Rattle.er_lines.specs.declared.ready.NameKind.TheVariants as names
+use Rattle.er_lines.specs.declared.ready.ReadyLine.{ReadyLine}
 use Rattle.er_lines.specs.declared.ready.ReadyVerb.{ReadyVerb}
 use Rattle.er_lines.specs.declared.ready.ReadyVerb.TheVariants as does
-use Rattle.er_binary.specs.Inner.Words.{AreNamed, IsRight, IsSite, behind_first, counted, kind_for, line_text, name_by, verb_for, words_text}
+use Rattle.er_binary.specs.Inner.Words.{AreNamed, IsSite, behind_first, counted, kind_for, passed, verb_for, words_text}
 use Rattle.er_binary.specs.Meaning.{take_said}
 use Rattle.er_binary.specs.declared.records.Record.TheVariants as said
 use Rattle.er_binary.specs.Numbers.{address_word, name_at}
-use Rattle.er_binary.specs.States.{after, is_place, is_right}
+use Rattle.er_binary.specs.States.{after, is_place, is_right, names_in}
 use Rattle.er_binary.specs.declared.records.Kind.{Kind}
 use Rattle.er_binary.specs.declared.records.Kind.TheVariants as kind
 use Rattle.er_binary.specs.Texts.{access_lines, feed, site, thread_does, word as word_of}
@@ -28,26 +32,26 @@ pub named_at : (p : List ℕ → Bool) (names : List (List ℕ)) (n : ℕ) → l
 named_at p names n all less = or_not (p (name_at names n)) (λ other. cc (all, list_all_at p names n [] less other))
 
 -- a line of an access, made of its parts
-pub access_line : (s : State) (writes : Bool) (node word thread : ℕ) (name : Option ℕ) → s.thread ≡ Some thread → IsSite s node name
+pub access_line : (s : State) (writes : Bool) (node word thread width : ℕ) (name : Option ℕ) → s.thread ≡ Some thread → IsSite s node name
     → thread_does s (if writes then codes "write" else codes "read") ++ address_word (4 * word) ++ site s node ++ feed
-    ≡ line_text s (record { verb = verb_for writes; address = word * 4; thread = thread; name = name })
+    ≡ line_text (names_in s) (record { verb = verb_for writes; address = word * 4; thread = thread; name = name; width = width })
 unfolding ready_text
-access_line s true node word thread name is known =
+access_line s true node word thread width name is known =
     let order : 4 * word ≡ word * 4 = omega arith in
-    rw (known.0, order, is) (ap (λ (t : List ℕ). t ++ feed) (append_assoc (name_at s.threads thread ++ word_of (codes "write")) (address_word (word * 4)) (name_word (name_by s.places name))))
-access_line s false node word thread name is known =
+    rw (known.0, order, is) (ap (λ (t : List ℕ). t ++ feed) (append_assoc (name_at s.threads thread ++ word_of (codes "write")) (address_word (word * 4)) (name_word (name_by (name_at s.places) name))))
+access_line s false node word thread width name is known =
     let order : 4 * word ≡ word * 4 = omega arith in
-    rw (known.0, order, is) (ap (λ (t : List ℕ). t ++ feed) (append_assoc (name_at s.threads thread ++ word_of (codes "read")) (address_word (word * 4)) (name_word (name_by s.places name))))
+    rw (known.0, order, is) (ap (λ (t : List ℕ). t ++ feed) (append_assoc (name_at s.threads thread ++ word_of (codes "read")) (address_word (word * 4)) (name_word (name_by (name_at s.places) name))))
 
 -- the first of some words
-pub first_line : (s : State) (w : Words) (thread : ℕ) (name : Option ℕ) → w.at / 4 < w.end → s.thread ≡ Some thread → IsSite s w.node name
-    → words_text s w ≡ line_text s (record { verb = verb_for w.writes; address = w.at / 4 * 4; thread = thread; name = name }) ++ words_text s (behind_first w)
-first_line s w thread name some is known =
+pub first_line : (s : State) (w : Words) (thread width : ℕ) (name : Option ℕ) → w.at / 4 < w.end → s.thread ≡ Some thread → IsSite s w.node name
+    → words_text s w ≡ line_text (names_in s) (record { verb = verb_for w.writes; address = w.at / 4 * 4; thread = thread; name = name; width = width }) ++ words_text s (behind_first w)
+first_line s w thread width name some is known =
     let next : w.at / 4 + 1 ≡ (w.at / 4 * 4 + 4) / 4 = omega arith in
     let verb = if w.writes then codes "write" else codes "read" in
     lines_step s verb w.node (w.at / 4) w.end some
-    ∙ ap (λ (t : List ℕ). t ++ access_lines s verb w.node (w.at / 4 + 1) (w.end - (w.at / 4 + 1))) (access_line s w.writes w.node (w.at / 4) thread name is known)
-    ∙ ap (λ (k : ℕ). line_text s (record { verb = verb_for w.writes; address = w.at / 4 * 4; thread = thread; name = name }) ++ access_lines s verb w.node k (w.end - k)) next
+    ∙ ap (λ (t : List ℕ). t ++ access_lines s verb w.node (w.at / 4 + 1) (w.end - (w.at / 4 + 1))) (access_line s w.writes w.node (w.at / 4) thread width name is known)
+    ∙ ap (λ (k : ℕ). line_text (names_in s) (record { verb = verb_for w.writes; address = w.at / 4 * 4; thread = thread; name = name; width = width }) ++ access_lines s verb w.node k (w.end - k)) next
 
 -- a test that gave words, or none
 pub words_by : (b : Bool) (w v : Words) (o : Option Words) → o ≡ (if b then Some w else None) → o ≡ Some v → (b ≡ true) × (v ≡ w)
@@ -60,7 +64,7 @@ words_no false w o is none = refl
 
 -- it is well formed
 pub access_right : (s : State) (writes : Bool) (node at thread : ℕ) (name : Option ℕ) → AreNamed s → s.thread ≡ Some thread → at / 4 * 4 < 2 ^ 48 → IsSite s node name
-    → IsRight s (record { verb = verb_for writes; address = at / 4 * 4; thread = thread; name = name })
+    → is_ready (verb_for writes) (at / 4 * 4) (name_at s.threads thread) (name_by (name_at s.places) name) ≡ true
 unfolding is_ready
 access_right s true node at thread name named known below site =
     let even : (at / 4 * 4 % 4 == 0) ≡ true = grind (arith, nat_tests) in
@@ -79,24 +83,24 @@ by_kind : (o : Option Kind) (k : Kind) (P : Kind → Type 0) → o ≡ Some k �
 by_kind None k P is p = absurd (cc is)
 by_kind (Some j) k P is p = subst P (cc is) p
 
-abbrev IsTaken : State → ReadyVerb → ℕ → ℕ → ℕ → List ℕ → Kind → Type 0
-IsTaken s v lock thread len rest k = take_said s len rest (said.Other k lock) ≡ Some (record { text = line_text s (record { verb = v; address = 0; thread = thread; name = Some lock }); state = counted s; len = len })
+abbrev IsTaken : State → ReadyVerb → ℕ → ℕ → ℕ → ℕ → List ℕ → Kind → Type 0
+IsTaken s v lock thread width len rest k = take_said s len rest (said.Other k lock) ≡ Some (record { text = line_text (names_in s) (record { verb = v; address = 0; thread = thread; name = Some lock; width = width }); state = counted s; len = len })
 
-verb_taken : (s : State) (v : ReadyVerb) (lock thread len : ℕ) (rest : List ℕ) → s.thread ≡ Some thread → lock < length s.locks → IfSome (kind_for v) (IsTaken s v lock thread len rest)
+verb_taken : (s : State) (v : ReadyVerb) (lock thread width len : ℕ) (rest : List ℕ) → s.thread ≡ Some thread → lock < length s.locks → IfSome (kind_for v) (IsTaken s v lock thread width len rest)
 unfolding ready_text
-verb_taken s does.Read lock thread len rest is less = tt
-verb_taken s does.Write lock thread len rest is less = tt
-verb_taken s does.Lock lock thread len rest is less = lock_by s rest lock len less (λ test zero none. rw (test, zero, none, is) refl)
-verb_taken s does.Unlock lock thread len rest is less = lock_by s rest lock len less (λ test zero none. rw (test, zero, none, is) refl)
-verb_taken s does.ReadLock lock thread len rest is less = lock_by s rest lock len less (λ test zero none. rw (test, zero, none, is) refl)
-verb_taken s does.ReadUnlock lock thread len rest is less = lock_by s rest lock len less (λ test zero none. rw (test, zero, none, is) refl)
+verb_taken s does.Read lock thread width len rest is less = tt
+verb_taken s does.Write lock thread width len rest is less = tt
+verb_taken s does.Lock lock thread width len rest is less = lock_by s rest lock len less (λ test zero none. rw (test, zero, none, is) refl)
+verb_taken s does.Unlock lock thread width len rest is less = lock_by s rest lock len less (λ test zero none. rw (test, zero, none, is) refl)
+verb_taken s does.ReadLock lock thread width len rest is less = lock_by s rest lock len less (λ test zero none. rw (test, zero, none, is) refl)
+verb_taken s does.ReadUnlock lock thread width len rest is less = lock_by s rest lock len less (λ test zero none. rw (test, zero, none, is) refl)
 
-pub lock_taken : (s : State) (v : ReadyVerb) (k : Kind) (lock thread len : ℕ) (rest : List ℕ) → kind_for v ≡ Some k → s.thread ≡ Some thread → lock < length s.locks
-    → take_said s len rest (said.Other k lock) ≡ Some (record { text = line_text s (record { verb = v; address = 0; thread = thread; name = Some lock }); state = counted s; len = len })
-lock_taken s v k lock thread len rest right is less = by_kind (kind_for v) k (IsTaken s v lock thread len rest) right (verb_taken s v lock thread len rest is less)
+pub lock_taken : (s : State) (v : ReadyVerb) (k : Kind) (lock thread width len : ℕ) (rest : List ℕ) → kind_for v ≡ Some k → s.thread ≡ Some thread → lock < length s.locks
+    → take_said s len rest (said.Other k lock) ≡ Some (record { text = line_text (names_in s) (record { verb = v; address = 0; thread = thread; name = Some lock; width = width }); state = counted s; len = len })
+lock_taken s v k lock thread width len rest right is less = by_kind (kind_for v) k (IsTaken s v lock thread width len rest) right (verb_taken s v lock thread width len rest is less)
 
 pub lock_right : (s : State) (v : ReadyVerb) (k : Kind) (lock thread : ℕ) → kind_for v ≡ Some k → AreNamed s → s.thread ≡ Some thread → lock < length s.locks
-    → IsRight s (record { verb = v; address = 0; thread = thread; name = Some lock })
+    → is_ready v 0 (name_at s.threads thread) (name_at s.locks lock) ≡ true
 unfolding is_ready
 lock_right s does.Read k lock thread right named known less = absurd (cc right)
 lock_right s does.Write k lock thread right named known less = absurd (cc right)
@@ -104,6 +108,36 @@ lock_right s does.Lock k lock thread right named known less = rw (named_at is_na
 lock_right s does.Unlock k lock thread right named known less = rw (named_at is_name s.threads thread named.0 (named.3 thread known)) (named_at is_lock_name s.locks lock named.1 less)
 lock_right s does.ReadLock k lock thread right named known less = rw (named_at is_name s.threads thread named.0 (named.3 thread known)) (named_at is_lock_name s.locks lock named.1 less)
 lock_right s does.ReadUnlock k lock thread right named known less = rw (named_at is_name s.threads thread named.0 (named.3 thread known)) (named_at is_lock_name s.locks lock named.1 less)
+
+-- a place and a lock have bytes
+place_bytes : (w : List ℕ) → is_place w ≡ true → has_bytes w ≡ true
+place_bytes [] is = absurd (cc is)
+place_bytes (b ∷ bs) is = refl
+
+lock_bytes : (w : List ℕ) → is_lock_name w ≡ true → has_bytes w ≡ true
+lock_bytes [] is = absurd (cc is)
+lock_bytes (b ∷ bs) is = refl
+
+pub named_site : (s : State) → AreNamed s → (name : Option ℕ) → IfSome name (λ n. n < length s.places) → IfSome name (λ n. has_bytes (name_at s.places n) ≡ true)
+named_site s named None less = tt
+named_site s named (Some n) less = place_bytes (name_at s.places n) (named_at is_place s.places n named.2 less)
+
+-- the whole line is right
+pub line_right : (s : State) (writes : Bool) (address thread width : ℕ) (name : Option ℕ) → is_ready (verb_for writes) address (name_at s.threads thread) (name_by (name_at s.places) name) ≡ true
+    → width ≡ length (ready_text (verb_for writes) address (name_at s.threads thread) (name_by (name_at s.places) name)) → IfSome name (λ n. has_bytes (name_at s.places n) ≡ true)
+    → IsRight (names_in s) (record { verb = verb_for writes; address = address; thread = thread; name = name; width = width })
+line_right s true address thread width name form size named = record { form = form; width = size; named = named }
+line_right s false address thread width name form size named = record { form = form; width = size; named = named }
+
+pub lock_line_right : (s : State) (v : ReadyVerb) (k : Kind) (lock thread width : ℕ) → kind_for v ≡ Some k → AreNamed s → lock < length s.locks
+    → is_ready v 0 (name_at s.threads thread) (name_at s.locks lock) ≡ true → width ≡ length (ready_text v 0 (name_at s.threads thread) (name_at s.locks lock))
+    → IsRight (names_in s) (record { verb = v; address = 0; thread = thread; name = Some lock; width = width })
+lock_line_right s does.Read k lock thread width right named less form size = absurd (cc right)
+lock_line_right s does.Write k lock thread width right named less form size = absurd (cc right)
+lock_line_right s does.Lock k lock thread width right named less form size = record { form = form; width = size; named = lock_bytes _ (named_at is_lock_name s.locks lock named.1 less) }
+lock_line_right s does.Unlock k lock thread width right named less form size = record { form = form; width = size; named = lock_bytes _ (named_at is_lock_name s.locks lock named.1 less) }
+lock_line_right s does.ReadLock k lock thread width right named less form size = record { form = form; width = size; named = lock_bytes _ (named_at is_lock_name s.locks lock named.1 less) }
+lock_line_right s does.ReadUnlock k lock thread width right named less form size = record { form = form; width = size; named = lock_bytes _ (named_at is_lock_name s.locks lock named.1 less) }
 
 -- a right record leaves all names names of their kind
 and_left : (a b : Bool) → (a && b) ≡ true → a ≡ true
@@ -147,3 +181,17 @@ after_named s kind.Note n body behind right named = named
 after_named s kind.Fact n body behind right named = named
 after_named s kind.Lost n body behind right named = named
 after_named s kind.End n body behind right named = named
+
+-- a number that had a name has it still, whatever record came
+kept_at : (names more : List (List ℕ)) (n : ℕ) → has_bytes (name_at names n) ≡ true → name_at (names ++ more) n ≡ name_at names n
+kept_at [] more n some = absurd (cc some)
+kept_at (name ∷ names) more zero some = refl
+kept_at (name ∷ names) more (suc n) some = kept_at names more n some
+
+pub kept_all : (old new : State) → new.threads ≡ old.threads → new.locks ≡ old.locks → new.places ≡ old.places → (kind : NameKind) (n : ℕ) → names_in new kind n ≡ names_in old kind n
+kept_all old new threads locks places names.Thread n = ap (λ (t : List (List ℕ)). name_at t n) threads
+kept_all old new threads locks places names.Lock n = ap (λ (t : List (List ℕ)). name_at t n) locks
+kept_all old new threads locks places names.Site n = ap (λ (t : List (List ℕ)). name_at t n) places
+
+pub kept_on : (a b c : NameKind → ℕ → List ℕ) → KeepsNames a b → KeepsNames b c → KeepsNames a c
+kept_on a b c first next = λ kind n some. next kind n (ap has_bytes (first kind n some) ∙ some) ∙ first kind n some

@@ -1,9 +1,9 @@
 -- What a reader of a trace of any form still gives.
 use Rattle.std.specs.Prelude.{◌≡◌, ℕ, List, [], ◌++◌, drop, take}
-use Rattle.er_lines.specs.declared.ready.ReadyLine.{ReadyLine}
+use Rattle.er_lines.specs.declared.ready.NameKind.{NameKind}
 use Rattle.er_binary.specs.Inner.Decoders.{still}
-use Rattle.er_binary.specs.Inner.Words.{line_name, line_thread}
 use Rattle.er_binary.specs.Meaning.{meant}
+use Rattle.er_binary.specs.States.{names_in}
 use Rattle.er_binary.specs.declared.decoded.Decoded.{Decoded}
 use Rattle.er_binary.specs.declared.decoded.Form.{Form}
 use Rattle.er_binary.specs.declared.decoded.Form.TheVariants as form
@@ -34,17 +34,10 @@ places_by f = []
 abbrev pub places_of : {R : Type 0} → Decoded R → List (List ℕ)
 places_of decoded = places_by decoded.form
 
--- the names of a line that was taken: of its thread, and of its site or lock. A text has none
-abbrev pub thread_by : Form → ReadyLine → List ℕ
-thread_by (form.Binary decoder) line = line_thread decoder.state line
-thread_by f line = []
+-- the name of a number, and no bytes if it has none. A text has no numbers
+abbrev pub names_by : Form → NameKind → ℕ → List ℕ
+names_by (form.Binary decoder) = names_in decoder.state
+names_by f = λ kind n. []
 
-abbrev pub name_by : Form → ReadyLine → List ℕ
-name_by (form.Binary decoder) line = line_name decoder.state line
-name_by f line = []
-
-abbrev pub thread_of : {R : Type 0} → Decoded R → ReadyLine → List ℕ
-thread_of decoded = thread_by decoded.form
-
-abbrev pub name_of : {R : Type 0} → Decoded R → ReadyLine → List ℕ
-name_of decoded = name_by decoded.form
+abbrev pub names_of : {R : Type 0} → Decoded R → NameKind → ℕ → List ℕ
+names_of decoded = names_by decoded.form

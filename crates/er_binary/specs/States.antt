@@ -3,8 +3,10 @@ use Rattle.std.specs.Prelude.{ℕ, ◌+◌, ◌%◌, ◌^◌, ◌==◌, ◌||◌
 use Rattle.std.specs.List.{list_all}
 use Rattle.std.specs.Str.{bytes_eq}
 use Rattle.er_lines.specs.Naming.{is_name, is_lock_name, is_site_name}
+use Rattle.er_lines.specs.declared.ready.NameKind.{NameKind}
+use Rattle.er_lines.specs.declared.ready.NameKind.TheVariants as names
 use Rattle.er_binary.specs.Nodes.{node_at}
-use Rattle.er_binary.specs.Numbers.{number_in, plus}
+use Rattle.er_binary.specs.Numbers.{name_at, number_in, plus}
 use Rattle.er_binary.specs.Records.{is_event}
 use Rattle.er_binary.specs.declared.nodes.Node.{Node}
 use Rattle.er_binary.specs.declared.records.Access.{Access}
@@ -15,6 +17,12 @@ use Rattle.er_binary.specs.declared.state.State.{State}
 -- a trace begins with no names, no nodes and no events
 abbrev pub first_state : State
 first_state = record { threads = []; locks = []; places = []; nodes = []; thread = None; node = 0; last = replicate 256 0; events = 0; lost = 0; ended = false }
+
+-- the name of a number of this kind, and no bytes if it has none
+abbrev pub names_in : State → NameKind → ℕ → List ℕ
+names_in s names.Thread = name_at s.threads
+names_in s names.Lock = name_at s.locks
+names_in s names.Site = name_at s.places
 
 -- a block begins with no thread and no node, and all of its last addresses are 0
 abbrev pub at_block : State → State

@@ -6,7 +6,7 @@ ghost use Rattle.std.specs.Io.KnownBytes.{Keeps, ReadConsumes};
 use crate::decoder::{Decoder, copy_front, fill};
 use crate::names::Names;
 use crate::state::State;
-use er_lines::{ReadyLine, ReadyVerb, Shortcut};
+use er_lines::{NameKind, ReadyLine, Shortcut};
 use std::alloc::Global;
 use std::io;
 use std::io::Read;
@@ -157,11 +157,9 @@ impl<R: Read> Decoded<R> {
 pub struct Directly;
 
 impl<R: Read> Shortcut<Decoded<R>> for Directly {
-    ghost use Rattle.er_binary.specs.Decoded.{thread_of, name_of};
+    ghost use Rattle.er_binary.specs.Decoded.{names_of};
 
-    ghost thread_of = { thread_of };
-
-    ghost name_of = { name_of };
+    ghost names_of = { names_of };
 
     fn take(&self, reader: &mut Decoded<R>) -> Option<ReadyLine> {
         match &mut reader.form {
@@ -170,20 +168,9 @@ impl<R: Read> Shortcut<Decoded<R>> for Directly {
         }
     }
 
-    fn thread<'a>(&self, reader: &'a Decoded<R>, line: ReadyLine) -> &'a [u8] {
+    fn name<'a>(&self, reader: &'a Decoded<R>, kind: NameKind, number: u64) -> &'a [u8] {
         match &reader.form {
-            Form::Binary(decoder) => decoder.state.threads.get(line.thread),
-            _ => b"".as_slice(),
-        }
-    }
-
-    fn name<'a>(&self, reader: &'a Decoded<R>, line: ReadyLine) -> &'a [u8] {
-        match (&reader.form, line.name, line.verb) {
-            (Form::Binary(decoder), Some(name), ReadyVerb::Read | ReadyVerb::Write) => decoder
-                .state
-                .places
-                .get(name),
-            (Form::Binary(decoder), Some(name), _) => decoder.state.locks.get(name),
+            Form::Binary(decoder) => decoder.state.name(kind, number),
             _ => b"".as_slice(),
         }
     }

@@ -1,8 +1,10 @@
 //! Decodes the blocks of a binary trace, one after another.
 ghost use Rattle.std.specs.Prelude.{◌≡◌, ◌<◌, ◌≤◌, ◌^◌, ◌+◌, ◌/◌, ◌++◌, ℕ, List, OnOk, OnErr, IfOk, IfNone, IfSome, length, vec_len, min, take, option_map, false};
 ghost use Rattle.std.specs.Io.{ReadsAtMost};
-ghost use Rattle.er_binary.specs.Inner.Words.{AreNamed, AreTaken, IsRight, line_text};
+ghost use Rattle.er_lines.specs.Ready.{IsRight, KeepsNames, line_text};
+ghost use Rattle.er_binary.specs.Inner.Words.{AreNamed, AreTaken};
 ghost use Rattle.er_binary.specs.Meaning.{checksum, is_bad_len, last_line, mixed, past};
+ghost use Rattle.er_binary.specs.States.{names_in};
 ghost use Rattle.std.specs.Io.KnownBytes.{IsAtEnd, Keeps, ReadConsumes, prepend_known};
 
 use crate::decoded::Listener;
@@ -151,8 +153,9 @@ impl Decoder {
     /// Takes the next line, if it is an access or a lock event of a block that was read. It reads nothing on. A refused allocation comes at the next `read`.
     pub(crate) fn take(&mut self) -> Option<ReadyLine>
         ensures none { IfNone result ((rest : List ℕ) → still self.old rest ≡ still self.new rest) }
-        ensures some { IfSome result (λ line. (rest : List ℕ) → still self.old rest ≡ line_text self.new.state line ++ still self.new rest) }
-        ensures right { IfSome result (λ line. IsRight self.new.state line) }
+        ensures some { IfSome result (λ line. (rest : List ℕ) → still self.old rest ≡ line_text (names_in self.new.state) line ++ still self.new rest) }
+        ensures right { IfSome result (IsRight (names_in self.new.state)) }
+        ensures kept { KeepsNames (names_in self.old.state) (names_in self.new.state) }
     {
         self.is_taken = true;
         for _ in 0..8u8 {
@@ -251,6 +254,7 @@ impl Decoder {
         requires given { IsGiven self.old }
         ensures same { (rest : List ℕ) → still self.old rest ≡ still self.new rest }
         ensures less { OnOk result (left self.new.phase self.new < left self.old.phase self.old) }
+        ensures kept { KeepsNames (names_in self.old.state) (names_in self.new.state) }
         ensures words { self.new.words ≡ self.old.words }
     {
         if self.next == self.bytes.len() {
@@ -281,6 +285,7 @@ impl Decoder {
         requires next { self.old.next ≡ vec_len self.old.bytes }
         ensures same { (rest : List ℕ) → still self.old rest ≡ still self.new rest }
         ensures less { OnOk result (left self.new.phase self.new < left self.old.phase self.old) }
+        ensures state { self.new.state ≡ self.old.state }
         ensures words { self.new.words ≡ self.old.words }
     {
         if self.spot.found != u64::from(self.spot.count) {
@@ -354,6 +359,7 @@ impl Decoder {
         ensures ok { OnOk result ((rest : List ℕ) → still self.new rest ≡ last_line what.now byte) }
         ensures phase { OnOk result (self.new.phase ≡ phase.Nothing) }
         ensures err { OnErr result ((rest : List ℕ) → still self.old rest ≡ still self.new rest) }
+        ensures state { self.new.state ≡ self.old.state }
         ensures words { self.new.words ≡ self.old.words }
     {
         self.given = 0;

@@ -2,17 +2,19 @@
 ghost use Rattle.std.specs.Prelude.{◌≡◌, ◌≤◌, ◌<◌, ◌^◌, ◌+◌, [], IfOk, IfSome, OnOk, OnErr, length, ◌++◌, ◌/◌, ℕ, List, Some, None, true, false, if◌then◌else◌};
 ghost use Rattle.std.specs.List.{list_all};
 ghost use Rattle.er_binary.specs.Inner.Taking.{HasTaken};
-ghost use Rattle.er_binary.specs.Inner.Words.{AreNamed, IsRight, IsSite, behind_first, counted, kind_for, line_text, passed, verb_for, words_at, words_text};
+ghost use Rattle.er_lines.specs.Ready.{IsRight, KeepsNames, line_text, name_by};
+ghost use Rattle.er_binary.specs.Inner.Words.{AreNamed, IsSite, behind_first, counted, kind_for, passed, verb_for, words_at, words_text};
 ghost use Rattle.er_binary.specs.Meaning.{take_record, take_said};
+ghost use Rattle.er_binary.specs.Numbers.{name_at};
 ghost use Rattle.er_binary.specs.Records.{body_len};
-ghost use Rattle.er_binary.specs.States.{address_of, after, at_block, first_state, is_access, is_note_byte, is_right, node_by, slot};
+ghost use Rattle.er_binary.specs.States.{address_of, after, at_block, first_state, is_access, is_note_byte, is_right, names_in, node_by, slot};
 ghost use Rattle.er_binary.specs.declared.records.Record.TheVariants as said;
 
 use crate::names::{Names, number};
 use crate::nodes::{Node as TreeNode, Nodes};
 use crate::records::Kind::*;
 use crate::records::{ADDRESS_END, Access, Kind, Record, record_at};
-use er_lines::{ReadyLine, ReadyVerb, is_lock_name, is_name, is_site_name};
+use er_lines::{NameKind, ReadyLine, ReadyVerb, is_lock_name, is_name, is_site_name, ready_width};
 use std::alloc::{AllocError, Global};
 
 /// What taking a record gives: how many bytes it has, or None if it may not come.
@@ -53,10 +55,9 @@ impl Words {
     fn verb(&self) -> ReadyVerb
         ensures { result ≡ verb_for self.now.writes }
     {
-        if self.writes {
-            ReadyVerb::Write
-        } else {
-            ReadyVerb::Read
+        match self.writes {
+            true => ReadyVerb::Write,
+            false => ReadyVerb::Read,
         }
     }
 }
@@ -176,6 +177,7 @@ impl State {
         ensures taken { IfOk result (λ len. HasTaken (take_record self.old bytes.now) out.old.items out.new.items self.old self.new len) }
         ensures len { IfOk result (λ len. IfSome len (λ n. (1 ≤ n) × (n ≤ length bytes.now))) }
         ensures named { AreNamed self.old → AreNamed self.new }
+        ensures kept { KeepsNames (names_in self.old) (names_in self.new) }
         ensures err { OnErr result (self.new ≡ self.old) }
     {
         let Some(head) = record_at(bytes) else {
@@ -207,6 +209,7 @@ impl State {
         ensures taken { IfOk result (λ n. HasTaken (take_said self.old len rest.now (Record.Other kind number)) out.old.items out.new.items self.old self.new n) }
         ensures len { IfOk result (λ n. IfSome n (λ k. (len ≤ k) × (k ≤ len + length rest.now))) }
         ensures named { AreNamed self.old → AreNamed self.new }
+        ensures kept { KeepsNames (names_in self.old) (names_in self.new) }
         ensures err { OnErr result (self.new ≡ self.old) }
     {
         let body_len = kind.body_len(number);
@@ -255,25 +258,54 @@ impl State {
         self.events = self.events.wrapping_add(1);
     }
 
+    /// The name of a number, and no bytes if it has none.
+    #[inline(always)]
+    pub(crate) fn name(&self, kind: NameKind, number: u64) -> &[u8]
+        ensures { result.now ≡ names_in self.now kind number }
+    {
+        match kind {
+            NameKind::Thread => self.threads.get(number),
+            NameKind::Lock => self.locks.get(number),
+            NameKind::Site => self.places.get(number),
+        }
+    }
+
+    fn site_name(&self, place: Option<u64>) -> &[u8]
+        ensures { result.now ≡ name_by (name_at self.now.places) place }
+    {
+        match place {
+            Some(place) => self.places.get(place),
+            None => b"".as_slice(),
+        }
+    }
+
     /// The line of the first of some words. Split for the prover: there is none where a name isn't known, and all are.
     #[inline(always)]
     pub(crate) fn line_of(&self, words: &Words) -> Option<ReadyLine>
         requires some { words.now.at / 4 < words.now.end }
         requires end { words.now.end ≤ 2 ^ 46 }
-        ensures text { IfSome result (λ line. AreNamed self.now → words_text self.now words.now ≡ line_text self.now line ++ words_text self.now (behind_first words.now)) }
-        ensures right { IfSome result (λ line. AreNamed self.now → IsRight self.now line) }
+        requires named { AreNamed self.now }
+        ensures text { IfSome result (λ line. words_text self.now words.now ≡ line_text (names_in self.now) line ++ words_text self.now (behind_first words.now)) }
+        ensures right { IfSome result (IsRight (names_in self.now)) }
     {
+        let thread = self.thread?;
+        let name = self.known_site(words.node)?;
+        let verb = words.verb();
+        let address = words.at / 4 * 4;
+        let site = self.site_name(name);
         Some(ReadyLine {
-            verb: words.verb(),
-            address: words.at / 4 * 4,
-            thread: self.thread?,
-            name: self.known_site(words.node)?,
+            verb,
+            address,
+            thread,
+            name,
+            width: ready_width(verb, address, self.threads.get(thread), site),
         })
     }
 
     // The place that is shown for a node. None if its name isn't known; of node 0 there is none.
     fn known_site(&self, node: u64) -> Option<Option<u64>>
-        ensures { IfSome result (λ name. AreNamed self.now → IsSite self.now node name) }
+        ensures site { IfSome result (λ name. AreNamed self.now → IsSite self.now node name) }
+        ensures within { IfSome result (λ name. IfSome name (λ n. n < length self.now.places)) }
     {
         if node == 0 {
             return Some(None);
@@ -285,8 +317,9 @@ impl State {
     /// The line of a lock event that may come. Another record has none.
     #[inline(always)]
     pub(crate) fn lock_line(&self, kind: Kind, lock: u64) -> Option<ReadyLine>
-        ensures taken { IfSome result (λ line. (len : ℕ) (rest : List ℕ) → take_said self.now len rest (said.Other kind lock) ≡ Some (record { text = line_text self.now line; state = counted self.now; len = len })) }
-        ensures right { IfSome result (λ line. AreNamed self.now → IsRight self.now line) }
+        requires { AreNamed self.now }
+        ensures taken { IfSome result (λ line. (len : ℕ) (rest : List ℕ) → take_said self.now len rest (said.Other kind lock) ≡ Some (record { text = line_text (names_in self.now) line; state = counted self.now; len = len })) }
+        ensures right { IfSome result (IsRight (names_in self.now)) }
     {
         let verb = kind.lock_verb()?;
         let thread = self.thread?;
@@ -298,6 +331,7 @@ impl State {
             address: 0,
             thread,
             name: Some(lock),
+            width: ready_width(verb, 0, self.threads.get(thread), self.locks.get(lock)),
         })
     }
 
@@ -307,6 +341,7 @@ impl State {
         ensures taken { result ≡ true → (len : ℕ) (rest : List ℕ) → take_said self.old len rest (said.Other kind number) ≡ Some (record { text = []; state = self.new; len = len }) }
         ensures other { result ≡ false → self.new ≡ self.old }
         ensures named { AreNamed self.old → AreNamed self.new }
+        ensures same { (self.new.threads ≡ self.old.threads) × (self.new.locks ≡ self.old.locks) × (self.new.places ≡ self.old.places) }
     {
         match kind {
             Kind::Thread if number < self.threads.len() => self.thread = Some(number),

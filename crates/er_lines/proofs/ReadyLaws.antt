@@ -18,8 +18,10 @@ use Rattle.er_lines.specs.Lines.{Line, has_bytes, is_end, lines_of, onto_line, p
 use Rattle.er_lines.specs.Naming.{is_name, is_name_byte, is_lock_name, is_site_name, is_site_byte}
 use Rattle.er_lines.specs.Number.{hex_digits}
 use Rattle.er_lines.specs.Places.{Place}
-use Rattle.er_lines.specs.Ready.{are_operands, is_maybe_site, is_ready, name_word, operands_text, ready_text, verb_text}
+use Rattle.er_lines.specs.Ready.{IsRight, are_operands, is_maybe_site, is_ready, name_word, operand_name, operands_text, ready_text, thread_name, verb_text}
 use Rattle.er_lines.specs.Taking.{TakesLine, past_unread, ready_bytes, ready_placed}
+use Rattle.er_lines.specs.declared.ready.NameKind.{NameKind}
+use Rattle.er_lines.specs.declared.ready.ReadyLine.{ReadyLine}
 use Rattle.er_lines.specs.declared.ready.ReadyVerb.{ReadyVerb}
 use Rattle.er_lines.specs.declared.ready.ReadyVerb.TheVariants as does
 
@@ -261,3 +263,10 @@ line_taken at new old known v address thread name width empty right takes room s
       some = omega (arith, ap (λ (p : Place). p.start) past, text_size v address thread name);
       past = past;
     }
+
+-- the width of a right line
+pub width_bounds : (names : NameKind → ℕ → List ℕ) (line : ReadyLine) → IsRight names line → (1 ≤ line.width) × (line.width ≤ 281)
+width_bounds names line right =
+    let thread = thread_name names line in
+    let name = operand_name names line in
+    (omega (arith, right.width, text_size line.verb line.address thread name), omega (arith, right.width, text_short line.verb line.address thread name right.form))

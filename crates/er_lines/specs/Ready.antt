@@ -1,10 +1,12 @@
 -- Lines of a trace that were never made as text.
-use Rattle.std.specs.Prelude.{ℕ, ◌%◌, ◌^◌, ◌==◌, ◌||◌, ◌&&◌, Bool, not, List, [], ◌∷◌, ◌++◌, Option, Some, None, nat_lt, codes, if◌then◌else◌}
+use Rattle.std.specs.Prelude.{◌≡◌, ℕ, ◌%◌, ◌^◌, ◌==◌, ◌||◌, ◌&&◌, Bool, not, List, [], ◌∷◌, ◌++◌, Option, Some, None, IfSome, nat_lt, codes, length, true, if◌then◌else◌}
 use Rattle.std.specs.Io.KnownBytes.{Consumes, Keeps}
 use Rattle.std.specs.Str.{bytes_eq}
 use Rattle.er_lines.specs.Lines.{has_bytes}
 use Rattle.er_lines.specs.Naming.{is_name, is_lock_name, is_site_name}
 use Rattle.er_lines.specs.Number.{hex_digits}
+use Rattle.er_lines.specs.declared.ready.NameKind.{NameKind}
+use Rattle.er_lines.specs.declared.ready.NameKind.TheVariants as names
 use Rattle.er_lines.specs.declared.ready.ReadyLine.{ReadyLine}
 use Rattle.er_lines.specs.declared.ready.ReadyVerb.{ReadyVerb}
 use Rattle.er_lines.specs.declared.ready.ReadyVerb.TheVariants as does
@@ -44,6 +46,39 @@ are_operands v address lock = is_lock_name lock
 -- a line that the text of a trace may have
 unfoldable pub is_ready : ReadyVerb → ℕ → List ℕ → List ℕ → Bool
 is_ready v address thread name = is_name thread && are_operands v address name
+
+-- what stands behind a verb: a site, or a lock
+abbrev pub kind_behind : ReadyVerb → NameKind
+kind_behind does.Read = names.Site
+kind_behind does.Write = names.Site
+kind_behind v = names.Lock
+
+-- the name of a line's thread, by those of all numbers
+abbrev pub thread_name : (NameKind → ℕ → List ℕ) → ReadyLine → List ℕ
+thread_name of line = of names.Thread line.thread
+
+-- the name of a number, if there is one
+abbrev pub name_by : (ℕ → List ℕ) → Option ℕ → List ℕ
+name_by of None = []
+name_by of (Some n) = of n
+
+-- and that of its site or lock
+abbrev pub operand_name : (NameKind → ℕ → List ℕ) → ReadyLine → List ℕ
+operand_name of line = name_by (of (kind_behind line.verb)) line.name
+
+-- its text
+abbrev pub line_text : (NameKind → ℕ → List ℕ) → ReadyLine → List ℕ
+line_text of line = ready_text line.verb line.address (thread_name of line) (operand_name of line)
+
+-- it is well formed, has the width of its text, and its number has a name
+pub record IsRight (of : NameKind → ℕ → List ℕ) (line : ReadyLine) : Type 0 where
+  pub form : is_ready line.verb line.address (thread_name of line) (operand_name of line) ≡ true
+  pub width : line.width ≡ length (line_text of line)
+  pub named : IfSome line.name (λ n. has_bytes (of (kind_behind line.verb) n) ≡ true)
+
+-- a number that had a name has it still
+abbrev pub KeepsNames : (NameKind → ℕ → List ℕ) → (NameKind → ℕ → List ℕ) → Type 0
+KeepsNames old new = (kind : NameKind) (n : ℕ) → has_bytes (old kind n) ≡ true → new kind n ≡ old kind n
 
 -- what is left when a line was taken, by its text: what is behind it. None changes nothing
 abbrev pub HasTaken : Option (List ℕ) → Option (List ℕ) → (ReadyLine → List ℕ) → Option ReadyLine → Type 0

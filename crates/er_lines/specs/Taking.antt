@@ -4,7 +4,8 @@ use Rattle.std.specs.Io.KnownBytes.{Keeps}
 use Rattle.er_lines.specs.Lending.{LineThen, lines_left, limit_fault}
 use Rattle.er_lines.specs.Lines.{Placed}
 use Rattle.er_lines.specs.Places.{Place}
-use Rattle.er_lines.specs.Ready.{is_ready, operands_text, ready_text, verb_text}
+use Rattle.er_lines.specs.Ready.{is_ready, operand_name, operands_text, ready_text, thread_name, verb_text}
+use Rattle.er_lines.specs.declared.ready.NameKind.{NameKind}
 use Rattle.er_lines.specs.declared.ready.ReadyLine.{ReadyLine}
 use Rattle.er_lines.specs.declared.ready.ReadyVerb.{ReadyVerb}
 
@@ -29,6 +30,6 @@ pub record TakesLine (old new : Place) (before behind : Option (List ℕ)) (v : 
   pub past : new ≡ past_unread old (length (ready_text v address thread name))
 
 -- a line was taken, or nothing changed
-abbrev pub TakesReady : Place → Place → Option (List ℕ) → Option (List ℕ) → (ReadyLine → List ℕ) → (ReadyLine → List ℕ) → Option ReadyLine → Type 0
-TakesReady old new before behind thread name None = (new ≡ old) × Keeps before behind
-TakesReady old new before behind thread name (Some line) = TakesLine old new before behind line.verb line.address (thread line) (name line)
+abbrev pub TakesReady : Place → Place → Option (List ℕ) → Option (List ℕ) → (NameKind → ℕ → List ℕ) → Option ReadyLine → Type 0
+TakesReady old new before behind names None = (new ≡ old) × Keeps before behind
+TakesReady old new before behind names (Some line) = TakesLine old new before behind line.verb line.address (thread_name names line) (operand_name names line)

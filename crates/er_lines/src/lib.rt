@@ -28,7 +28,7 @@ pub use naming::{
     is_lock_name, is_name, is_site_name, lock_name_of, name_of, name_text, site_text,
 };
 pub use numbers::{hex_digit, number_of, put_hex, put_number, value_in};
-pub use ready::{ByText, ReadyLine, ReadyVerb, Shortcut};
+pub use ready::{ByText, NameKind, ReadyLine, ReadyVerb, Shortcut, ready_width};
 pub use words::{Words, number, split_words};
 
 mod bytes;

@@ -6,12 +6,12 @@ ghost use Rattle.er_lines.specs.Lines.{bytes_past_limit, AreWhole};
 ghost use Rattle.er_lines.specs.Faults.{HasFailedBy};
 ghost use Rattle.er_lines.specs.Inner.Windows.{items};
 ghost use Rattle.er_lines.specs.Lending.{taken_by, lines_left, is_ended, front_width, past, past_lines, IsInFront, IsWithin, Finds};
-ghost use Rattle.er_lines.specs.Ready.{is_ready, ready_text};
+ghost use Rattle.er_lines.specs.Ready.{IsRight, KeepsNames};
 ghost use Rattle.er_lines.specs.Taking.{TakesReady};
 
 use crate::bytes::whole_len;
 use crate::faults::{ReadFault, TextKind, fault_at};
-use crate::ready::{ReadyLine, ReadyVerb, Shortcut};
+use crate::ready::{ReadyLine, Shortcut};
 use crate::windows::{LineEnd, Window};
 use er_device::{Device, Failed};
 use std::alloc::{AllocError, Global};
@@ -190,7 +190,9 @@ impl LineReader {
         is_asked: bool,
     ) -> Option<ReadyLine>
         ensures taken { TakesReady self.old self.new (R.remaining (inner_of reader.old)) (R.remaining (inner_of reader.new))
-            (S.thread_of (inner_of reader.new)) (S.name_of (inner_of reader.new)) result }
+            (S.names_of (inner_of reader.new)) result }
+        ensures right { IfSome result (IsRight (S.names_of (inner_of reader.new))) }
+        ensures kept { KeepsNames (S.names_of (inner_of reader.old)) (S.names_of (inner_of reader.new)) }
         ensures asked { IfSome result (λ line. is_asked ≡ true) }
         ensures limit { self.new.limit ≡ self.old.limit }
         ensures within { self.new.start ≤ self.new.limit }
@@ -203,38 +205,11 @@ impl LineReader {
             return None;
         }
         let line = shortcut.take(reader.inner_mut())?;
-        let inner = reader.inner();
-        let width = width(
-            line,
-            shortcut.thread(inner, line),
-            shortcut.name(inner, line),
-        );
-        reader.count_taken(width);
+        reader.count_taken(line.width);
         self.number += 1;
-        self.start += width;
+        self.start += line.width;
         Some(line)
     }
-}
-
-/// How many bytes the text of a ready line takes, its LF included.
-#[inline(always)]
-fn width(line: ReadyLine, thread: &[u8], name: &[u8]) -> u64
-    requires { is_ready line.verb line.address thread.now name.now ≡ true }
-    ensures value { result ≡ length (ready_text line.verb line.address thread.now name.now) }
-    ensures some { 1 ≤ result }
-    ensures most { result ≤ 1025 }
-{
-    // The verb, the address, a space before each of them, and the LF.
-    let fixed = match line.verb {
-        ReadyVerb::Read => 21,
-        ReadyVerb::Write => 22,
-        ReadyVerb::Lock => 6,
-        ReadyVerb::Unlock => 8,
-        ReadyVerb::ReadLock => 7,
-        ReadyVerb::ReadUnlock => 9,
-    };
-    let named = if name.is_empty() { 0 } else { name.len() + 1 };
-    (thread.len() + fixed + named) as u64
 }
 
 impl FrontLine {

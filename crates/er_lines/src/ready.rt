@@ -1,6 +1,6 @@
 //! Lines of a trace that were never made as text.
-ghost use Rattle.std.specs.Prelude.{◌≡◌, List, ℕ, [], IfSome, true};
-ghost use Rattle.er_lines.specs.Ready.{HasTaken, is_ready, ready_text};
+ghost use Rattle.std.specs.Prelude.{◌≡◌, List, ℕ, [], IfSome, length, true};
+ghost use Rattle.er_lines.specs.Ready.{HasTaken, IsRight, KeepsNames, is_ready, line_text, ready_text};
 
 use std::io::Read;
 
@@ -13,6 +13,14 @@ pub enum ReadyVerb {
     Unlock,
     ReadLock,
     ReadUnlock,
+}
+
+/// What a number of a reader names.
+#[derive(Clone, Copy, PartialEq, Eq)]
+pub enum NameKind {
+    Thread,
+    Lock,
+    Site,
 }
 
 /// A line of a trace that was never made as text. Its names are numbers of the reader that gave it.
@@ -28,30 +36,28 @@ pub struct ReadyLine {
     pub thread: u64,
     /// The number of its site's name, if it has one, or of its lock's.
     pub name: Option<u64>,
+    /// How many bytes its text takes, its LF included.
+    pub width: u64,
 }
 
 /// Takes lines from a reader before they are text.
 pub trait Shortcut<R: Read> {
-    ghost use Rattle.er_lines.specs.declared.ready.ReadyLine.{ReadyLine};
+    ghost use Rattle.er_lines.specs.declared.ready.NameKind.{NameKind};
 
-    /// The name of a line's thread.
-    ghost thread_of: { R → ReadyLine → List ℕ };
-
-    /// The name of a line's site or lock, and no bytes if it has none.
-    ghost name_of: { R → ReadyLine → List ℕ };
+    /// The name of a number of the reader, and no bytes if the number has none.
+    ghost names_of: { R → NameKind → ℕ → List ℕ };
 
     /// Takes the next line, if it is ready. None changes nothing of what the reader gives.
     fn take(&self, reader: &mut R) -> Option<ReadyLine>
-        ensures taken { HasTaken (R.remaining reader.old) (R.remaining reader.new) (λ line. ready_text line.verb line.address (thread_of reader.new line) (name_of reader.new line)) result }
-        ensures right { IfSome result (λ line. is_ready line.verb line.address (thread_of reader.new line) (name_of reader.new line) ≡ true) };
+        ensures taken { HasTaken (R.remaining reader.old) (R.remaining reader.new) (line_text (names_of reader.new)) result }
+        ensures right { IfSome result (IsRight (names_of reader.new)) }
 
-    /// The name of a line's thread, until the reader changes.
-    fn thread<'a>(&self, reader: &'a R, line: ReadyLine) -> &'a [u8]
-        ensures { result.now ≡ thread_of reader.now line };
+        // A number that had a name keeps it.
+        ensures kept { KeepsNames (names_of reader.old) (names_of reader.new) };
 
-    /// The name of a line's site or lock, and no bytes if it has none, until the reader changes.
-    fn name<'a>(&self, reader: &'a R, line: ReadyLine) -> &'a [u8]
-        ensures { result.now ≡ name_of reader.now line };
+    /// The name of a number, and no bytes if it has none, until the reader changes.
+    fn name<'a>(&self, reader: &'a R, kind: NameKind, number: u64) -> &'a [u8]
+        ensures { result.now ≡ names_of reader.now kind number };
 }
 
 /// Takes no line: everything comes as text.
@@ -59,20 +65,33 @@ pub trait Shortcut<R: Read> {
 pub struct ByText;
 
 impl<R: Read> Shortcut<R> for ByText {
-    ghost thread_of = { λ reader line. [] };
-
-    ghost name_of = { λ reader line. [] };
+    ghost names_of = { λ reader kind number. [] };
 
     #[inline(always)]
     fn take(&self, _reader: &mut R) -> Option<ReadyLine> {
         None
     }
 
-    fn thread<'a>(&self, _reader: &'a R, _line: ReadyLine) -> &'a [u8] {
+    fn name<'a>(&self, _reader: &'a R, _kind: NameKind, _number: u64) -> &'a [u8] {
         b"".as_slice()
     }
+}
 
-    fn name<'a>(&self, _reader: &'a R, _line: ReadyLine) -> &'a [u8] {
-        b"".as_slice()
-    }
+/// How many bytes the text of a line takes, its LF included, by its verb and its names.
+#[inline(always)]
+pub fn ready_width(verb: ReadyVerb, address: u64, thread: &[u8], name: &[u8]) -> u64
+    requires { is_ready verb address thread.now name.now ≡ true }
+    ensures { result ≡ length (ready_text verb address thread.now name.now) }
+{
+    // The verb, the address, a space before each of them, and the LF.
+    let fixed = match verb {
+        ReadyVerb::Read => 21,
+        ReadyVerb::Write => 22,
+        ReadyVerb::Lock => 6,
+        ReadyVerb::Unlock => 8,
+        ReadyVerb::ReadLock => 7,
+        ReadyVerb::ReadUnlock => 9,
+    };
+    let named = if name.is_empty() { 0 } else { name.len() + 1 };
+    (thread.len() + fixed + named) as u64
 }

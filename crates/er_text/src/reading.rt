@@ -23,13 +23,13 @@ use crate::adding::add_steps;
 use crate::endings::{Ending, Lost, comment_past, if_any_lost, is_of_third, lacks_end};
 use crate::fast_path::add_usual;
 use crate::parsing::{ParsedLine, is_end, parse, version_of};
-use crate::ready::add_ready;
+use crate::ready::{add_ready, operand_name};
 use crate::stages::{IdleThreads, Stage, is_known_thread};
 use crate::verbs::Version;
 use er_device::Device;
 use er_lines::{
-    ByText, LineReader, ReadFault, Shortcut, TextKind, fault_at, is_ascii, says_something,
-    split_words,
+    ByText, LineReader, NameKind, ReadFault, Shortcut, TextKind, fault_at, is_ascii,
+    says_something, split_words,
 };
 use er_trace::{NameKeys, Trace};
 use std::alloc::{AllocError, Global};
@@ -255,7 +255,8 @@ impl TraceReader {
             return Ok(true);
         };
         let inner = reader.inner();
-        let (thread, name) = (shortcut.thread(inner, ready), shortcut.name(inner, ready));
+        let thread = shortcut.name(inner, NameKind::Thread, ready.thread);
+        let name = operand_name(shortcut, inner, ready);
         add_ready(trace, line, ready, thread, name)?;
         self.header.idle.remove_last(trace.steps());
         self.cut = false;

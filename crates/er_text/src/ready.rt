@@ -1,14 +1,15 @@
 //! Lines that a reader has ready: their steps are added as those of their text would be.
 ghost use Rattle.std.specs.Prelude.{◌≡◌, ◌<◌, ◌^◌, ◌/◌, OnOk, true, if◌then◌else◌};
-ghost use Rattle.er_lines.specs.Ready.{is_ready};
+ghost use Rattle.er_lines.specs.Ready.{is_ready, kind_behind, operand_name};
 ghost use Rattle.er_text.specs.Events.{Acquires, Releases, Accesses, with_line};
 ghost use Rattle.er_text.specs.Inner.Ready.{ready_event, site_if};
 
 use crate::Put;
 use crate::adding::site_number;
 use er_event::{Event, Kind, Mode, Site, Step, Word};
-use er_lines::{ReadyLine, ReadyVerb, name_text, site_text};
+use er_lines::{NameKind, ReadyLine, ReadyVerb, Shortcut, name_text, site_text};
 use er_trace::Trace;
+use std::io::Read;
 
 /// Adds an access, at a site if this has bytes. The thread is numbered first.
 #[inline(always)]
@@ -63,5 +64,29 @@ pub(crate) fn add_ready(
         ReadyVerb::Unlock => add_hold(trace, line, thread, false, name, Mode::Write),
         ReadyVerb::ReadLock => add_hold(trace, line, thread, true, name, Mode::Read),
         ReadyVerb::ReadUnlock => add_hold(trace, line, thread, false, name, Mode::Read),
+    }
+}
+
+fn kind_behind(verb: ReadyVerb) -> NameKind
+    ensures { result ≡ kind_behind verb }
+{
+    match verb {
+        ReadyVerb::Read | ReadyVerb::Write => NameKind::Site,
+        _ => NameKind::Lock,
+    }
+}
+
+/// The name of a line's site or lock, and no bytes if it has none.
+#[inline(always)]
+pub(crate) fn operand_name<'a, R: Read, S: Shortcut<R>>(
+    shortcut: &S,
+    reader: &'a R,
+    line: ReadyLine,
+) -> &'a [u8]
+    ensures { result.now ≡ operand_name (S.names_of reader.now) line }
+{
+    match line.name {
+        Some(number) => shortcut.name(reader, kind_behind(line.verb), number),
+        None => b"".as_slice(),
     }
 }

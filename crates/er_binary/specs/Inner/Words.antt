@@ -2,8 +2,7 @@
 use Rattle.std.specs.Prelude.{◌≡◌, Bool, ℕ, ◌+◌, ◌-◌, ◌*◌, ◌/◌, ◌≤◌, ◌<◌, true, false, List, [], Option, Some, None, length, slice_set, codes, if◌then◌else◌}
 use Rattle.std.specs.List.{list_all}
 use Rattle.er_lines.specs.Naming.{is_name, is_lock_name}
-use Rattle.er_lines.specs.Ready.{is_maybe_site, is_ready, name_word, ready_text}
-use Rattle.er_lines.specs.declared.ready.ReadyLine.{ReadyLine}
+use Rattle.er_lines.specs.Ready.{is_maybe_site, name_by, name_word}
 use Rattle.er_lines.specs.declared.ready.ReadyVerb.{ReadyVerb}
 use Rattle.er_lines.specs.declared.ready.ReadyVerb.TheVariants as does
 use Rattle.er_binary.specs.Numbers.{name_at, plus}
@@ -55,29 +54,6 @@ kind_for does.ReadUnlock = Some kind.ReadUnlock
 abbrev pub verb_for : Bool → ReadyVerb
 verb_for writes = if writes then does.Write else does.Read
 
--- the name of a line's thread, and of its site or its lock
-abbrev pub line_thread : State → ReadyLine → List ℕ
-line_thread s line = name_at s.threads line.thread
-
-abbrev pub names_for : State → ReadyVerb → List (List ℕ)
-names_for s does.Read = s.places
-names_for s does.Write = s.places
-names_for s v = s.locks
-
-abbrev pub name_by : List (List ℕ) → Option ℕ → List ℕ
-name_by names None = []
-name_by names (Some n) = name_at names n
-
-abbrev pub line_name : State → ReadyLine → List ℕ
-line_name s line = name_by (names_for s line.verb) line.name
-
--- its text, and whether it is well formed
-abbrev pub line_text : State → ReadyLine → List ℕ
-line_text s line = ready_text line.verb line.address (line_thread s line) (line_name s line)
-
-abbrev pub IsRight : State → ReadyLine → Type 0
-IsRight s line = is_ready line.verb line.address (line_thread s line) (line_name s line) ≡ true
-
 -- the site of a node by the number of its name
 abbrev pub IsSite : State → ℕ → Option ℕ → Type 0
-IsSite s node name = (site s node ≡ name_word (name_by s.places name)) × (is_maybe_site (name_by s.places name) ≡ true)
+IsSite s node name = (site s node ≡ name_word (name_by (name_at s.places) name)) × (is_maybe_site (name_by (name_at s.places) name) ≡ true)

@@ -1,7 +1,8 @@
 -- The decoder takes a line, or nothing changes.
 use Rattle.std.proofs.Common.{◌++◌, List, ℕ, refl, sym, ap, ◌∙◌}
 use Rattle.er_binary.specs.Decoded.{to_come}
-use Rattle.er_binary.specs.Inner.Words.{line_text}
+use Rattle.er_lines.specs.Ready.{line_text}
+use Rattle.er_binary.specs.States.{names_in}
 use Rattle.er_binary.proofs.DecodedLaws.{binary_is, taken_as}
 use Rattle.er_binary.proofs.TextLemmas.{none_then, some_then}
 use Rattle.er_binary.proofs.decoded.DirectlyShortcutDecoded.take.Goals as goal
@@ -11,7 +12,7 @@ returns-in-Binary-clause-taken g c =
     let d = c.args.reader.now in
     let old = c.in-Binary.decoder in
     let new = c.take.new.self in
-    taken_as (to_come d) (to_come _) (λ line. line_text new.state line) _ c.take.result
+    taken_as (to_come d) (to_come _) (λ line. line_text (names_in new.state) line) _ c.take.result
     (none_then c.take.result c.take.ensures.none (λ same rest. binary_is d old rest c.in-Binary.is ∙ same rest ∙ sym (binary_is _ new rest refl)))
     (some_then c.take.result c.take.ensures.some
-    (λ line gives rest. binary_is d old rest c.in-Binary.is ∙ gives rest ∙ ap (λ (t : List ℕ). line_text new.state line ++ t) (sym (binary_is _ new rest refl))))
+    (λ line gives rest. binary_is d old rest c.in-Binary.is ∙ gives rest ∙ ap (λ (t : List ℕ). line_text (names_in new.state) line ++ t) (sym (binary_is _ new rest refl))))

@@ -1,6 +1,8 @@
 -- A record that is taken, one that may not come, and one for which there was no memory.
 use Rattle.std.proofs.Common.{◌≡◌, ◌≤◌, ◌<◌, ◌+◌, ◌++◌, List, ℕ, drop, length, vec_items, vec_len, refl, sym, ap, ◌∙◌, arith, rules}
 use Rattle.er_binary.specs.Meaning.{past, take_record}
+use Rattle.er_binary.specs.States.{names_in}
+use Rattle.er_binary.specs.declared.state.State.{State}
 use Rattle.er_binary.proofs.DecoderLaws.{emptied, refused_is, taken_is}
 use Rattle.er_binary.proofs.MeaningLaws.{none_at, some_at, within_at}
 use Rattle.er_binary.proofs.TextLemmas.{either_way}
@@ -32,3 +34,9 @@ returns-in-Ok-None-clause-same g c = λ rest.
 
 pub returns-in-Err-clause-same : goal.returns-in-Err-clause-same
 returns-in-Err-clause-same g c = λ rest. emptied c.args.self.now _ rest c.requires.given (search rules) refl c.in-Err.ensures.err refl refl refl refl refl refl
+
+pub returns-then-self-len-clause-kept : goal.returns-then-self-len-clause-kept
+returns-then-self-len-clause-kept g c = λ kind n some. ap (λ (s : State). names_in s kind n) c.end_block.ensures.state
+
+pub returns-in-Ok-None-clause-kept : goal.returns-in-Ok-None-clause-kept
+returns-in-Ok-None-clause-kept g c = λ kind n some. ap (λ (s : State). names_in s kind n) c.stop.ensures.state ∙ c.in-Ok-None.ensures.kept kind n some

@@ -1,28 +1,30 @@
 -- A line is taken of the words that are still to come, or of a lock event, and another record goes on.
 use Rattle.std.proofs.Common.{◌≡◌, ◌<◌, ℕ, List, [], length, drop, vec_items, refl, sym, ap, ◌∙◌, arith, rules, length-drop}
+use Rattle.er_lines.specs.Ready.{KeepsNames, line_text}
 use Rattle.er_binary.specs.Inner.Decoders.{IsGiven, still}
-use Rattle.er_binary.specs.Inner.Words.{counted, line_text, passed, words_at}
+use Rattle.er_binary.specs.Inner.Words.{counted, passed, words_at}
 use Rattle.er_binary.specs.Meaning.{Taken, take_said}
 use Rattle.er_binary.specs.Records.{record_at}
-use Rattle.er_binary.specs.States.{is_access}
+use Rattle.er_binary.specs.States.{is_access, names_in}
 use Rattle.er_binary.specs.declared.decoder.Phase.TheVariants as phase
 use Rattle.er_binary.specs.declared.records.Record.{Record}
+use Rattle.er_binary.specs.declared.state.State.{State}
 use Rattle.er_binary.specs.declared.state.Words.{Words}
 use Rattle.er_binary.proofs.DecoderLaws.{emptied}
 use Rattle.er_binary.proofs.TakingLaws.{access_taken, other_taken, word_taken}
-use Rattle.er_binary.proofs.WordsLaws.{words_by}
+use Rattle.er_binary.proofs.WordsLaws.{kept_all, kept_on, words_by}
 use Rattle.er_binary.proofs.TextLemmas.{none_of}
 use Rattle.er_binary.proofs.decoder.Decoder.take.Goals.{in-Access+in_ok-words-in-Access, in-Other+in_default+then-goes_to, in-Other+in_default+else-goes_to+in_ok-ok-in-Other}
 use Rattle.er_binary.proofs.decoder.Decoder.take.Goals as goal
 
 pub loop-init : goal.loop-init
 unfolding still
-loop-init c = record { same = λ rest. refl }
+loop-init c = record { same = λ rest. refl; kept = λ kind n some. refl }
 
 pub returns-then-self-clause-some : goal.returns-then-self-clause-some
 returns-then-self-clause-some c = λ rest.
     let d = c.loop.self in
-    c.loop.invariant.same rest ∙ word_taken d _ c.in_ok-line.line rest (d.first c.if-self.true) (d.first c.if-self.true) (c.in_ok-line.ensures.text d.named) refl
+    c.loop.invariant.same rest ∙ word_taken d _ c.in_ok-line.line rest (d.first c.if-self.true) (d.first c.if-self.true) c.in_ok-line.ensures.text refl
 
 pub returns-in_err-head-clause-none : goal.returns-in_err-head-clause-none
 unfolding still
@@ -52,7 +54,7 @@ returns-in-Some-clause-some c = λ rest.
     let less : d.next < length items = omega (arith, within.0, within.1, len, length-drop d.next items) in
     let said = ap (λ (r : Record). take_said d.state head.len (drop head.len (drop d.next items)) r) c.in-Other.is ∙ c.in-Some.ensures.taken head.len (drop head.len (drop d.next items)) in
     c.loop.invariant.same rest
-    ∙ other_taken d _ rest head (record { text = line_text d.state c.in-Some.line; state = counted d.state; len = head.len }) given at (sym (c.in_ok-head.ensures.value ∙ ap (λ (t : List ℕ). record_at t) back)) said less within.0
+    ∙ other_taken d _ rest head (record { text = line_text (names_in d.state) c.in-Some.line; state = counted d.state; len = head.len }) given at (sym (c.in_ok-head.ensures.value ∙ ap (λ (t : List ℕ). record_at t) back)) said less within.0
     (search rules) at refl c.pass-in-Some.ensures refl refl
 
 pub loop-preserved : goal.loop-preserved
@@ -66,7 +68,8 @@ loop-preserved c =
     let given : IsGiven d = search rules in
     let at : d.phase ≡ phase.Record = search rules in
     let less : d.next < length items = omega (arith, within.0, within.1, len, length-drop d.next items) in
-    let is = sym (c.in_ok-head.ensures.value ∙ ap (λ (t : List ℕ). record_at t) back) in record {
+    let is = sym (c.in_ok-head.ensures.value ∙ ap (λ (t : List ℕ). record_at t) back) in
+    let went = λ (s : State) (same : (s.threads ≡ d.state.threads) × (s.locks ≡ d.state.locks) × (s.places ≡ d.state.places)). kept_all d.state s same.0 same.1 same.2 in record {
       same = λ rest. c.loop.invariant.same rest ∙ elim c.match-head.branch [
         | in-Access+in_ok-words-in-Access w ↦
             let h = words_by (is_access d.state w.in-Access.access) (words_at d.state w.in-Access.access) w.in_ok-words-in-Access.words _ w.in_ok-words-in-Access.ensures.words refl in
@@ -80,4 +83,18 @@ loop-preserved c =
         | in-Other+in_default+else-goes_to+in_ok-ok-in-Other w ↦
             rw w.self-is (emptied d _ rest given given refl (w.goes_to.ensures.other w.if-goes_to.false) refl refl refl refl refl refl ∙ w.next_record.ensures.same rest)
       ];
+      kept = kept_on _ _ _ c.loop.invariant.kept (elim c.match-head.branch [
+        | in-Access+in_ok-words-in-Access w ↦ λ kind n some. rw w.self-is (kept_all d.state w.pass.new.self (ap (λ (s : State). s.threads) w.pass.ensures) (ap (λ (s : State). s.locks) w.pass.ensures) (ap (λ (s : State). s.places) w.pass.ensures) kind n)
+        | in-Other+in_default+then-goes_to w ↦ λ kind n some. rw w.self-is (went w.goes_to.new.self w.goes_to.ensures.same kind n)
+        | in-Other+in_default+else-goes_to+in_ok-ok-in-Other w ↦ λ kind n some. rw w.self-is (kept_on _ _ _ (λ k m e. went w.goes_to.new.self w.goes_to.ensures.same k m) w.next_record.ensures.kept kind n some)
+      ]);
     }
+
+pub returns-in_err-ok-in-Other-clause-kept : goal.returns-in_err-ok-in-Other-clause-kept
+returns-in_err-ok-in-Other-clause-kept c =
+    let s = c.goes_to.new.self in
+    let same = c.goes_to.ensures.same in
+    kept_on _ _ _ c.loop.invariant.kept (kept_on _ _ _ (λ kind n some. kept_all c.loop.self.state s same.0 same.1 same.2 kind n) c.next_record.ensures.kept)
+
+pub returns-in-Some-clause-kept : goal.returns-in-Some-clause-kept
+returns-in-Some-clause-kept c = kept_on _ _ _ c.loop.invariant.kept (λ kind n some. kept_all c.loop.self.state (counted c.loop.self.state) refl refl refl kind n)

@@ -8,6 +8,7 @@ use Rattle.er_text.specs.Places.{Reached}
 use Rattle.er_lines.specs.Lending.{front_line, lines_left, LineThen}
 use Rattle.er_lines.specs.Lines.{Placed}
 use Rattle.er_lines.specs.Places.{Place}
+use Rattle.er_lines.specs.Ready.{operand_name, thread_name}
 use Rattle.er_lines.specs.declared.ready.ReadyLine.{ReadyLine}
 use Rattle.er_lines.specs.Reading.{Turns}
 use Rattle.er_lines.specs.Taking.{ready_bytes, ready_placed}
@@ -26,10 +27,10 @@ module _ (g : _) (c : goal.After-self-2-1 g) where
   line = c.in-Some.ready
 
   abbrev thread : List ℕ
-  thread = g.S.Shortcut.thread_of (inner_of c.take.new.reader) line
+  thread = thread_name (g.S.Shortcut.names_of (inner_of c.take.new.reader)) line
 
   abbrev name : List ℕ
-  name = g.S.Shortcut.name_of (inner_of c.take.new.reader) line
+  name = operand_name (g.S.Shortcut.names_of (inner_of c.take.new.reader)) line
 
   abbrev inside : Reached
   inside = record { place = c.self.inside.lines; stage = c.self.inside.header.stage; idle = c.self.inside.header.idle; tail = record { cut = c.self.inside.cut; comment = c.self.inside.header.comment } }
@@ -46,7 +47,7 @@ module _ (g : _) (c : goal.After-self-2-1 g) where
   read : plain_at (at_line inside.place.number inside.stage inside.idle c.args.trace.now) inside.place.number (ready_bytes line.verb line.address thread name)
       ≡ Ok (at_line (inside.place.number + 1) inside.stage c.remove_last.new.self c.add_ready.new.trace)
   read = ready_read c.number-line.result inside.place.number inside.stage line.verb line.address _ _ thread name inside.idle c.remove_last.new.self c.args.trace.now c.add_ready.new.trace
-      c.number-line.ensures.value (c.thread-thread.ensures ∙ ap (λ r. g.S.Shortcut.thread_of r line) c.inner-inner.ensures) (c.name-name.ensures ∙ ap (λ r. g.S.Shortcut.name_of r line) c.inner-inner.ensures)
+      c.number-line.ensures.value (c.name-thread.ensures ∙ ap (λ r. thread_name (g.S.Shortcut.names_of r) line) c.inner-inner.ensures) (c.operand_name-name.ensures ∙ ap (λ r. operand_name (g.S.Shortcut.names_of r) line) c.inner-inner.ensures)
       third c.in-Some.ensures.taken.right c.in_ok-add_ready.ensures (λ who last. c.remove_last.ensures who (ap last_actor c.steps.ensures.value ∙ last))
 
 pub returns-clause-turn : goal.returns-clause-turn
