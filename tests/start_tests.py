@@ -3,7 +3,7 @@
 
 - tools/program and ./eraser: the built program or the one in dist/, what is said of an older one, what is damaged, where nothing can be written
 - the keys of sources: what changes them and what doesn't
-- tools/dist and tools/prove: what they put into dist/, and what they leave
+- tools/dist and tools/prove: what they put into dist/, and what they leave; a static library as well
 - ./check and ./test: how far the gate is, its status through the filter, an older or another program in dist/, the last line
 - tests/run: parts that can't run are named
 - dist/ of this tree fits its MANIFEST
@@ -34,7 +34,9 @@ KIT = """#!/bin/sh
 make() { mkdir -p "$1/out" && printf '#!/bin/sh\\necho built: %s\\n' "$(cat "$1"/src/*)" >"$1/out/$2" && chmod 755 "$1/out/$2"; }
 case $1 in
 version) echo 'kit 1' && echo ' logic abc' ;;
-lib) mkdir -p out/rlib ;;
+lib) mkdir -p out/rlib
+    [ "$(basename "$PWD")" != eraser_c ] || printf '!<arch>\\nof its sources\\n' >out/liberaser_c.a
+    ;;
 run) make . "$(basename "$PWD")" ;;
 ci)
     for it in crates/*; do
@@ -312,6 +314,42 @@ def dist_tests(record, tree):
     record("dist: no line", found.stdout == "dist/ has no eraser: tools/dist puts it there\nprobe isn't built of these sources\n", f"{found}")
 
 
+def library_tests(record, tree):
+    """A static library is chosen, put into dist/ and compared as a program is, once its crate is there."""
+    list_ = tree.run("tools/program", "--list").stdout.split()
+    record("library: a tree without its crate", list_ == ["eraser", "probe"], f"{list_}")
+    (tree.top / "crates/eraser_c/src").mkdir(parents=True)
+    (tree.top / "crates/eraser_c/src/lib.rt").write_text("eraser_c 1\n")
+    tree.write("crates.txt", CRATES + "eraser_c staticlib: low\n")
+    list_ = tree.run("tools/program", "--list").stdout.split()
+    record("library: a tree with its crate", list_ == ["eraser", "probe", "eraser_c"], f"{list_}")
+    found = tree.run("tools/program", "eraser_c")
+    record("library: neither built nor shipped", found.returncode == 70 and "tools/prove eraser_c builds it" in found.stderr, f"{found}")
+    found = tree.run("tools/dist", "--compare", "eraser_c")
+    record("library: not built", (found.returncode, found.stdout) == (1, "eraser_c isn't built of these sources\n"), f"{found}")
+    out, archive = tree.top / "crates/eraser_c/out", b"!<arch>\nof its sources\n"
+    found = tree.run("tools/prove", "eraser_c", kit=True)
+    shipped = tree.top / "dist/eraser_c.gz"
+    is_shipped = shipped.exists() and gzip.decompress(shipped.read_bytes()) == archive
+    record("library: a proof puts it into dist/", found.returncode == 0 and is_shipped and found.stderr.endswith("dist: eraser_c is renewed\n"), f"{found}")
+    path = tree.run("tools/program", "eraser_c").stdout
+    record("library: the built one", path == f"{out}/liberaser_c.a\n", path)
+    record("library: dist/ has the built one", tree.run("tools/dist", "--compare", "eraser_c").returncode == 0)
+    (out / "liberaser_c.a").write_bytes(b"!<arch>\nanother\n")
+    os.utime(out / "liberaser_c.a", (0, 0))
+    found = tree.run("tools/dist", "--compare", "eraser_c")
+    record("library: dist/ has another one", found.returncode == 1 and "dist/ has another eraser_c than" in found.stdout, f"{found}")
+    shutil.rmtree(out)
+    found = tree.run("tools/program", "eraser_c")
+    text = pathlib.Path(found.stdout.strip()).read_bytes() if found.returncode == 0 else None
+    record("library: the shipped one", (found.stderr, text) == ("", archive), f"{found} {text}")
+    found = tree.run("check", kit=True)
+    record("library: the gate makes its archive and compares it", (out / "liberaser_c.a").exists() and "eraser_c" not in found.stderr, f"{found}")
+    shipped.write_bytes(gzip.compress(b"!<arch>\nanother\n"))
+    found = tree.run("check", kit=True)
+    record("library: the gate sees another one in dist/", found.returncode == 1 and "check: dist/ has another eraser_c than" in found.stderr, f"{found}")
+
+
 def prove_tests(record, tree):
     manifest = tree.top / "dist/MANIFEST"
     before = manifest.read_text()
@@ -423,11 +461,13 @@ def shipped_tests(record):
     record("dist/MANIFEST has a line for each program", [line[0] for line in lines] == names and all(len(line) > 4 for line in lines), f"{lines} {names}")
     for name, wanted, *_ in lines:
         text = gzip.decompress((TOP / f"dist/{name}.gz").read_bytes())
-        record(f"dist/{name}.gz is what MANIFEST says", hashlib.sha256(text).hexdigest() == wanted and text.startswith(b"\x7fELF"))
+        file = subprocess.run([TOP / "tools/program", "--file", name], capture_output=True, text=True).stdout.strip()
+        begins = b"!<arch>\n" if file.endswith(".a") else b"\x7fELF"
+        record(f"dist/{name}.gz is what MANIFEST says", hashlib.sha256(text).hexdigest() == wanted and text.startswith(begins))
 
 
 def tests(record):
-    for part in (choice_tests, damage_tests, unwritable_tests, key_tests, dist_tests, prove_tests, gate_tests):
+    for part in (choice_tests, damage_tests, unwritable_tests, key_tests, dist_tests, library_tests, prove_tests, gate_tests):
         with tempfile.TemporaryDirectory() as folder:
             part(record, Tree(folder))
     with tempfile.TemporaryDirectory() as folder:
