@@ -327,14 +327,23 @@ PLACES = ("bin/eraser", "bin/eraser-record", "bin/eraser-cc", "bin/eraser-c++", 
           "share/zsh/site-functions/_eraser", "share/fish/vendor_completions.d/eraser.fish", "share/man/man1/eraser-record.1",
           "share/bash-completion/completions/eraser-record", "share/zsh/site-functions/_eraser-record",
           "share/fish/vendor_completions.d/eraser-record.fish", "include/eraser.h")
+LIBRARY_PLACES = ("lib/liberaser.a", "include/eraser_detector.h", "include/eraser_detector.hpp", "lib/pkgconfig/eraser.pc")
+NO_LIBRARY = "capi: this tree has no crate eraser_c, so there is no library for C\n"
+
+
+def has_library():
+    """Whether the tree has the proved calls for C. Then they must be installed."""
+    return bool(os.environ.get("ERASER_PROVED")) or "eraser_c" in command([TOP / "tools/program", "--list"]).stdout.split()
 
 
 def install_tests(record):
     with tempfile.TemporaryDirectory() as folder:
         folder = pathlib.Path(folder)
         prefix = folder / "a prefix"
-        done = command([INSTALL, prefix])
-        record("install", (done.returncode, done.stderr) == (0, "") and all((prefix / place).exists() for place in PLACES), f"{done}")
+        done, errors = command([INSTALL, prefix]), "" if has_library() else NO_LIBRARY
+        record("install", (done.returncode, done.stderr) == (0, errors) and all((prefix / place).exists() for place in PLACES), f"{done}")
+        found = [(prefix / place).exists() for place in LIBRARY_PLACES]
+        record("install: the library for C", found == [has_library()] * len(LIBRARY_PLACES), f"{found}")
         record("install: a path that isn't there yet is named", f"add {prefix}/bin to PATH" in done.stdout, f"{done.stdout}")
         first = tree(prefix)
         moved = folder / "moved"
