@@ -1,0 +1,96 @@
+/* Empty, wrong and freed handles, and what each proved call refuses. */
+#include "checks.h"
+
+int main(void)
+{
+    eraser_shard shard, other = {0, NULL};
+    eraser_thread thread, second = {0, NULL};
+    uint32_t held[2];
+    size_t count = 0;
+    uint64_t race = 5;
+    memset(&shard, 0, sizeof shard);
+    memset(&thread, 0, sizeof thread);
+    _Static_assert(sizeof shard == 16 && sizeof thread == 16, "a handle has 16 bytes");
+
+    /* Empty ones. */
+    CHECK(eraser_shard_free(&shard) == ERASER_QUIET && eraser_thread_free(&thread) == ERASER_QUIET);
+    CHECK(eraser_access(&shard, &thread, 4096, true) == ERASER_EMPTY_HANDLE);
+    CHECK(eraser_access_span(&shard, &thread, 4096, 8, true, &race) == ERASER_EMPTY_HANDLE);
+    CHECK(eraser_reset(&shard, 4096, 4) == ERASER_EMPTY_HANDLE && eraser_state(&shard, 4096) == ERASER_EMPTY_HANDLE);
+    CHECK(eraser_acquire(&thread, 1, true) == ERASER_EMPTY_HANDLE && eraser_release(&thread, 1, true) == ERASER_EMPTY_HANDLE);
+    CHECK(eraser_thread_ignore_on(&thread) == ERASER_EMPTY_HANDLE && eraser_thread_ignore_off(&thread) == ERASER_EMPTY_HANDLE);
+    CHECK(eraser_level(&thread, 1) == ERASER_EMPTY_HANDLE && eraser_held(&thread, held, 2, &count) == ERASER_EMPTY_HANDLE);
+    CHECK(eraser_thread_new(&thread, 1u << 30) == ERASER_TOO_MANY_THREADS && thread.kind == 0);
+    CHECK(eraser_thread_new(&thread, 1) == ERASER_QUIET && thread.kind != 0);
+    CHECK(eraser_access(&shard, &thread, 4096, true) == ERASER_EMPTY_HANDLE);
+    CHECK(eraser_shard_new(&shard, 1000) == ERASER_QUIET && eraser_shard_new(&other, 1000) == ERASER_QUIET && eraser_thread_new(&second, 2) == ERASER_QUIET);
+
+    /* Wrong ones, and nothing changed. */
+    CHECK(eraser_access((eraser_shard *)(void *)&second, &thread, 4096, true) == ERASER_WRONG_HANDLE);
+    CHECK(eraser_access(&shard, (eraser_thread *)(void *)&other, 4096, true) == ERASER_WRONG_HANDLE);
+    CHECK(eraser_acquire((eraser_thread *)(void *)&shard, 1, true) == ERASER_WRONG_HANDLE);
+    CHECK(eraser_state((eraser_shard *)(void *)&thread, 4096) == ERASER_WRONG_HANDLE);
+    CHECK(eraser_reset((eraser_shard *)(void *)&thread, 4096, 4) == ERASER_WRONG_HANDLE && eraser_state(&shard, 4096) == ERASER_VIRGIN);
+    CHECK(eraser_held(&thread, held, 2, &count) == ERASER_QUIET && count == 0);
+
+    /* What is refused of calls with right handles. */
+    CHECK(eraser_acquire(&thread, 1, true) == ERASER_QUIET && eraser_acquire(&thread, 1, true) == ERASER_ALREADY_HELD);
+    CHECK(eraser_acquire(&thread, 1, false) == ERASER_ALREADY_HELD && eraser_release(&thread, 1, false) == ERASER_WRONG_MODE);
+    CHECK(eraser_release(&thread, 2, true) == ERASER_NOT_HELD && eraser_acquire(&thread, 0xffffffe1, true) == ERASER_LEVEL_LOCK);
+    CHECK(eraser_release(&thread, 0xffffffff, true) == ERASER_LEVEL_LOCK && eraser_level(&thread, 32) == ERASER_LEVEL_TOO_HIGH);
+    CHECK(eraser_level(&thread, 31) == ERASER_QUIET && eraser_level(&thread, 0) == ERASER_QUIET);
+    CHECK(eraser_acquire(&thread, 0xffffffe0, false) == ERASER_QUIET && eraser_acquire(&thread, 0, true) == ERASER_QUIET);
+    held[0] = held[1] = 9;
+    CHECK(eraser_held(&thread, held, 2, &count) == ERASER_QUIET && count == 3 && held[0] == 0 && held[1] == 1);
+    CHECK(eraser_held(&thread, held, 0, &count) == ERASER_QUIET && count == 3);
+    for (uint32_t lock = 100; lock < 161; lock++)
+        CHECK(eraser_acquire(&thread, lock, true) == ERASER_QUIET);
+    CHECK(eraser_acquire(&thread, 161, true) == ERASER_HELD_FULL && eraser_release(&thread, 160, true) == ERASER_QUIET);
+    CHECK(eraser_acquire(&thread, 161, true) == ERASER_QUIET);
+    CHECK(eraser_thread_ignore_off(&thread) == ERASER_IGNORE_NOT_ON);
+    for (int depth = 0; depth < 255; depth++)
+        CHECK(eraser_thread_ignore_on(&thread) == ERASER_QUIET);
+    CHECK(eraser_thread_ignore_on(&thread) == ERASER_IGNORE_TOO_DEEP && eraser_access(&shard, &thread, 4096, true) == ERASER_IGNORED);
+    CHECK(eraser_access_span(&shard, &thread, 4096, 8, true, &race) == ERASER_IGNORED && race == UINT64_MAX && eraser_state(&shard, 4096) == ERASER_VIRGIN);
+    for (int depth = 0; depth < 255; depth++)
+        CHECK(eraser_thread_ignore_off(&thread) == ERASER_QUIET);
+
+    /* Addresses and sizes. */
+    const uint64_t end = UINT64_C(1) << 48;
+    CHECK(eraser_access(&shard, &thread, end, true) == ERASER_ADDRESS_OUT_OF_RANGE && eraser_access(&shard, &thread, UINT64_MAX, true) == ERASER_ADDRESS_OUT_OF_RANGE);
+    CHECK(eraser_access(&shard, &thread, end - 1, true) == ERASER_QUIET && eraser_state(&shard, end - 4) == ERASER_EXCLUSIVE);
+    CHECK(eraser_state(&shard, end) == ERASER_ADDRESS_OUT_OF_RANGE && eraser_reset(&shard, end - 4, 5) == ERASER_ADDRESS_OUT_OF_RANGE);
+    CHECK(eraser_state(&shard, end - 4) == ERASER_EXCLUSIVE && eraser_reset(&shard, end - 1, 1) == ERASER_QUIET && eraser_state(&shard, end - 4) == ERASER_VIRGIN);
+    CHECK(eraser_access_span(&shard, &thread, end - 8, 9, true, &race) == ERASER_ADDRESS_OUT_OF_RANGE && eraser_state(&shard, end - 8) == ERASER_VIRGIN);
+    CHECK(eraser_access_span(&shard, &thread, 8192, 4194305, true, &race) == ERASER_SIZE_TOO_LARGE && eraser_state(&shard, 8192) == ERASER_VIRGIN);
+    CHECK(eraser_access_span(&shard, &thread, 8192, 0, true, &race) == ERASER_QUIET && race == UINT64_MAX && eraser_state(&shard, 8192) == ERASER_VIRGIN);
+    CHECK(eraser_reset(&shard, 8192, 4194305) == ERASER_SIZE_TOO_LARGE && eraser_reset(&shard, 8192, 0) == ERASER_QUIET);
+
+    /* A race: which word, and once. */
+    CHECK(eraser_access_span(&shard, &thread, 8195, 6, true, &race) == ERASER_QUIET && race == UINT64_MAX);
+    CHECK(eraser_state(&shard, 8192) == ERASER_EXCLUSIVE && eraser_state(&shard, 8203) == ERASER_EXCLUSIVE && eraser_state(&shard, 8204) == ERASER_VIRGIN);
+    CHECK(eraser_access(&shard, &second, 8196, false) == ERASER_QUIET && eraser_state(&shard, 8196) == ERASER_SHARED);
+    CHECK(eraser_access_span(&shard, &second, 8192, 4096, true, &race) == ERASER_RACE && race == 8192);
+    CHECK(eraser_access_span(&shard, &second, 8192, 4096, true, &race) == ERASER_QUIET && race == UINT64_MAX);
+
+    /* A handle that is filled again is new; one that is freed is empty, however often. */
+    CHECK(eraser_shard_new(&shard, 1) == ERASER_QUIET && eraser_state(&shard, 8192) == ERASER_VIRGIN);
+    CHECK(eraser_thread_new(&thread, 3) == ERASER_QUIET && eraser_held(&thread, held, 2, &count) == ERASER_QUIET && count == 0);
+    for (int time = 0; time < 2; time++) {
+        CHECK(eraser_shard_free(&shard) == ERASER_QUIET && eraser_thread_free(&thread) == ERASER_QUIET);
+        CHECK(shard.kind == 0 && thread.kind == 0 && eraser_access(&shard, &thread, 4096, true) == ERASER_EMPTY_HANDLE);
+    }
+    eraser_shard_free(&other);
+    eraser_thread_free(&second);
+
+    /* A layer that isn't there. */
+    CHECK(eraser_read(NULL, &race, 8) == ERASER_EMPTY_HANDLE && eraser_locked(NULL, &race, true) == ERASER_EMPTY_HANDLE && eraser_self(NULL) == 0);
+    eraser_stop(NULL);
+    struct eraser_options options = {.shards = 65537};
+    CHECK(eraser_start(&options) == NULL);
+    options.shards = 1;
+    options.max_sets = 1048577;
+    CHECK(eraser_start(&options) == NULL);
+    printf("fine\n");
+    return 0;
+}
