@@ -14,7 +14,7 @@ moved: a path in a table becomes that of the one file that now has the function 
   since their crate changed is only printed, and so are the minutes of the last gate
 - each path of the repository that a document names in backquotes exists
 - the policy of the page that `--format html` writes has the SHA-256 of the style sheet and of the script in the code
-- what the README prints of an example is the example's report, and the code of docs/LIBRARY.md is that of crates/two_threads
+- what the README prints of an example is the example's report, and the code of docs/LIBRARY.md is that of the programs that it names
 """
 
 import base64
@@ -400,7 +400,7 @@ def notes():
             yield f"{name}: {last[column]} at last, and the budget is {most[name]}"
 
 
-PATH = re.compile(r"^(?:\./)?((?:bench|crates|docs|examples|record|shell|tests|tools)/[\w./*+-]+)$")
+PATH = re.compile(r"^(?:\./)?((?:bench|capi|crates|docs|examples|record|shell|tests|tools)/[\w./*+-]+)$")
 
 
 def path_faults():
@@ -416,8 +416,16 @@ def path_faults():
 EXAMPLE = re.compile(r"```sh\n\./eraser replay (?:([^\n]+) )?examples/(\w+)\.trace\n```\n+```text\n(.*?)```", re.S)
 
 
+# The programs whose code docs/LIBRARY.md shows.
+LIBRARY = {
+    "c": ["capi/examples/counter.c"],
+    "cpp": ["capi/examples/counter.cpp"],
+    "rust": ["capi/rust/examples/counter.rs", "crates/two_threads/src/main.rt"],
+}
+
+
 def example_faults():
-    """What the README prints of an example is its report, which `tests/run` compares with the program's; the library's code is the example's."""
+    """What the README prints of an example is its report, which `tests/run` compares with the program's; the library's code is that of its programs."""
     found = EXAMPLE.findall((TOP / "README.md").read_text())
     if not found:
         yield "README.md: no example was found"
@@ -427,15 +435,15 @@ def example_faults():
             yield f"README.md: examples/{name}.trace is replayed with other options"
         if shown != (TOP / f"examples/{name}.report").read_text():
             yield f"README.md: examples/{name}.report differs"
-    code = (CRATES / "two_threads/src/main.rt").read_text().splitlines()
-    lines = {line.strip() for line in code}
-    blocks = re.findall(r"```rust\n(.*?)```", (DOCS / "LIBRARY.md").read_text(), re.S)
-    if not blocks:
-        yield "docs/LIBRARY.md: no code was found"
-    for block in blocks:
-        for line in block.splitlines():
+    blocks = re.findall(r"```(c|cpp|rust)\n(.*?)```", (DOCS / "LIBRARY.md").read_text(), re.S)
+    for language, paths in LIBRARY.items():
+        lines = {line.strip() for path in paths for line in (TOP / path).read_text().splitlines()}
+        own = [block for kind, block in blocks if kind == language]
+        if not own:
+            yield f"docs/LIBRARY.md: no code in {language} was found"
+        for line in "".join(own).splitlines():
             if line.strip() not in lines and not line.startswith("// In "):
-                yield f"docs/LIBRARY.md: crates/two_threads has no line {line!r}"
+                yield f"docs/LIBRARY.md: {' and '.join(paths)} have no line {line!r}"
 
 
 PAGE = CRATES / "er_forms/src"
