@@ -39,7 +39,7 @@ enum event_kind {
     EVENT_READ_LOCK,  /* the same in read mode */
     EVENT_UNLOCK,     /* first: lock, released in whichever mode the thread holds it, size: enum lock_kind and perhaps LOCK_FAILED, second: program counter */
     EVENT_LOCK_TWICE, /* first: lock that the thread holds and waits for, which lasts for ever; size: enum lock_kind, second: program counter */
-    EVENT_LOCK_BEGIN, /* first: lock that begins a new life */
+    EVENT_LOCK_BEGIN, /* first: lock that begins a new life, second: program counter of the call that creates it */
     EVENT_LOCK_END,   /* first: lock whose life ends, second: program counter */
     EVENT_REUSE,      /* first: address, size: bytes that are put to a new use, second: program counter of the call that does so, or 0; reuse_size() tells the bytes */
     EVENT_FREE,       /* the same of a call that ends the lives of locks there */
@@ -69,9 +69,9 @@ enum event_kind {
 };
 
 /* Of these events `second` is the program counter of a call, or 0. */
-#define KINDS_WITH_PLACES (1u << EVENT_LOCK | 1u << EVENT_READ_LOCK | 1u << EVENT_UNLOCK | 1u << EVENT_LOCK_TWICE | 1u << EVENT_LOCK_END | 1u << EVENT_REUSE \
-                           | 1u << EVENT_FREE | 1u << EVENT_START | 1u << EVENT_JOIN | 1u << EVENT_SIGNAL | 1u << EVENT_AWAIT | 1u << EVENT_FENCE             \
-                           | 1u << EVENT_STORED | 1u << EVENT_LET_GO | 1u << EVENT_LOADED | 1u << EVENT_TAKEN)
+#define KINDS_WITH_PLACES (1u << EVENT_LOCK | 1u << EVENT_READ_LOCK | 1u << EVENT_UNLOCK | 1u << EVENT_LOCK_TWICE | 1u << EVENT_LOCK_BEGIN               \
+                           | 1u << EVENT_LOCK_END | 1u << EVENT_REUSE | 1u << EVENT_FREE | 1u << EVENT_START | 1u << EVENT_JOIN | 1u << EVENT_SIGNAL      \
+                           | 1u << EVENT_AWAIT | 1u << EVENT_FENCE | 1u << EVENT_STORED | 1u << EVENT_LET_GO | 1u << EVENT_LOADED | 1u << EVENT_TAKEN)
 
 /* A reuse has addresses below 2^48, so the upper bits of how many bytes it has stand above its address. */
 #define REUSE_BITS 48

@@ -85,6 +85,21 @@ def names(folder, findings, compiler, level):
     findings.check(f"the threads of {program.name}", threads == expected(source, "THREAD") and len(trace.thread_facts) == 5, f"{trace.thread_facts} {threads}")
 
 
+def born(folder, findings, compiler, level):
+    source = PROGRAMS / "born.cpp"
+    program = build(folder, findings, source, compiler, level)
+    marks, wanted = lines_of(source), expected(source, "LOCK")
+    for words in ("--stacks",), ("--trace", "4"):
+        trace, _, fault = record_it(folder, program, *words)
+        found = {("created" if fact.is_created else "taken", name.decode(), *outside(trace, fact.node, source, marks)) for name, fact in trace.lock_facts.items()}
+        # Without --stacks there are no calls, and a place in a header of the system is that of no line here.
+        shown = wanted if words == ("--stacks",) else {(*lock[:2], "*" if lock[2] == "guard" else lock[2]) for lock in wanted}
+        found = found if words == ("--stacks",) else {lock[:3] if lock[2:] else (*lock, "*") for lock in found}
+        findings.check(f"the births of the locks of {program.name} {' '.join(words)}", not fault and found == shown, f"{fault} {found} {shown}")
+        lies = trace.lock_addresses
+        findings.check(f"a lock where another one of {program.name} was", lies.get(b"mutex-1") == lies.get(b"mutex-2") is not None, f"{lies}")
+
+
 def preloaded(folder, findings):
     """The writer has the program's preloaded allocator too, and is left with no block of another one."""
     source = PROGRAMS / "names.cpp"
@@ -103,7 +118,7 @@ def tests(record):
     command([TOP / "record/build"])
     with tempfile.TemporaryDirectory() as name, concurrent.futures.ThreadPoolExecutor(WORKERS) as pool:
         folder = pathlib.Path(name)
-        done = [pool.submit(test, folder, findings, compiler, level) for test in (tries, names) for compiler in ("gcc", "clang") for level in LEVELS]
+        done = [pool.submit(test, folder, findings, compiler, level) for test in (tries, names, born) for compiler in ("gcc", "clang") for level in LEVELS]
         done.append(pool.submit(preloaded, folder, findings))
         done.append(pool.submit(refused, folder, findings, "--flow", "a text has no data flow"))
         for one in done:

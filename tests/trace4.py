@@ -4,7 +4,7 @@
 trace4.py print [FILE]         prints the text that a trace means; a text means itself
 trace4.py encode [SEED]        makes a trace 4 of the text on standard input; with a seed its lengths, blocks and records without a meaning are random
 trace4.py sizes [FILE]         prints how many bytes, blocks and records of each kind a trace has
-trace4.py facts [FILE]         prints what a trace says of the function and the memory of each line that is an access, and of its threads
+trace4.py facts [FILE]         prints what a trace says of the function and the memory of each line that is an access, of its threads, and of its locks
 
 It shares no code with the program, nor with the recorder.
 """
@@ -57,6 +57,7 @@ Event = collections.namedtuple("Event", "thread kind is_write address size opera
 Node = collections.namedtuple("Node", "caller place flags")
 Variable = collections.namedtuple("Variable", "address size name")
 ThreadFact = collections.namedtuple("ThreadFact", "created_at name")
+LockFact = collections.namedtuple("LockFact", "node is_created")
 Block = collections.namedtuple("Block", "line address size place")
 Memory = collections.namedtuple("Memory", "name offset size place")
 
@@ -79,7 +80,7 @@ class Trace:
     def __init__(self, data):
         self.data, self.lines, self.events, self.damage = data, [b"eraser trace 3"], [], None
         self.threads, self.locks, self.places, self.nodes = [], [], [], [None]
-        self.variables, self.thread_facts, self.lock_addresses = [], {}, {}
+        self.variables, self.thread_facts, self.lock_addresses, self.lock_facts = [], {}, {}, {}
         self.kinds, self.bytes, self.blocks = collections.Counter(), collections.Counter(), 0
         self.lost, self.has_ended = 0, False
         # By the numbers of lines, the places of the calls that led to their events, the innermost first.
@@ -271,7 +272,7 @@ class Trace:
 
     def read_fact(self, kind, content):
         """Keeps a fact that has the form of one. Any other says nothing."""
-        numbers = [int.from_bytes(content[begin:end], "little") for begin, end in ((0, 4), (4, 8), (4, 10), (0, 6), (6, 12), (12, 16))]
+        numbers = [int.from_bytes(content[begin:end], "little") for begin, end in ((0, 4), (4, 8), (4, 10), (0, 6), (6, 12), (12, 16), (10, 14))]
         if kind == VARIABLE and reference.is_site(content[12:], b"3") and numbers[4] and sum(numbers[3:5]) <= ADDRESS_END:
             if not self.variables or numbers[3] >= self.variables[-1].address:
                 self.variables.append(Variable(*numbers[3:5], content[12:]))
@@ -279,8 +280,10 @@ class Trace:
             self.functions.setdefault(numbers[0], content[4:])
         elif kind == THREAD_FACTS and numbers[0] < len(self.threads) and numbers[1] < len(self.nodes) and (len(content) == 8 or reference.is_site(content[8:], b"3")):
             self.thread_facts[self.threads[numbers[0]]] = ThreadFact(numbers[1], content[8:])
-        elif kind == MEMORY_FACTS and len(content) == 10 and numbers[0] < len(self.locks):
+        elif kind == MEMORY_FACTS and len(content) in (10, 14, 15) and numbers[0] < len(self.locks):
             self.lock_addresses[self.locks[numbers[0]]] = numbers[2]
+            if len(content) > 10 and 0 < numbers[6] < len(self.nodes):
+                self.lock_facts[self.locks[numbers[0]]] = LockFact(numbers[6], len(content) == 14)
         elif kind == MEMORY_FACTS and len(content) == 16 and numbers[4] and sum(numbers[3:5]) <= ADDRESS_END and numbers[5] < len(self.nodes):
             self.got.append(Block(len(self.lines), *numbers[3:5], self.place_of(numbers[5])))
 
@@ -327,11 +330,18 @@ class Trace:
         fact = self.thread_facts.get(thread)
         return fact and (self.place_of(fact.created_at), fact.name)
 
+    def birth_of(self, lock):
+        """The place of the call that created a lock and True, or that of the first call that acquired it and False, or None."""
+        fact = self.lock_facts.get(lock)
+        return fact and (self.place_of(fact.node), fact.is_created)
+
     def facts(self):
         for line, word in self.words.items():
             yield line, self.function_on(line), self.variable_of(word) or self.block_of(line, word)
         for thread in self.thread_facts:
             yield thread, *self.start_of(thread)
+        for lock in self.lock_facts:
+            yield lock, *self.birth_of(lock)
 
     def read_end(self, count):
         self.check(self.at == self.end and count == len(self.events))
@@ -460,13 +470,16 @@ class Writer:
         self.record(kind, len(content), content)
 
     def add_facts(self):
-        """Facts of memory, and of the places and threads so far and the next ones."""
+        """Facts of memory, and of the places, threads and locks so far and the next ones."""
         self.add_blocks()
         for place in range(len(self.places) + 1):
             for _ in range(self.dice.randrange(3)):
                 self.fact(FUNCTION, (place, 4))
         for thread in range(len(self.threads) + 1):
             self.fact(THREAD_FACTS, (thread, 4), (self.dice.randrange(len(self.nodes) + 2), 4))
+        # With two bytes more they are blocks.
+        for lock in range(len(self.locks) + 1):
+            self.fact(MEMORY_FACTS, (lock, 4), (0x1000 + 8 * lock, 6), (self.dice.randrange(len(self.nodes) + 2), 4), names=(b"", b"", b"\0", b"x", b"xx", b"xxx"))
 
     def add_blocks(self):
         """Blocks of memory near the words of random traces. Some lie in others, and some facts lack a byte, a node or an end within memory."""

@@ -17,7 +17,7 @@ HOOK void eraser_unlock(const volatile void *lock) { emit(EVENT_UNLOCK, LOCK_USE
 #define TSAN_TRY_LOCK (1u << 4)
 #define TSAN_TRY_LOCK_FAILED (1u << 5)
 
-HOOK void __tsan_mutex_create(void *lock, unsigned how) { (void)how; emit(EVENT_LOCK_BEGIN, 0, (uintptr_t)lock, 0); }
+HOOK void __tsan_mutex_create(void *lock, unsigned how) { (void)how; emit(EVENT_LOCK_BEGIN, 0, (uintptr_t)lock, CALLER); }
 HOOK void __tsan_mutex_destroy(void *lock, unsigned how) { (void)how; emit(EVENT_LOCK_END, 0, (uintptr_t)lock, 0); }
 HOOK void __tsan_mutex_pre_lock(void *lock, unsigned how) { (void)lock; (void)how; }
 
@@ -51,17 +51,16 @@ HOOK void __tsan_acquire(void *object) { emit_await(OBJECT_USER, object, CALLER)
 
 /* ---- Annotations of Valgrind's family ---- */
 
-HOOK void AnnotateRWLockCreate(const char *file, int line, const volatile void *lock)
-{
-    (void)file;
-    (void)line;
-    emit(EVENT_LOCK_BEGIN, 0, (uintptr_t)lock, 0);
-}
+#define CREATE(name)                             \
+    HOOK void name(const char *file, int line, const volatile void *lock) \
+    {                                            \
+        (void)file;                              \
+        (void)line;                              \
+        emit(EVENT_LOCK_BEGIN, 0, (uintptr_t)lock, CALLER); \
+    }
 
-HOOK void AnnotateRWLockCreateStatic(const char *file, int line, const volatile void *lock)
-{
-    AnnotateRWLockCreate(file, line, lock);
-}
+CREATE(AnnotateRWLockCreate)
+CREATE(AnnotateRWLockCreateStatic)
 
 HOOK void AnnotateRWLockDestroy(const char *file, int line, const volatile void *lock)
 {

@@ -31,9 +31,9 @@ static void emit_unlock(enum lock_kind kind, volatile void *lock, uint64_t site)
     emit(EVENT_UNLOCK, kind, (uintptr_t)lock, site);
 }
 
-static void emit_begin(volatile void *lock)
+static void emit_begin(volatile void *lock, uint64_t site)
 {
-    emit(EVENT_LOCK_BEGIN, 0, (uintptr_t)lock, 0);
+    emit(EVENT_LOCK_BEGIN, 0, (uintptr_t)lock, site);
 }
 
 static void emit_end(volatile void *lock, uint64_t site)
@@ -83,7 +83,7 @@ static void emit_end(volatile void *lock, uint64_t site)
     {                                                        \
         int result = REAL(name) arguments;                   \
         if (result == 0)                                     \
-            emit_begin(lock);                                \
+            emit_begin(lock, CALLER);                        \
         return result;                                       \
     }
 

@@ -201,12 +201,12 @@ static char omp_critical = 1, omp_atomic = 1;
         REAL(name) arguments;                                \
     }
 
-#define LIFE(name, parameters, arguments, kind)              \
+#define LIFE(name, parameters, arguments, kind, place)       \
     void name parameters;                                    \
     HOOK void name parameters                                \
     {                                                        \
         REAL(name) arguments;                                \
-        emit(kind, 0, (uintptr_t)lock, 0);                   \
+        emit(kind, 0, (uintptr_t)lock, place);               \
     }
 
 ACQUIRE(GOMP_critical_start, (void), (), &omp_critical)
@@ -217,9 +217,9 @@ ACQUIRE(GOMP_atomic_start, (void), (), &omp_atomic)
 RELEASE(GOMP_atomic_end, (void), (), &omp_atomic)
 
 #define LOCK_FUNCTIONS(middle)                               \
-    LIFE(omp_init_##middle, (void *lock), (lock), EVENT_LOCK_BEGIN) \
-    LIFE(omp_init_##middle##_with_hint, (void *lock, int hint), (lock, hint), EVENT_LOCK_BEGIN) \
-    LIFE(omp_destroy_##middle, (void *lock), (lock), EVENT_LOCK_END) \
+    LIFE(omp_init_##middle, (void *lock), (lock), EVENT_LOCK_BEGIN, CALLER) \
+    LIFE(omp_init_##middle##_with_hint, (void *lock, int hint), (lock, hint), EVENT_LOCK_BEGIN, CALLER) \
+    LIFE(omp_destroy_##middle, (void *lock), (lock), EVENT_LOCK_END, 0) \
     ACQUIRE(omp_set_##middle, (void *lock), (lock), lock)    \
     RELEASE(omp_unset_##middle, (void *lock), (lock), lock)  \
     TRY(omp_test_##middle)

@@ -134,8 +134,9 @@ static char *put_thread_name(char *at, struct thread *thread)
     return put_text(at, KIND_THREAD_NAME, thread->text, thread->bytes - 1u);
 }
 
-/* With the fact where it lies, unless it is no place in the program's memory. */
-static char *put_lock_name(char *at, struct label *lock)
+/* With the fact where it lies, unless it is no place in the program's memory. The fact has the call that created it as well, or else the one at node
+ * `taken` that acquires it first, with a byte more. It is 0 if the event is no acquire. */
+static char *put_lock_name(char *at, struct label *lock, uint32_t taken)
 {
     if (lock->number)
         return at;
@@ -144,7 +145,9 @@ static char *put_lock_name(char *at, struct label *lock)
     at = put_text(at, KIND_LOCK_NAME, lock->name, strlen(lock->name));
     if (lock->address >= ADDRESS_END)
         return at;
-    return put(put(put_operand(at, KIND_LOCK_FACT, 10), &number, 4), &lock->address, 6);
+    size_t bytes = lock->created_at ? 14 : taken ? 15 : 10;
+    at = put(put(put_operand(at, KIND_LOCK_FACT, bytes), &number, 4), &lock->address, 6);
+    return put(put(at, lock->created_at ? &lock->created_at : &taken, bytes > 10 ? 4 : 0), "", bytes > 14);
 }
 
 static inline char *put_thread(char *at, struct thread *thread)
@@ -292,13 +295,18 @@ static void write_reuse(struct thread *thread, uint64_t address, uint64_t bytes,
         end_event(thread, put(put_operand(put_node(at, node), KIND_REUSE, bytes), &address, 6));
 }
 
+static bool acquires(enum verb verb)
+{
+    return verb == VERB_LOCK || verb == VERB_READ_LOCK || verb == VERB_TRY_LOCK || verb == VERB_TRY_READ_LOCK;
+}
+
 static void write_of_lock(struct thread *thread, enum verb verb, struct label *lock, uint64_t place)
 {
     uint32_t node = node_at(place);
     char *at = begin_event(thread);
     if (!at)
         return;
-    at = put_node(put_lock_name(at, lock), node);
+    at = put_node(put_lock_name(at, lock, acquires(verb) ? node : 0), node);
     at = put_operand(at, (enum kind)kinds[verb], lock->number - 1);
     if (verb == VERB_FAILED_TRY || verb == VERB_FAILED_READ_TRY)
         end_hidden_event(at);
@@ -342,9 +350,9 @@ static void write_bytes(enum kind kind, const void *bytes, size_t count)
 }
 
 /* A library may have made the call for the program. */
-static void keep_creation(struct thread *thread, uint64_t place)
+static uint32_t node_of_creator(uint64_t place)
 {
-    thread->created_at = caller_of_event && !sites_has_instrumented(place) ? caller_of_event : node_at(place);
+    return caller_of_event && !sites_has_instrumented(place) ? caller_of_event : node_at(place);
 }
 
 static void write_thread_fact(const struct thread *thread)
@@ -410,5 +418,5 @@ static void end(uint64_t lost)
 
 const struct form binary_form = {
     .begin = begin, .access = write_access, .reuse = write_reuse, .of_lock = write_of_lock, .of_thread = write_of_thread, .alone = write_alone,
-    .of_atomic = write_of_atomic, .created = keep_creation, .got = write_block_fact, .comment = write_comment, .end = end, .end_part = end_block,
+    .of_atomic = write_of_atomic, .creator = node_of_creator, .got = write_block_fact, .comment = write_comment, .end = end, .end_part = end_block,
 };

@@ -148,7 +148,7 @@ static void begin_thread(const struct slot *slot)
 {
     set_self(slot->thread, slot->first);
     stacks_set(slot->size);
-    trace_created(slot->thread, slot->second);
+    trace_thread(slot->thread)->created_at = trace_creator(slot->second);
     use_early_name(slot->thread, slot->first);
 }
 
@@ -299,7 +299,7 @@ static void take_rare(const struct slot *slot)
 {
     switch (slot_kind(slot)) {
     case EVENT_LOCK_TWICE: locks_wait_for_own(slot->thread, slot->first, slot->second); break;
-    case EVENT_LOCK_BEGIN: locks_begin(slot->first); break;
+    case EVENT_LOCK_BEGIN: locks_begin(slot->first, slot->second); break;
     case EVENT_LOCK_END: locks_end(slot->thread, slot->first, slot->second); break;
     case EVENT_IGNORE_ON: change_ignoring(slot->thread, true); break;
     case EVENT_IGNORE_OFF: change_ignoring(slot->thread, false); break;

@@ -34,6 +34,7 @@ struct label {
     char *name;
     uint64_t address;
     uint32_t number; /* in the binary form, from 1 on; 0: it is not there yet */
+    uint32_t created_at; /* the node of the call that created the lock, 0 if it is not known, in a text, or of an object */
 };
 
 /* Each counts the events that it has written, and those that it can't write. `place` is the program counter behind a call, or 0 for none. */
@@ -44,10 +45,10 @@ struct form {
     void (*of_lock)(struct thread *thread, enum verb verb, struct label *lock, uint64_t place);
     void (*of_thread)(struct thread *thread, enum verb verb, struct thread *other, uint64_t place);
     void (*alone)(struct thread *thread, enum verb verb);
-    /* An atomic operation that orders nothing, the call that created a thread, and a block of memory that a call gave to the program: NULL of a text,
-     * which has none of them. The last two are no events. */
+    /* An atomic operation that orders nothing, the node of a call that creates a thread or a lock, and a block of memory that a call gave to the program:
+     * NULL of a text, which has none of them. The last two are no events. */
     void (*of_atomic)(struct thread *thread, bool stores, uint64_t address, uint64_t place);
-    void (*created)(struct thread *thread, uint64_t place);
+    uint32_t (*creator)(uint64_t place);
     void (*got)(uint64_t address, uint64_t bytes, uint64_t place);
     void (*comment)(const char *text, size_t bytes);
     void (*end)(uint64_t lost);

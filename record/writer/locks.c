@@ -49,18 +49,27 @@ static struct lock *find_lock(uint64_t address)
     return lock;
 }
 
-static struct lock *get_lock(uint64_t address, enum lock_kind kind)
+static struct lock *add_lock(uint64_t address, uint32_t created_at)
 {
-    struct lock *lock = find_lock(address);
-    if (lock)
-        return lock;
-    static const char *const kinds[] = {"mutex", "rwlock", "spin", "user"};
-    static unsigned counts[4];
-    lock = get_memory(NULL, sizeof *lock);
-    struct lock **bucket = bucket_of(address);
-    *lock = (struct lock){*bucket, address, kind, {make_name(address, kinds[kind], &counts[kind]), address, 0}, NULL, 0, 0};
+    struct lock *lock = get_memory(NULL, sizeof *lock), **bucket = bucket_of(address);
+    *lock = (struct lock){.next = *bucket, .address = address, .label = {NULL, address, 0, created_at}};
     *bucket = lock;
     pages_mark_lock(address);
+    return lock;
+}
+
+/* A lock has its kind and its name from the first event that names it. */
+static struct lock *get_lock(uint64_t address, enum lock_kind kind)
+{
+    static const char *const kinds[] = {"mutex", "rwlock", "spin", "user"};
+    static unsigned counts[4];
+    struct lock *lock = find_lock(address);
+    if (!lock)
+        lock = add_lock(address, 0);
+    if (!lock->label.name) {
+        lock->kind = kind;
+        lock->label.name = make_name(address, kinds[kind], &counts[kind]);
+    }
     return lock;
 }
 
@@ -261,7 +270,7 @@ void locks_release(uint32_t thread, uint64_t address, struct release release)
     if (!holder && releases_forgotten(thread, address))
         return;
     /* A lock of the program's own may be one that another thread releases. One that no line has named may have been taken before the recording. */
-    bool may_be_held = !lock && recording.ring->is_late;
+    bool may_be_held = (!lock || !lock->label.name) && recording.ring->is_late;
     if (!holder && release.kind != LOCK_USER && is_certain() && !may_be_held) {
         lock = get_lock(address, release.kind);
         release_of_other(lock, thread, release);
@@ -296,11 +305,20 @@ static struct lock **place_of(uint64_t address)
     return place;
 }
 
-void locks_begin(uint64_t address)
+/* What is at this address is no more, unless it is a lock that is held. */
+static void end_life(uint64_t address)
 {
     struct lock **place = place_of(address);
     if (*place && !(*place)->holder_count)
         remove_lock(place);
+}
+
+void locks_begin(uint64_t address, uint64_t place)
+{
+    uint32_t created_at = trace_creator(place);
+    end_life(address);
+    if (created_at && !find_lock(address))
+        add_lock(address, created_at);
 }
 
 /* No step of a trace stands for it. The thread's step in its place is one that a replay refuses, so the report has a line and what is held stays. */
@@ -320,7 +338,7 @@ void locks_end(uint32_t thread, uint64_t address, uint64_t at)
     struct lock *lock = *place_of(address);
     if (lock)
         say_end(thread, "destroys", lock, at);
-    locks_begin(address);
+    end_life(address);
 }
 
 /* A lock of the program's own may have been released in a way that it didn't say. */

@@ -26,8 +26,8 @@ struct release {
 void locks_release(uint32_t thread, uint64_t address, struct release release);
 /* A thread waits for a lock that it holds. */
 void locks_wait_for_own(uint32_t thread, uint64_t address, uint64_t place);
-/* A lock's life begins or ends: the next acquire at this address is another lock's, unless this one is held now. */
-void locks_begin(uint64_t address);
+/* A lock's life begins, by the call at this place, or ends: the next acquire at this address is another lock's, unless this one is held now. */
+void locks_begin(uint64_t address, uint64_t place);
 void locks_end(uint32_t thread, uint64_t address, uint64_t place);
 /* Memory is put to a new use: the locks in it are no more. `place` is that of a call by which the thread frees it, or 0. */
 void locks_forget(uint64_t address, uint64_t bytes, uint32_t thread, uint64_t place);

@@ -51,7 +51,7 @@ static struct object *add_object(uint64_t address, enum object_kind kind)
     static unsigned counts[OBJECT_KINDS];
     struct object *object = get_memory(NULL, sizeof *object);
     struct object **bucket = bucket_of(address);
-    *object = (struct object){*bucket, address, {make_name(address, kinds[kind], &counts[kind]), address, 0}, 0, 0, false, NULL, 0, 0, 1};
+    *object = (struct object){*bucket, address, {make_name(address, kinds[kind], &counts[kind]), address, 0, 0}, 0, 0, false, NULL, 0, 0, 1};
     *bucket = object;
     pages_mark_lock(address);
     return object;

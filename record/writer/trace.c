@@ -179,11 +179,9 @@ void trace_atomic(uint32_t number, bool stores, uint64_t address, uint64_t place
         trace_form->of_atomic(trace_thread(number), stores, address, place);
 }
 
-void trace_created(uint32_t number, uint64_t place)
+uint32_t trace_creator(uint64_t place)
 {
-    struct thread *thread = trace_thread(number);
-    if (place && trace_form->created)
-        trace_form->created(thread, place);
+    return place && trace_form->creator ? trace_form->creator(place) : 0;
 }
 
 /* ---- Comments ---- */

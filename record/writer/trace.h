@@ -61,8 +61,8 @@ void trace_other_thread(uint32_t number, enum verb verb, uint32_t other, uint64_
 void trace_ignore(struct thread *thread, enum verb verb);
 /* An atomic operation that orders nothing. A text has none of them. */
 void trace_atomic(uint32_t number, bool stores, uint64_t address, uint64_t place);
-/* A thread begins, which the call at this place has created. */
-void trace_created(uint32_t number, uint64_t place);
+/* The node of a call at this place that creates a thread or a lock, 0 if it is not known or in a text. */
+uint32_t trace_creator(uint64_t place);
 /* Each thread of the program that has an event, or one that names it. */
 void trace_each_thread(void (*visit)(const struct thread *thread));
 void trace_thread_name(struct thread *thread, const char *name);
