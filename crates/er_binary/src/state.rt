@@ -28,7 +28,8 @@ const MOST: u64 = 1 << 30;
 pub struct State {
     /// The names of threads.
     pub threads: Names,
-    pub(crate) locks: Names,
+    /// The names of locks and objects.
+    pub locks: Names,
     /// Places.
     pub places: Names,
     /// Nodes.

@@ -7,29 +7,31 @@ use Rattle.std.specs.Map.{lookup}
 use Rattle.std.specs.Ordering.{nat_cmp}
 use Rattle.er_binary.specs.Nodes.{way_to}
 use Rattle.er_binary.specs.declared.state.State.{State}
+use Rattle.er_places.specs.declared.facts.Birth.{Birth}
 use Rattle.er_places.specs.declared.facts.Block.{Block}
 use Rattle.er_places.specs.declared.facts.Extent.{Extent}
 use Rattle.er_places.specs.declared.facts.Facts.{Facts}
 use Rattle.er_places.specs.declared.facts.Start.{Start}
 use Rattle.er_places.specs.declared.facts.Variable.{Variable}
 
--- by line the places that led to its event, as numbers, and the block that it touched, by word the variable, by name the thread, by place the function, and
--- the names of places
+-- by line the places that led to its event, as numbers, and the block that it touched, by word the variable, by name the thread and the lock, by place the
+-- function, and the names of places
 pub record FactTable : Type 0 where
   pub ways : List (ℕ × Vec ℕ)
   pub blocks : List (ℕ × Block)
   pub variables : List (ℕ × Variable)
   pub threads : List (Vec ℕ × Start)
+  pub locks : List (Vec ℕ × Birth)
   pub functions : List (ℕ × Vec ℕ)
   pub places : List (List ℕ)
 
 -- what was noted
 abbrev pub table_of : Facts → FactTable
-table_of f = record { ways = f.ways.entries; blocks = f.blocks.entries; variables = f.variables.entries; threads = f.threads.entries; functions = f.functions.entries; places = f.places }
+table_of f = record { ways = f.ways.entries; blocks = f.blocks.entries; variables = f.variables.entries; threads = f.threads.entries; locks = f.locks.entries; functions = f.functions.entries; places = f.places }
 
 -- the names of places alone are known
 abbrev pub known_places : List (List ℕ) → FactTable
-known_places names = record { ways = []; blocks = []; variables = []; threads = []; functions = []; places = names }
+known_places names = record { ways = []; blocks = []; variables = []; threads = []; locks = []; functions = []; places = names }
 
 -- whether what was noted is told: no memory was refused
 abbrev pub is_told : Facts → Bool

@@ -1,11 +1,13 @@
--- The names of what raced: functions, variables, blocks of memory and threads.
-use Rattle.std.specs.Prelude.{ℕ, cond, List, [], ◌∷◌, Option, None, Some, vec_items}
+-- The names of what raced: functions, variables, blocks of memory, threads and locks.
+use Rattle.std.specs.Prelude.{ℕ, cond, List, [], ◌∷◌, Option, None, Some, slice_get, vec_items}
 use Rattle.std.specs.BTreeMap.{is_at}
 use Rattle.std.specs.Cmp.Lexicographic.{slice_cmp}
 use Rattle.std.specs.Map.{lookup}
 use Rattle.std.specs.Ordering.{nat_cmp}
+use Rattle.er_event.specs.Lockset.{is_level_lock}
 pub use Rattle.er_places.specs.Facts.{has_word}
 use Rattle.er_places.specs.Facts.{function_in}
+use Rattle.er_places.specs.declared.facts.Birth.{Birth}
 use Rattle.er_places.specs.declared.facts.Block.{Block}
 use Rattle.er_places.specs.declared.facts.Start.{Start}
 use Rattle.er_places.specs.declared.facts.Variable.{Variable}
@@ -47,3 +49,12 @@ block_of table line word = block_if word (lookup (is_at (nat_cmp line)) table.fa
 -- how the thread of a name began
 unfoldable pub start_of : PlaceTable → List ℕ → Option Start
 start_of table thread = lookup (is_at (λ key. slice_cmp nat_cmp thread (vec_items key))) table.facts.threads
+
+-- where the life of the lock of a name began
+abbrev pub birth_named : PlaceTable → Option (List ℕ) → Option Birth
+birth_named table None = None
+birth_named table (Some name) = lookup (is_at (λ key. slice_cmp nat_cmp name (vec_items key))) table.facts.locks
+
+-- and that of the lock of a number, if it is not the lock of a level
+unfoldable pub birth_of : PlaceTable → ℕ → Option Birth
+birth_of table lock = cond (is_level_lock lock) None (birth_named table (slice_get table.names.locks lock))

@@ -79,6 +79,13 @@ pub struct Start {
     pub name: Vec<u8>,
 }
 
+/// Where the life of a lock began: the place of the call that created it, or else that of the first call that acquired it.
+#[derive(Clone, Copy)]
+pub struct Birth {
+    pub place: u32,
+    pub is_created: bool,
+}
+
 /// What was asked and noted of a binary trace. Places are numbered.
 #[derive(Drop)]
 pub struct Facts {
@@ -102,6 +109,8 @@ pub struct Facts {
     pub(crate) variables: BTreeMap<u64, Variable>,
     // By their names the threads whose beginning is known.
     pub(crate) threads: BTreeMap<Vec<u8>, Start>,
+    // By their names the locks of which it is known where their lives began.
+    pub(crate) locks: BTreeMap<Vec<u8>, Birth>,
     // By place the function that it is in.
     pub(crate) functions: BTreeMap<u64, Vec<u8>>,
     pub(crate) places: Names,
@@ -134,6 +143,7 @@ impl Facts {
             blocks: BTreeMap::new(alloc),
             variables: BTreeMap::new(alloc),
             threads: BTreeMap::new(alloc),
+            locks: BTreeMap::new(alloc),
             functions: BTreeMap::new(alloc),
             places: Names::new(alloc),
         }
@@ -216,7 +226,8 @@ impl Facts {
             58 => self.add_variable(body),
             59 => self.add_function(body, state),
             60 => self.add_thread(body, state),
-            61 => self.add_block(body, state),
+            61 if body.len() == 16 => self.add_block(body, state),
+            61 => self.add_lock(body, state),
             _ => Ok(()),
         }
     }
@@ -289,6 +300,24 @@ impl Facts {
             let place = state.nodes.place_of(node);
             let name = Vec::from_slice(self.alloc, name)?;
             self.threads.insert(key, Start { place, name })?;
+        }
+        Ok(())
+    }
+
+    fn add_lock(&mut self, body: &[u8], state: &State) -> Put
+        ensures { SameLines self.old self.new }
+    {
+        let Some((head, rest)) = body.split_first_chunk::<14>() else {
+            return Ok(());
+        };
+        let (lock, node) = (number(&head[..4]), number(&head[10..]));
+        if lock >= state.locks.len() || node > state.nodes.len() || rest.len() > 1 {
+            return Ok(());
+        }
+        if let Some(place) = state.nodes.place_of(node) {
+            let key = Vec::from_slice(self.alloc, state.locks.get(lock))?;
+            let is_created = rest.is_empty();
+            self.locks.insert(key, Birth { place, is_created })?;
         }
         Ok(())
     }

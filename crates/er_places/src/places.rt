@@ -2,13 +2,14 @@
 ghost use Rattle.std.specs.Prelude.{◌≡◌, ℕ, None, Some, true, option_copied, IfSome};
 ghost use Rattle.er_places.specs.Inner.Following.{AreNamed};
 ghost use Rattle.er_places.specs.Facts.{table_of};
-ghost use Rattle.er_places.specs.Names.{block_of, call_function, function_of, has_word, start_of, variable_of, way_of};
+ghost use Rattle.er_places.specs.Names.{birth_of, block_of, call_function, function_of, has_word, start_of, variable_of, way_of};
 ghost use Rattle.er_places.specs.Places.{HasPlaceNames, call_name, calls_of, no_names, place_at};
+ghost use Rattle.er_report.specs.Names.{HasLockName};
 ghost use Rattle.er_places.specs.Reasons.{access_place, race_place, reason_place};
 
-use crate::facts::{Block, Facts, Start, Variable};
+use crate::facts::{Birth, Block, Facts, Start, Variable};
 use crate::follower::PlaceMap;
-use er_event::{Kind, Lockset, Site, ThreadId, Word};
+use er_event::{Kind, LockId, Lockset, Site, ThreadId, Word};
 use er_keys::{HashKeys, NumberHasher};
 use er_report::{Because, Deed, Race};
 use er_trace::{Names, Trace};
@@ -169,6 +170,26 @@ impl Places {
         ensures { option_copied result ≡ start_of self.now thread.now }
     {
         self.facts.threads.get(thread)
+    }
+
+    /// Where the life of a lock of these names began, if that is known. Of the lock of a level it isn't.
+    #[tactic(auto, unfolding(crate::specs::Names::birth_of))]
+    pub fn birth_of(&self, lock: LockId) -> Option<&Birth>
+        requires { HasLockName self.now.names lock }
+        ensures { option_copied result ≡ birth_of self.now lock }
+    {
+        let (locks, names) = (&self.facts.locks, self.trace.names());
+        match lock.is_level_lock() {
+            true => None,
+            false => locks.get(names.lock_name(lock).as_bytes()),
+        }
+    }
+
+    /// Does nothing. It is a law for the proofs of callers: the numbers of each place have names.
+    pub fn are_named(&self)
+        ensures { (line : ℕ) → IfSome (place_at self.now line) (HasPlaceNames self.now.names) }
+    {
+        let _places = &self.by_line;
     }
 
     /// The names of the numbers in the places.
