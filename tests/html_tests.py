@@ -363,6 +363,7 @@ def hostile_tests(record, one, folder):
         {"line": 9 * place + 9, "thread": name, "kind": "write", "label": "not covering", "lock": name}],
         **({"block": {"size": 8, "offset": 4, "site": name}} if place % 2 else {"variable": {"name": name, "offset": 4}})} for place, name in enumerate(HOSTILE)]
     document["threads"] = [{"thread": name, "name": name, "site": name} for name in HOSTILE]
+    document["locks"] = [{"lock": name, "site": name, "created": place % 2 == 0} for place, name in enumerate(HOSTILE)]
     document["refused"] = [{"line": 1, "thread": name, "event": name, "lock": name, "why": name} for name in HOSTILE]
     document["shown"] = [{"line": 1, "address": name, "state": name, "owner": name, "candidates": [name]} for name in HOSTILE]
     sources = json.dumps([{"site": name, "line": 1, "text": name} for name in HOSTILE]).encode()
@@ -376,7 +377,8 @@ def hostile_tests(record, one, folder):
     calls = one.value("[...document.querySelectorAll('ul.calls > li')].map(call => call.textContent)")
     record("hostile names of calls are text", calls == [text for name in HOSTILE for text in (f"in {name}", f"called at {name} in {name}")], f"{calls}")
     told = one.value("[...document.querySelectorAll('ul.threads > li')].map(start => start.textContent)")
-    record("hostile names of threads are text", told == [f'{name} "{name}" was started at {name}' for name in HOSTILE], f"{told}")
+    wanted = [text for place, name in enumerate(HOSTILE) for text in (f'{name} "{name}" was started at {name}', f"{name} was {'first taken' if place % 2 else 'created'} at {name}")]
+    record("hostile names of threads and locks are text", told == wanted, f"{told}")
     told = one.value("[...document.querySelectorAll('details.site > .body > p:first-child')].map(first => first.textContent)")
     wanted = [f"byte 4 of a block of 8 bytes allocated at {name}, the word" if place % 2 else f"{name}+4, the word" for place, name in enumerate(HOSTILE)]
     record("hostile names of variables and blocks are text", len(told) == len(wanted) and all(words in text for words, text in zip(wanted, told)), f"{told}")

@@ -20,7 +20,7 @@ import reference
 import site_tests
 from alone import OUTCOMES, each_refused, outcome_of, run_alone
 from analysis_tests import unordered_report
-from site_tests import NOWHERE, RACE, REASON, REUSE, TOP, holds_of, locks_in, places_in, plain_name, preloaded, run, run_file, run_with, starts
+from site_tests import NOWHERE, RACE, REASON, REUSE, TOP, holds_of, locks_in, places_in, plain_name, preloaded, run, run_file, run_with, starts, births
 
 SCHEMA = TOP / "docs/report.schema.json"
 REFUSED = re.compile(r"line (\d+): refused: (\S+) (\S+)(?: (\S+))?: ([^:]+)")
@@ -85,7 +85,7 @@ def text_of(document):
     """The bytes of a document: one line for each member and for each item of its first three lists. An analysis stands on the first line."""
     members = []
     for name, value in document.items():
-        rows = "[" + ",".join("\n" + plain(row) for row in value) + "]" if name in ("races", "refused", "shown", "threads") else plain(value)
+        rows = "[" + ",".join("\n" + plain(row) for row in value) + "]" if name in ("races", "refused", "shown", "threads", "locks") else plain(value)
         members.append(f'"{name}":{rows}')
     if "analysis" in document:
         members[:2] = [",".join(members[:2])]
@@ -115,13 +115,14 @@ def subject(race, trace, words, lines):
     return {"block": {"size": block.size, "offset": block.offset, "site": plain_name(block.place)}} if block else {}
 
 
-def threads_of(document, trace):
-    """Where the threads of a document's races were started, in front of its totals, if a trace 4 says it of one."""
-    threads = [thread for race in document["races"] for thread in (race["thread"], *(reason["thread"] for reason in race["reasons"]))]
-    rows = [{"thread": thread, "name": name, "site": site} for thread, name, site in starts(threads, trace)]
-    if rows:
-        totals = document.pop("totals")
-        document.update({"threads": rows, "totals": totals})
+def mentions_of(document, places, trace):
+    """Where the threads of a document's races were started and the lives of their locks began, in front of its totals, if a trace 4 says it of one."""
+    accesses = [access for race in document["races"] for access in (race, *race["reasons"])]
+    threads = [{"thread": thread, "name": name, "site": site} for thread, name, site in starts([access["thread"] for access in accesses], trace)]
+    found = births([str(access["line"]) for access in accesses], places, trace)
+    locks = [{"lock": lock, "site": site, "created": is_created} for lock, site, is_created in found]
+    totals = document.pop("totals")
+    document.update({**({"threads": threads} if threads else {}), **({"locks": locks} if locks else {}), "totals": totals})
 
 
 def wanted_lines(races):
@@ -151,7 +152,7 @@ def documents_of(text, rules, explain, analysis="lockset", is_file=False, trace=
         race.update(led(places.get(str(race["line"]), NOWHERE)) if "kind" in race else {})
         race.update(subject(race, trace, words, {int(line) for line in wanted}))
     for document in documents:
-        threads_of(document, trace)
+        mentions_of(document, places, trace)
     return documents
 
 
@@ -172,7 +173,7 @@ def expected(text, rules, explain, analysis="lockset", is_file=False, trace=None
 
 # ---- The schema
 
-KINDS = {"object": dict, "array": list, "string": str, "null": type(None)}
+KINDS = {"object": dict, "array": list, "string": str, "boolean": bool, "null": type(None)}
 IGNORED = {"$schema", "$defs", "title"}
 
 

@@ -207,6 +207,20 @@ def start_lines(races, trace):
     return ["threads:", *lines, ""] if lines else []
 
 
+def births(lines, places, trace):
+    """Of the locks that were held at the accesses on these lines, each once, where its life began and whether a call created it, if a trace 4 says it."""
+    locks = dict.fromkeys(lock for line in lines for lock, _ in places.get(line, NOWHERE).locks)
+    found = {lock: trace and trace.birth_of(lock.encode()) for lock in locks}
+    return [(lock, birth[0].decode(), birth[1]) for lock, birth in found.items() if birth]
+
+
+def mention_lines(races, places, trace):
+    """The threads and the locks of these races and of their reasons."""
+    lines = [line for race in races for line in (race[0], *(reason[1] for reason in race[-1]))]
+    told = [f"  {lock_name(lock)} was {'created' if is_created else 'first taken'} at {short(site, 72)}" for lock, site, is_created in births(lines, places, trace)]
+    return [*start_lines(races, trace), *(["locks:", *told, ""] if told else [])]
+
+
 def place_lines(place):
     """The lines behind a reason whose place is known."""
     site, locks, *_ = place
@@ -337,7 +351,7 @@ def by_site(report, text, places, trace=None):
     """The text for people, from the lines of an explained report of a trace and where accesses stood as far as that is known."""
     races, _, refused, rest = read_report(report)
     rows = rows_of(races, sites_in(text))
-    return "".join(line + "\n" for line in [*table(rows, places, trace), *start_lines(examples(rows), trace), *refused, *rest])
+    return "".join(line + "\n" for line in [*table(rows, places, trace), *mention_lines(examples(rows), places, trace), *refused, *rest])
 
 
 def in_run(rows, reuses, places, trace):
@@ -350,7 +364,7 @@ def by_site_of_order(unordered, text, places, trace=None):
     """The text for people of an explained report by happens-before."""
     races, reuses, refused, rest = read_report(unordered, holds_of(text))
     rows = rows_of(races, sites_in(text))
-    return "".join(line + "\n" for line in [*in_run(rows, reuses, places, trace), *start_lines([*examples(rows), *reuses], trace), *refused, *rest])
+    return "".join(line + "\n" for line in [*in_run(rows, reuses, places, trace), *mention_lines([*examples(rows), *reuses], places, trace), *refused, *rest])
 
 
 def by_site_of_both(lockset, unordered, text, places, trace=None):
@@ -360,7 +374,7 @@ def by_site_of_both(lockset, unordered, text, places, trace=None):
     first = rows_of(others, numbers)
     apart = [row for row in rows_of(races, numbers) if row[0] not in dict(first)]
     lines = [*in_run(first, reuses, places, trace), *part("no common lock", "no further site", apart, places, trace)]
-    lines += start_lines([*examples(first), *reuses, *examples(apart)], trace)
+    lines += mention_lines([*examples(first), *reuses, *examples(apart)], places, trace)
     return "".join(line + "\n" for line in [*lines, *refused, *rest, *more])
 
 

@@ -39,7 +39,8 @@ from site_tests import TOP, preloaded, run, run_fifo, run_file
 RANDOM_TRACES = 200
 # What reports have of calls and facts.
 SHOWN = (b"called at", b" more\n", b"    in Pool::take\n", b" in stats\n", b" stats+", b" of a block of ", b" allocated at ", b"\nthreads:\n", b" was started at ", b' "stats" was',
-    b'"calls":', b'"functions":[', b'"functions":[null', b'"variable":', b'"block":', b'"site":null}', b'"threads":', b'"name":null', b'"stacks":', b'"kind":"function"')
+    b'"calls":', b'"functions":[', b'"functions":[null', b'"variable":', b'"block":', b'"site":null}', b'"threads":', b'"name":null', b'"stacks":', b'"kind":"function"',
+    b"\nlocks:\n", b" was created at ", b" was first taken at ", b'"locks":', b'"created":true', b'"created":false')
 SCHEMA = json.loads(json_tests.SCHEMA.read_text())
 # Options of a replay. Each trace is replayed with some of them.
 FORMS = ([], ["--explain"], ["--by-site"], ["--format", "json"], ["--format", "sarif"], ["--format", "html"], ["--workers", "2"], ["--workers", "3"], ["--strict"],
@@ -174,7 +175,7 @@ def shown_calls(record):
         shown[word] += times
     record("trace 4: reports show what a trace says", all(shown[word] > 20 for word in SHOWN), f"{shown}")
     for analysis in ("happens-before", "both"):
-        rare = [word for word in (b"called at", b"    in Pool::take\n", b" stats+", b" of a block of ", b"\nthreads:\n") if met[word, f"by site of {analysis}"] < 10]
+        rare = [word for word in (b"called at", b"    in Pool::take\n", b" stats+", b" of a block of ", b"\nthreads:\n", b"\nlocks:\n") if met[word, f"by site of {analysis}"] < 10]
         record(f"trace 4: reports by site of {analysis} show what a trace says", not rare, f"{rare} {met}")
     # The calls of the race, of the write that it is unordered with, and none where a place has no caller.
     data = of_blocks([*BEGIN, named(T.PLACE, b"main.c:3"), record_of(T.NEW_NODE, 0, bytes([2, 0, 0, 0, 0])), record_of(T.NEW_NODE, 4, bytes([0, 0, 0, 0, 0])), record_of(T.NEW_NODE, 5, bytes([1, 0, 0, 0, 1])),
@@ -205,16 +206,19 @@ def block(writer, address, size, node):
 def pool(most_bytes=trace4.USUAL_BYTES):
     """A trace by hand that says all that a report can name: two threads meet in a block of memory, and in a variable."""
     writer = trace4.Writer(most_bytes=most_bytes)
-    taken, started = writer.node_of(b"pool.cpp:22"), writer.node_of(b"pool.cpp:24")
+    taken, made, started = (writer.node_of(b"pool.cpp:%d" % line) for line in (22, 23, 24))
     called = writer.node_of(b"pool.cpp:17")
     first, second, third = (writer.node_of(place, called) for place in (b"pool.cpp:12", b"pool.cpp:13", b"pool.cpp:14"))
-    for place, function in ((b"pool.cpp:22", b"main"), (b"pool.cpp:24", b"main"), (b"pool.cpp:17", b"work"), *((b"pool.cpp:%d" % line, b"note") for line in (12, 13, 14))):
+    for place, function in (*((b"pool.cpp:%d" % line, b"main") for line in (22, 23, 24)), (b"pool.cpp:17", b"work"), *((b"pool.cpp:%d" % line, b"note") for line in (12, 13, 14))):
         fact(writer, T.FUNCTION, (writer.places[place], 4), function)
     block(writer, 0x555e36321eb0, 32, taken)
     for thread in (b"t2", b"t3"):
         writer.of_thread(b"main", T.START, thread, started)
     writer.access(b"t2", True, 0x555e36321ebc, 4, first)
+    writer.of_lock(b"t3", T.LOCK, b"mutex-1", second)
+    fact(writer, T.MEMORY_FACTS, (0, 4), (0x555e36321eb0, 6), (made, 4))
     writer.access(b"t3", True, 0x555e36321ebc, 4, second)
+    writer.of_lock(b"t3", T.UNLOCK, b"mutex-1", second)
     for thread in (b"t2", b"t3"):
         writer.access(thread, True, 0x555e34d04058, 4, third)
     for thread, name in ((b"t2", b""), (b"t3", b"worker")):
@@ -246,6 +250,7 @@ def blocks_by_hand(record):
         named = [oldest if count == 255 else b"", latest] if begin is block else [b"", b""]
         record(f"trace 4: {name}: which of them are reported", told == named, f"{told}")
     facts_of_memory(record)
+    facts_of_locks(record)
 
 
 def facts_of_memory(record):
@@ -276,6 +281,45 @@ def facts_of_memory(record):
         found, expected = run_file(None, data, "--by-site"), site_tests.expected(trace.text(), None, True, trace)
         record(f"trace 4: {name}, in a report", found == expected and found[2] == 1, f"{found}, {expected}")
         record(f"trace 4: {name}: what is told of it", re.findall(rb"wrote(.*?) the word at", found[0]) == [wanted], f"{found}")
+
+
+def facts_of_locks(record):
+    """What is told of two locks by facts of the number of one, its address and a node, with more bytes or without, or by bytes that are none."""
+    first, second = 1, 2
+    for name, facts, wanted in (
+        ("a lock that a call created", [(0, first, b"")], [b"m was created at new.c:5"]),
+        ("a lock that a call acquired first", [(0, first, b"\0")], [b"m was first taken at new.c:5"]),
+        ("a lock that a call acquired first, and another byte", [(0, first, b"\xff")], [b"m was first taken at new.c:5"]),
+        ("two locks", [(1, second, b"\1"), (0, first, b"")], [b"m was created at new.c:5", b"n was first taken at new.c:6"]),
+        ("a lock that nobody held", [(2, first, b"")], []),
+        ("a lock that isn't there", [(3, first, b""), (2**32 - 1, first, b"")], []),
+        ("a lock without a node", [(0, 0, b""), (0, 0, b"\0")], []),
+        ("a lock whose node isn't there", [(0, 4, b""), (0, 2**32 - 1, b"\0")], []),
+        ("two facts of a lock", [(0, first, b""), (0, second, b"\0")], [b"m was first taken at new.c:6"]),
+        ("a fact of a lock, and one without a node", [(0, first, b""), (0, 0, b"\0")], [b"m was created at new.c:5"]),
+        ("where a lock lies", [(0, None, b"")], []),
+        ("a fact of a lock of 13 bytes", [(0, None, b"\1\0\0")], []),
+        ("a fact of a lock of 16 bytes, which is a block", [(0, first, b"\0\0")], []),
+        ("a fact of a lock of 17 bytes", [(0, first, b"\0\0\0")], []),
+    ):
+        writer = trace4.Writer()
+        for line in (5, 6):
+            writer.node_of(b"new.c:%d" % line)
+        at = writer.node_of(b"a.c:1")
+        for lock in (b"m", b"n", b"unused"):
+            writer.name(writer.locks, T.LOCK_NAME, lock)
+        for thread, lock in ((b"t1", b"m"), (b"t2", b"n"), (b"t1", b"m")):
+            writer.of_lock(thread, T.LOCK, lock, at)
+            writer.access(thread, True, 0x1000, 4, at)
+            writer.of_lock(thread, T.UNLOCK, lock, at)
+            for number, node, more in facts if thread == b"t1" else []:
+                fact(writer, T.MEMORY_FACTS, (number, 4), (0x2000, 6), *([] if node is None else [(node, 4)]), more)
+        data = writer.finish()
+        trace = trace4.Trace(data)
+        found, expected = run_file(None, data, "--by-site"), site_tests.expected(trace.text(), None, True, trace)
+        record(f"trace 4: {name}, in a report", found == expected and found[2] == 1, f"{found}, {expected}")
+        shown = re.search(rb"\nlocks:\n(.*?)\n\n", found[0], re.S)
+        record(f"trace 4: {name}: what is told of it", sorted(shown[1].split(b"\n") if shown else []) == [b"  " + line for line in wanted], f"{found}")
 
 
 # ---- Damaged traces
@@ -455,7 +499,7 @@ def refusals_again(record, preloaded, folder):
         (b"", b"read fault\n", 4): "read fault",
     }
     whole = next(iter(reports))[0]
-    named = all(word in whole for word in (b" byte 12 of a block of 32 bytes allocated at pool.cpp:22,", b" stats+24,", b"    in note\n", b"    called at pool.cpp:17 in work\n", b'  t3 "worker" was started at pool.cpp:24\n'))
+    named = all(word in whole for word in (b" byte 12 of a block of 32 bytes allocated at pool.cpp:22,", b" stats+24,", b"    in note\n", b"    called at pool.cpp:17 in work\n", b'  t3 "worker" was started at pool.cpp:24\n', b"  mutex-1 was created at pool.cpp:23\n"))
     record("trace 4: what a report by site of a file may have", len(reports) == 4 and named, f"{reports}")
     for nth, found, was_refused in each_refused(library, folder, lambda env: run(["replay", "--by-site", str(path)], env=env)):
         outcome = reports.get(found) or outcome_of(found, None, lambda text: b": stopped: out of memory\n" in text)
@@ -497,7 +541,7 @@ def example_of_facts(record):
     data = pool()
     found, wanted = run_file(None, data, "--by-site", *analysis), expected_by_site(trace4.text_of(data), None, trace4.Trace(data))["happens-before", True]
     record("trace 4: a report with all facts", found == wanted, f"{found}, {wanted}")
-    story = re.search(rb"\n(pool\.cpp:13 and .*?\n\n)(?s:.*)\n(threads:\n.*?\n)\nsteps", found[0], re.S)
+    story = re.search(rb"\n(pool\.cpp:13 and .*?\n\n)(?s:.*)\n(threads:\n.*?\n\nlocks:\n.*?\n)\nsteps", found[0], re.S)
     shown = b"```text\n" + story[1] + story[2] + b"```\n" if story else None
     record("trace 4: the example with facts of the formats", shown and shown in formats, f"{shown} {found}")
 

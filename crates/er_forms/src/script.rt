@@ -42,7 +42,8 @@ function partsOf(reports) {
   parts.flatMap((part) => part.sites).forEach((site, place) => (site.id = `site-${place + 1}`));
   for (const part of parts) {
     const starts = new Map((part.report.threads || []).map((start) => [start.thread, start]));
-    for (const site of part.sites) Object.assign(site, { isOrder: part.isOrder, starts });
+    const births = new Map((part.report.locks || []).map((birth) => [birth.lock, birth]));
+    for (const site of part.sites) Object.assign(site, { isOrder: part.isOrder, starts, births });
   }
   return parts;
 }
@@ -101,7 +102,8 @@ function exampleOf(site, excerpt) {
     body.append(make("h3", {}, site.isOrder ? "What nothing orders" : "How the locks ran out"), make("div", { class: "wide", tabindex: "0", role: "group", "aria-label": "Picture of the race" }, pictureOf(race)), storyOf(race));
   }
   const starts = [...new Set([race, ...race.reasons].map((one) => one.thread))].flatMap((thread) => site.starts.get(thread) || []);
-  if (starts.length) body.append(make("ul", { class: "threads" }, ...starts.map(startOf)));
+  const births = [...new Set([race, ...race.reasons].flatMap((one) => one.held || []))].flatMap((lock) => site.births.get(lock) || []);
+  if (starts.length + births.length) body.append(make("ul", { class: "threads" }, ...starts.map(startOf), ...births.map(birthOf)));
   if (excerpt) body.append(make("h3", {}, "Source"), sourceOf(excerpt));
   body.append(make("h3", {}, "All races here"), make("p", {}, "Threads: ", named(listed([...site.threads])), ". Locks held at some of them: ", named(listed([...site.locks])), "."));
   const caption = site.words > LISTED ? `The first ${LISTED} of ${counted(site.words, "race", "races")}` : counted(site.words, "race", "races");
@@ -111,6 +113,7 @@ function exampleOf(site, excerpt) {
 }
 
 const startOf = ({ thread, name, site }) => make("li", {}, named(thread), name === null ? "" : ` "${name}"`, " was started at ", named(site));
+const birthOf = ({ lock, site, created }) => make("li", {}, named(lock), created ? " was created at " : " was first taken at ", named(site));
 const addressOf = (race) => (isReuse(race) ? race.reuse : race.address);
 
 // A site's part of the page. What is in it is made when it is opened first.

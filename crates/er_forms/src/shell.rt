@@ -6,7 +6,7 @@ pub(crate) const OPENING: &[u8] = br#"<!doctype html>
 <html lang="en">
 <head>
 <meta charset="utf-8">
-<meta http-equiv="Content-Security-Policy" content="default-src 'none'; style-src 'sha256-5zEzyk566ktSln2jz1WHvZKeGpMj2uBcFiJqLAXBeHM='; script-src 'sha256-1rJe8g3imoB4ZDY8sosn8l1TcjC0D48NHIjDFd6MGm4='; base-uri 'none'; form-action 'none'">
+<meta http-equiv="Content-Security-Policy" content="default-src 'none'; style-src 'sha256-5zEzyk566ktSln2jz1WHvZKeGpMj2uBcFiJqLAXBeHM='; script-src 'sha256-NpcSkMXDgJMbKOVsMm8OvGmzMFYohXAXUYyC0BzB1B4='; base-uri 'none'; form-action 'none'">
 <meta name="viewport" content="width=device-width, initial-scale=1">
 <meta name="color-scheme" content="light dark">
 <title>eraser</title>

@@ -1,5 +1,5 @@
 -- The JSON of reports: each word here is the text of one value.
-use Rattle.std.specs.Prelude.{ℕ, ◌*◌, ◌-◌, Bool, true, false, cond, not, ◌&&◌, ◌||◌, is_some, List, [], ◌∷◌, ◌++◌, flat_map, filter, Option, Some, None, codes, decimal}
+use Rattle.std.specs.Prelude.{ℕ, ◌*◌, ◌-◌, ◌^◌, nat_lt, Bool, true, false, cond, not, ◌&&◌, ◌||◌, is_some, List, [], ◌∷◌, ◌++◌, flat_map, filter, Option, Some, None, codes, decimal}
 use Rattle.std.specs.List.{list_any}
 use Rattle.er_event.specs.Lockset.{has}
 use Rattle.er_event.specs.Refusal.{text_of, refusal_of}
@@ -10,9 +10,10 @@ use Rattle.er_event.specs.declared.steps.Event.TheVariants.{Acquire, Release}
 use Rattle.er_event.specs.declared.steps.Step.{Step}
 use Rattle.er_event.specs.declared.steps.WordState.{WordState}
 use Rattle.er_event.specs.declared.steps.WordState.TheVariants.{Virgin, Exclusive, Shared, SharedModified}
-use Rattle.er_places.specs.Names.{block_of, call_function, function_of, start_of, variable_of}
+use Rattle.er_places.specs.Names.{birth_of, block_of, call_function, function_of, start_of, variable_of}
 use Rattle.er_places.specs.Places.{PlaceTable, call_name}
 use Rattle.er_places.specs.declared.facts.Block.{Block}
+use Rattle.er_places.specs.declared.facts.Birth.{Birth}
 use Rattle.er_places.specs.declared.facts.Start.{Start}
 use Rattle.er_places.specs.declared.facts.Variable.{Variable}
 pub use Rattle.er_places.specs.Places.{HasPlaceNames, calls_of}
@@ -36,7 +37,9 @@ use Rattle.er_report.specs.declared.report.Label.{Label}
 use Rattle.er_report.specs.declared.report.Label.TheVariants as label
 use Rattle.er_report.specs.declared.report.Report.{Report}
 use Rattle.er_report.specs.declared.reports.Reports.{Reports}
-use Rattle.er_sites.specs.Threads.{each_once, view_threads}
+use Rattle.er_sites.specs.Mentions.{each_once, view_mentions}
+use Rattle.er_sites.specs.declared.mentions.Mention.{Mention}
+use Rattle.er_sites.specs.declared.mentions.Mention.TheVariants as mention
 use Rattle.er_trace.specs.Names.{NameTable}
 
 -- objects on lines of their own, with commas between them
@@ -222,18 +225,42 @@ began_row names table thread (Some start) = started_row names table thread start
 abbrev pub thread_row : NameTable → PlaceTable → ℕ → List ℕ
 thread_row names table thread = began_row names table thread (start_of table (name_at names.threads thread))
 
+-- whether a call created a lock, or else was the first that acquired it
+abbrev pub created_text : Bool → List ℕ
+created_text true = codes ",\"created\":true}"
+created_text false = codes ",\"created\":false}"
+
+-- where that call was, if it is known
+abbrev pub born_row : PlaceTable → ℕ → Option Birth → List ℕ
+born_row table lock None = []
+born_row table lock (Some birth) =
+    codes ",\n{\"lock\":" ++ lock_in style.Json table.names lock ++ codes ",\"site\":" ++ string_text (call_name table birth.place) ++ created_text birth.is_created
+
+abbrev pub birth_row : PlaceTable → ℕ → List ℕ
+birth_row table lock = born_row table lock (birth_of table lock)
+
+abbrev pub mention_row : Mention → NameTable → PlaceTable → ℕ → List ℕ
+mention_row mention.Threads names table thread = cond (nat_lt thread (2 ^ 30)) (thread_row names table thread) []
+mention_row mention.Locks names table lock = birth_row table lock
+
 -- items behind this heading, if there are some: the first has no comma
 abbrev pub list_member : List ℕ → List ℕ → List ℕ
 list_member heading [] = []
 list_member heading (comma ∷ items) = heading ++ items ++ codes "]"
 
--- where the threads of these races were started, each once
-unfoldable pub threads_member : NameTable → PlaceTable → List LineView → List ℕ
-threads_member names table lines = list_member (codes ",\n\"threads\":[") (flat_map (thread_row names table) (each_once (flat_map view_threads lines)))
+abbrev pub mention_title : Mention → List ℕ
+mention_title mention.Threads = codes ",\n\"threads\":["
+mention_title mention.Locks = codes ",\n\"locks\":["
+
+-- where the threads of these races were started, or where the lives of their locks began, each once
+unfoldable pub mentions_member : Mention → NameTable → PlaceTable → List LineView → List ℕ
+mentions_member of names table lines = list_member (mention_title of) (flat_map (mention_row of names table) (each_once (flat_map (view_mentions of table) lines)))
 
 -- the document of a report
 unfoldable pub document_text : List ℕ → NameTable → PlaceTable → Summary → List ℕ
-document_text heading names table s = lists_text heading names table s.lines ++ stop_member s.stop ++ counts_member s.rule_counts ++ threads_member names table s.lines ++ totals_member s
+document_text heading names table s =
+    lists_text heading names table s.lines ++ stop_member s.stop ++ counts_member s.rule_counts ++ mentions_member mention.Threads names table s.lines
+    ++ mentions_member mention.Locks names table s.lines ++ totals_member s
 
 -- if there is such a report
 abbrev pub document_if : List ℕ → NameTable → PlaceTable → Option Report → List ℕ

@@ -1,15 +1,17 @@
 //! The whole text: a document for each report.
 ghost use Rattle.std.specs.Prelude.{◌≡◌, ◌++◌, ◌<◌, All, false, flat_map, length, map, IfOk, IfSome, OnOk};
-ghost use Rattle.er_json.specs.Document.{HasNames, HaveNames, counts_member, document_if, document_text, json_reports, line_view, list_member, lists_text, rows_text, sign_if, stop_member, thread_row, threads_member, told, totals_member};
+ghost use Rattle.er_report.specs.Names.{HasLockName};
+ghost use Rattle.er_sites.specs.Mentions.{HasMentionName};
+ghost use Rattle.er_json.specs.Document.{HasNames, HaveNames, counts_member, birth_row, created_text, document_if, document_text, json_reports, line_view, list_member, lists_text, mention_row, mention_title, mentions_member, rows_text, sign_if, stop_member, thread_row, told, totals_member};
 ghost use Rattle.er_json.specs.Inner.Sections.{is_in, rows_in, separator_text};
 
 use crate::rows::{put_name, put_row};
-use er_event::{NoRoom, ThreadId};
-use er_places::Legend;
-use er_print::Piece::{Name, Number, Text, Thread};
+use er_event::{LockId, NoRoom, ThreadId};
+use er_places::{Legend, Places};
+use er_print::Piece::{Lock, Name, Number, Text, Thread};
 use er_print::{Built, Put, Style, comma_before, put, put_lost, put_number};
 use er_report::{Line, Report, Reports};
-use er_sites::threads_of;
+use er_sites::{MOST_THREADS, Mention, mentioned_in};
 use er_trace::Names;
 use std::alloc::Global;
 
@@ -56,7 +58,8 @@ fn put_document(out: &mut Vec<u8>, heading: &[u8], legend: &Legend, report: &Opt
             put_lists(out, heading, legend, &report.lines)?;
             put_stop(out, legend.names, report.stop)?;
             put_counts(out, &report.rule_counts)?;
-            put_threads(out, legend, &report.lines)?;
+            put_mentioned(out, Mention::Threads, legend, &report.lines)?;
+            put_mentioned(out, Mention::Locks, legend, &report.lines)?;
             put_totals(out, legend.names, report)
         }
         None => Ok(()),
@@ -148,27 +151,49 @@ fn put_counts(out: &mut Vec<u8>, counts: &[u64]) -> Put
     out.extend_from_slice(b"]")
 }
 
-// Puts where the threads of the races were started, as far as that is known.
-#[tactic(auto, unfolding(crate::specs::Document::threads_member))]
-fn put_threads(out: &mut Vec<u8>, legend: &Legend, lines: &[Line]) -> Put
+// Puts where the threads of the races were started, or where the lives of their locks began, as far as that is known.
+#[tactic(auto, unfolding(crate::specs::Document::mentions_member))]
+fn put_mentioned(out: &mut Vec<u8>, of: Mention, legend: &Legend, lines: &[Line]) -> Put
     requires { All (HasNames legend.now.names.now) lines.now }
-    ensures { OnOk result (out.new.items ≡ out.old.items ++ threads_member legend.now.names.now legend.now.places.now (map line_view lines.now)) }
+    ensures { OnOk result (out.new.items ≡ out.old.items ++ mentions_member of legend.now.names.now legend.now.places.now (map line_view lines.now)) }
 {
     let alloc = *out.allocator();
-    let threads = threads_of(alloc, lines)?;
+    let numbers = mentioned_in(alloc, of, legend.places, lines)?;
     let mut rows = Vec::new(alloc);
-    put_thread_rows(&mut rows, legend, threads.as_slice())?;
-    put_list(out, b",\n\"threads\":[", &rows)
+    put_mention_rows(&mut rows, of, legend, numbers.as_slice())?;
+    put_list(out, mention_title(of), &rows)
 }
 
-fn put_thread_rows(out: &mut Vec<u8>, legend: &Legend, threads: &[ThreadId]) -> Put
-    requires { All (λ thread. thread < length legend.now.names.now.threads) threads.now }
-    ensures { OnOk result (out.new.items ≡ out.old.items ++ flat_map (thread_row legend.now.names.now legend.now.places.now) threads.now) }
+fn mention_title(of: Mention) -> &'static [u8]
+    ensures { result.now ≡ mention_title of }
 {
-    for thread in threads {
-        put_thread_row(out, legend, *thread)?;
+    match of {
+        Mention::Threads => b",\n\"threads\":[".as_slice(),
+        Mention::Locks => b",\n\"locks\":[".as_slice(),
+    }
+}
+
+fn put_mention_rows(out: &mut Vec<u8>, of: Mention, legend: &Legend, numbers: &[u32]) -> Put
+    requires { All (HasMentionName of legend.now.names.now legend.now.places.now) numbers.now }
+    ensures { OnOk result (out.new.items ≡ out.old.items ++ flat_map (mention_row of legend.now.names.now legend.now.places.now) numbers.now) }
+{
+    for number in numbers {
+        put_mention_row(out, of, legend, *number)?;
     }
     Ok(())
+}
+
+fn put_mention_row(out: &mut Vec<u8>, of: Mention, legend: &Legend, number: u32) -> Put
+    requires { HasMentionName of legend.now.names.now legend.now.places.now number }
+    ensures { OnOk result (out.new.items ≡ out.old.items ++ mention_row of legend.now.names.now legend.now.places.now number) }
+{
+    match of {
+        Mention::Threads if number < MOST_THREADS => {
+            put_thread_row(out, legend, ThreadId::new(number))
+        }
+        Mention::Threads => Ok(()),
+        Mention::Locks => put_birth_row(out, legend.places, LockId::new(number)),
+    }
 }
 
 fn put_thread_row(out: &mut Vec<u8>, legend: &Legend, thread: ThreadId) -> Put
@@ -186,6 +211,28 @@ fn put_thread_row(out: &mut Vec<u8>, legend: &Legend, thread: ThreadId) -> Put
     put!(out, Style::Json, names; Thread(b",\n{\"thread\":", thread), Text(b",\"name\":"))?;
     put_name(out, start.name.as_slice())?;
     put!(out, Style::Json, names; Name(b",\"site\":", site), Text(b"}"))
+}
+
+fn put_birth_row(out: &mut Vec<u8>, places: &Places, lock: LockId) -> Put
+    requires { HasLockName places.now.names lock }
+    ensures { OnOk result (out.new.items ≡ out.old.items ++ birth_row places.now lock) }
+{
+    let Some(birth) = places.birth_of(lock) else {
+        return Ok(());
+    };
+    put!(out, Style::Json, places.names();
+        Lock(b",\n{\"lock\":", lock), Name(b",\"site\":", places.call_name(birth.place)),
+        Text(created_text(birth.is_created))
+    )
+}
+
+fn created_text(is_created: bool) -> &'static [u8]
+    ensures { result.now ≡ created_text is_created }
+{
+    match is_created {
+        true => b",\"created\":true}".as_slice(),
+        false => b",\"created\":false}".as_slice(),
+    }
 }
 
 /// Puts items behind this heading, if there are some. The comma of the first is left out.

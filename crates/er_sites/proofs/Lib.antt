@@ -4,5 +4,5 @@ pub mod RowLemmas
 pub mod SiteLemmas
 pub mod PutLemmas
 pub mod CountLemmas
-pub mod ThreadLemmas
+pub mod MentionLemmas
 pub mod NamedLemmas

@@ -2,5 +2,5 @@ pub mod Inner
 pub mod System
 pub mod Table
 pub mod Text
-pub mod Threads
+pub mod Mentions
 pub mod Sites

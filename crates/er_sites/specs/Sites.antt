@@ -14,7 +14,9 @@ use Rattle.er_report.specs.declared.report.Report.{Report}
 use Rattle.er_report.specs.declared.reports.Reports.{Reports}
 use Rattle.er_sites.specs.Table.{IsTable, reads_at, reuses_at, writes_at}
 use Rattle.er_sites.specs.Text.{is_refused, is_reused, refused_text, reuse_story, rows_text}
-use Rattle.er_sites.specs.Threads.{example_threads, reuse_threads, threads_text}
+use Rattle.er_sites.specs.Mentions.{example_mentions, reuse_mentions, mentions_text}
+use Rattle.er_sites.specs.declared.mentions.Mention.{Mention}
+use Rattle.er_sites.specs.declared.mentions.Mention.TheVariants as mention
 use Rattle.er_sites.specs.declared.row.SiteRow.{SiteRow}
 use Rattle.er_trace.specs.Names.{NameTable}
 
@@ -71,17 +73,18 @@ abbrev pub end_if : ReportKind → Option Report → List ℕ
 end_if of None = []
 end_if of (Some report) = end_text of (told report)
 
--- the threads that the examples and the reuses name
-abbrev pub told_threads : Reports → List SiteRow → List SiteRow → List ℕ
-told_threads reports first others =
-    flat_map (example_threads (lines_of reports.unordered)) first ++ flat_map (λ (line : Line). reuse_threads (race_of (line_view line))) (lines_of reports.unordered)
-    ++ flat_map (example_threads (lines_of reports.lockset)) others
+-- what the examples and the reuses mention
+abbrev pub told_mentions : Mention → PlaceTable → Reports → List SiteRow → List SiteRow → List ℕ
+told_mentions of table reports first others =
+    flat_map (example_mentions of table (lines_of reports.unordered)) first ++ flat_map (λ (line : Line). reuse_mentions of table (race_of (line_view line))) (lines_of reports.unordered)
+    ++ flat_map (example_mentions of table (lines_of reports.lockset)) others
 
--- the sites of both tables, then where threads were started, then the first refused step, then what each report ends with
+-- the sites of both tables, then where threads were started and the lives of locks began, then the first refused step, then what each report ends with
 unfoldable pub sites_text : NameTable → PlaceTable → Reports → List SiteRow → List SiteRow → List ℕ
 sites_text names table reports first others =
     run_text names table reports.unordered first ++ others_text names table reports.lockset (is_some reports.unordered) others
-    ++ threads_text names table (told_threads reports first others) ++ refused_text (find is_refused (lines_or reports.lockset (lines_of reports.unordered)))
+    ++ mentions_text mention.Threads names table (told_mentions mention.Threads table reports first others)
+    ++ mentions_text mention.Locks names table (told_mentions mention.Locks table reports first others) ++ refused_text (find is_refused (lines_or reports.lockset (lines_of reports.unordered)))
     ++ end_if Lockset reports.lockset ++ end_if Unordered reports.unordered
 
 -- the bytes are the text of a table of each report; the second leaves out the sites of the first

@@ -1,16 +1,16 @@
 //! The whole text.
 ghost use Rattle.std.specs.Prelude.{◌≡◌, ◌++◌, ◌≤◌, ◌==◌, ◌&&◌, All, count_by, find, flat_map, is_some, length, option_copied, slice_get, IfOk, IfSome, OnOk};
 ghost use Rattle.std.specs.List.{list_any};
-ghost use Rattle.er_sites.specs.Sites.{AreSitesOf, HaveNames, end_if, lines_or, nothing_in, other_rows, others_text, reuses_text, run_text, sites_text, title_of, told_threads};
+ghost use Rattle.er_sites.specs.Sites.{AreSitesOf, HaveNames, end_if, lines_or, nothing_in, other_rows, others_text, reuses_text, run_text, sites_text, title_of, told_mentions};
 ghost use Rattle.er_sites.specs.Text.{HasNames, example_of, is_refused, is_reused, kinds_text, refused_text, row_text, rows_text};
-ghost use Rattle.er_sites.specs.Threads.{headed, threads_text};
+ghost use Rattle.er_sites.specs.Mentions.{headed, mention_title, mentions_text};
 
 use crate::counts::count_races;
+use crate::mentions::{Mention, Numbers, add_examples, add_reuses, put_mentions};
 use crate::names::put_column;
 use crate::row::SiteRow;
 use crate::stories::{put_example, put_reuse_story};
 use crate::table::site_rows;
-use crate::threads::{Threads, add_examples, add_reuses, put_starts};
 use er_places::Legend;
 use er_print::Piece::{Site as At, Text};
 use er_print::{Built, Put, ReportKind, Style, put, put_end, put_number};
@@ -61,34 +61,48 @@ fn text_of_rows(
     let mut text = Vec::new(alloc);
     put_run(&mut text, legend, &reports.unordered, first)?;
     put_others(&mut text, legend, &reports.lockset, both, others)?;
-    put_threads(&mut text, reports, legend, first, others)?;
+    put_mentioned(&mut text, Mention::Threads, reports, legend, first, others)?;
+    put_mentioned(&mut text, Mention::Locks, reports, legend, first, others)?;
     put_refused(&mut text, first_refused(refusing))?;
     put_end_if(&mut text, ReportKind::Lockset, &reports.lockset)?;
     put_end_if(&mut text, ReportKind::Unordered, &reports.unordered)?;
     Ok(text)
 }
 
-// Puts where the threads of the examples were started, below a heading, if that is known of one.
-#[tactic(auto, unfolding(crate::specs::Threads::threads_text))]
-fn put_threads(
+// Puts where the threads of the examples were started, or where the lives of their locks began, below a heading, if that is known of one.
+#[tactic(auto, unfolding(crate::specs::Mentions::mentions_text))]
+fn put_mentioned(
     out: &mut Vec<u8>,
+    of: Mention,
     reports: &Reports,
     legend: &Legend,
     first: &[SiteRow],
     others: &[SiteRow],
 ) -> Put
     requires { HaveNames legend.now.names.now reports.now }
-    ensures { OnOk result (out.new.items ≡ out.old.items ++ threads_text legend.now.names.now legend.now.places.now (told_threads reports.now first.now others.now)) }
+    ensures { OnOk result (out.new.items ≡ out.old.items ++ mentions_text of legend.now.names.now legend.now.places.now (told_mentions of legend.now.places.now reports.now first.now others.now)) }
 {
     let alloc = *out.allocator();
-    let mut threads = Threads::new(alloc);
+    let mut numbers = Numbers::new(alloc);
+    let places = legend.places;
     let unordered = lines_or(&reports.unordered, &[]);
-    add_examples(&mut threads, unordered, first)?;
-    add_reuses(&mut threads, unordered)?;
-    add_examples(&mut threads, lines_or(&reports.lockset, &[]), others)?;
-    let mut starts = Vec::new(alloc);
-    put_starts(&mut starts, legend, threads.as_slice())?;
-    put_headed(out, b"threads:\n", &starts)
+    let lockset = lines_or(&reports.lockset, &[]);
+    places.are_named();
+    add_examples(&mut numbers, of, places, unordered, first)?;
+    add_reuses(&mut numbers, of, places, unordered)?;
+    add_examples(&mut numbers, of, places, lockset, others)?;
+    let mut lines = Vec::new(alloc);
+    put_mentions(&mut lines, of, legend, numbers.as_slice())?;
+    put_headed(out, mention_title(of), &lines)
+}
+
+fn mention_title(of: Mention) -> &'static [u8]
+    ensures { result.now ≡ mention_title of }
+{
+    match of {
+        Mention::Threads => b"threads:\n".as_slice(),
+        Mention::Locks => b"locks:\n".as_slice(),
+    }
 }
 
 // Puts lines below this heading and above an empty line, if there are some.

@@ -8,7 +8,7 @@ use Rattle.er_places.specs.declared.facts.Start.{Start}
 use Rattle.er_print.proofs.DigitLemmas.{put_three}
 use Rattle.er_print.specs.Styles.{string_text, thread_in}
 use Rattle.er_print.specs.declared.styles.Style.TheVariants as style
-use Rattle.er_sites.proofs.ThreadLemmas.{name_found}
+use Rattle.er_sites.proofs.MentionLemmas.{name_found}
 use Rattle.er_trace.specs.Names.{NameTable}
 use Rattle.er_json.proofs.document.put_thread_row.Goals as goal
 

@@ -7,11 +7,11 @@ use Rattle.er_places.specs.declared.facts.Start.{Start}
 use Rattle.er_print.proofs.DigitLemmas.{put_three}
 use Rattle.er_print.specs.Styles.{short, thread_in}
 use Rattle.er_print.specs.declared.styles.Style.TheVariants as style
-use Rattle.er_sites.proofs.ThreadLemmas.{name_found}
+use Rattle.er_sites.proofs.MentionLemmas.{name_found}
 use Rattle.er_sites.specs.Text.{known_text}
-use Rattle.er_sites.specs.Threads.{began_text, started_text}
+use Rattle.er_sites.specs.Mentions.{began_text, started_text}
 use Rattle.er_trace.specs.Names.{NameTable}
-use Rattle.er_sites.proofs.threads.put_start.Goals as goal
+use Rattle.er_sites.proofs.mentions.put_start.Goals as goal
 
 pub returns : goal.returns
 returns c =
