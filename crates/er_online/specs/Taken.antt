@@ -1,0 +1,54 @@
+-- What a shard took, read as a list of marks with their replies.
+use Rattle.std.specs.Prelude.{ℕ, ◌≡◌, Bool, List, map}
+use Rattle.std.specs.Coded.{Coded, coded×, coded_ℕ, coded_list}
+use Rattle.er_event.specs.declared.addresses.PageRange.{PageRange}
+use Rattle.er_event.specs.declared.steps.Kind.{Kind}
+use Rattle.er_event.specs.declared.steps.Reply.{Reply}
+use Rattle.er_event.specs.declared.steps.Reply.TheVariants.{Done}
+use Rattle.er_event.specs.declared.steps.WordState.{WordState}
+use Rattle.er_model.specs.Words.{Mark, Counted, Reused}
+use Rattle.er_model.specs.Parts.{Noted, IsLegal, state_of_notes}
+use Rattle.er_shadow.specs.Replies.{reply_if}
+use Rattle.er_shadow.specs.Shadows.{Shadows, states as states_among}
+use Rattle.er_online.specs.declared.calls.Call.{Call}
+use Rattle.er_online.specs.declared.calls.Call.TheVariants.{Access, Reset}
+use Rattle.er_online.specs.contracts.calls.Call.{the_row}
+
+-- an access with its answer
+abbrev pub access_of : ℕ → Kind → ℕ → Bool → Call
+access_of thread kind word race = Access thread kind word race
+
+-- a reuse
+abbrev pub reset_of : PageRange → Call
+reset_of range = Reset range
+
+-- what a call with these locks is to the words
+abbrev pub mark_of : Call → List ℕ → Mark
+mark_of (Access thread kind word race) cover = Counted thread kind word cover
+mark_of (Reset range) cover = Reused range
+
+-- what a call was answered
+abbrev pub reply_of : Call → Reply
+reply_of (Access thread kind word race) = reply_if race
+reply_of (Reset range) = Done
+
+-- a call's mark and reply
+abbrev pub note_of : Call × List ℕ → Noted
+note_of c = record { mark = mark_of c.0 c.1; reply = reply_of c.0 }
+
+-- the list's, in order
+abbrev pub notes_of : List (Call × List ℕ) → List Noted
+notes_of calls = map note_of calls
+
+-- the state that the definitions give of the list
+abbrev pub state_now : List (Call × List ℕ) → ℕ → WordState
+state_now calls w = state_of_notes (notes_of calls) w
+
+-- each answer is the one that the definitions give of the list, and so is each word's state
+pub record IsReplay (calls : List (Call × List ℕ)) (words : Shadows) : Type 0 where
+  pub legal : IsLegal (notes_of calls)
+  pub states : (w : ℕ) → states_among words w ≡ state_now calls w
+
+-- how a contract stores such a list
+abbrev pub calls_coded : Coded (List (Call × List ℕ))
+calls_coded = coded_list (coded× the_row.coded (coded_list coded_ℕ))

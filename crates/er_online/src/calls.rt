@@ -1,0 +1,11 @@
+//! What a shard takes.
+use er_event::{Kind, PageRange, ThreadId, Word};
+
+/// One call that a shard took.
+#[derive(Clone, Copy)]
+pub enum Call {
+    /// A counted access, and whether it was answered with a race.
+    Access(ThreadId, Kind, Word, bool),
+    /// A reuse.
+    Reset(PageRange),
+}
