@@ -1,0 +1,6 @@
+use Rattle.std.proofs.Common.{◌≡◌, length, take}
+use Rattle.eraser_c.proofs.threads.copy_locks.Given as goal
+
+-- the first locks so far
+abbrev pub invariant-loop-i : goal.invariant-loop-i
+invariant-loop-i l = record { size : length l.locks ≡ length l.fn.locks; first : take l.i l.locks ≡ take l.i l.held }

@@ -1,0 +1,135 @@
+-- What the handles that a call is given become, and which number it returns.
+use Rattle.std.specs.Prelude.{ℕ, ◌≡◌, ◌<◌, ◌≤◌, ◌+◌, ◌-◌, ◌*◌, ◌^◌, ◌⊎◌, Bool, cond, List, [], ◌∷◌, ◌++◌, length, take, Option, Some, None}
+use Rattle.er_event.specs.Span.{Span, parts_of}
+use Rattle.er_event.specs.declared.refusals.Refusal.{Refusal}
+use Rattle.er_event.specs.declared.refusals.Refusal.TheVariants.{OutOfMemory, TableFull}
+use Rattle.er_event.specs.declared.steps.Event.{Event}
+use Rattle.er_event.specs.declared.steps.Kind.{Kind}
+use Rattle.er_event.specs.declared.steps.Kind.TheVariants.{Read as reading, Write as writing}
+use Rattle.er_event.specs.declared.steps.Mode.{Mode}
+use Rattle.er_event.specs.declared.steps.Mode.TheVariants.{Read as read_mode, Write as write_mode}
+use Rattle.er_event.specs.declared.steps.WordState.{WordState}
+use Rattle.er_event.specs.declared.steps.WordState.TheVariants as words
+use Rattle.er_model.specs.Following.{locks_for}
+use Rattle.er_model.specs.Holdings.{refused_by, changed_by}
+use Rattle.er_model.specs.Parts.{FitsEnd, IsLegal}
+use Rattle.er_model.specs.Words.{Counted}
+use Rattle.er_online.specs.Spans.{IsSpanned, resets}
+use Rattle.er_online.specs.Taken.{access_of, notes_of, reply_of, state_now}
+use Rattle.er_online.specs.declared.calls.Call.{Call}
+use Rattle.eraser_c.specs.Owned.{Value}
+use Rattle.eraser_c.specs.Statuses.{number_of}
+use Rattle.eraser_c.specs.declared.kept.Kept.TheVariants.{Shard, Thread as thread_of}
+use Rattle.eraser_c.specs.declared.status.Status.{Status}
+use Rattle.eraser_c.specs.declared.status.Status.TheVariants.{Quiet, Race, Ignored, Refused, EmptyHandle, WrongHandle, Virgin, Exclusive, Shared, SharedModified}
+use Rattle.eraser_c.specs.declared.threads.Thread.{Thread}
+
+-- what a shard took, with the locks that covered each call
+abbrev pub Calls : Type 0
+Calls = List (Call × List ℕ)
+
+-- what a bool of C says
+abbrev pub kind_of : Bool → Kind
+kind_of writes = cond writes writing reading
+
+abbrev pub mode_of : Bool → Mode
+mode_of writes = cond writes write_mode read_mode
+
+-- the handle leads to what was asked for, or all is as it was, since there is no memory
+abbrev pub IsMade : Option Value → Option Value → Value → ℕ → Type 0
+IsMade before after made number = ((after ≡ Some made) × (number ≡ number_of Quiet)) ⊎ ((after ≡ before) × (number ≡ number_of (Refused OutOfMemory)))
+
+-- the thread after an event that is accepted
+abbrev pub after_event : Thread → Event → Thread
+after_event t event = record { number = t.number; held = changed_by t.held event }
+
+-- what the definitions refuse changes nothing; what they accept is done, unless there is no memory
+abbrev pub IsFollowedUnless : Option Refusal → Thread → Thread → Event → ℕ → Type 0
+IsFollowedUnless (Some why) before after event number = (after ≡ before) × (number ≡ number_of (Refused why))
+IsFollowedUnless None before after event number =
+    ((after ≡ after_event before event) × (number ≡ number_of Quiet)) ⊎ ((after ≡ before) × (number ≡ number_of (Refused OutOfMemory)))
+
+-- a thread follows one event as the definitions say
+abbrev pub IsFollowed : Thread → Thread → Event → ℕ → Type 0
+IsFollowed before after event number = IsFollowedUnless (refused_by before.held event) before after event number
+
+-- so does the thread of a handle
+abbrev pub IsChanged : Option Value → Option Value → Event → ℕ → Type 0
+IsChanged None after event number = (after ≡ None) × (number ≡ number_of EmptyHandle)
+IsChanged (Some (Shard calls)) after event number = (after ≡ Some (Shard calls)) × (number ≡ number_of WrongHandle)
+IsChanged (Some (thread_of before)) after event number =
+    (t : Thread) × ((after ≡ Some (thread_of t)) × IsFollowed before t event number)
+
+-- the locks that the thread of a handle holds, as far as there is room, and how many they are
+abbrev pub IsHeld : Option Value → List ℕ → ℕ → ℕ → Type 0
+IsHeld None locks count number = number ≡ number_of EmptyHandle
+IsHeld (Some (Shard calls)) locks count number = number ≡ number_of WrongHandle
+IsHeld (Some (thread_of t)) locks count number =
+    ((n : ℕ) → n ≤ length t.held.held → n ≤ length locks → take n locks ≡ take n t.held.held) × ((count ≡ length t.held.held) × (number ≡ number_of Quiet))
+
+-- race or quiet
+abbrev pub race_if : Bool → Status
+race_if race = cond race Race Quiet
+
+-- the list has this access more, and its answer is the one that the definitions give of the list before it
+pub record IsTaken (before after : Calls) (t : Thread) (kind : Kind) (word : ℕ) (race : Bool) : Type 0 where
+  pub list : after ≡ before ++ (access_of t.number kind word race, locks_for t.held kind) ∷ []
+  pub answer : FitsEnd (notes_of before) (Counted t.number kind word (locks_for t.held kind)) (reply_of (access_of t.number kind word race))
+
+-- a refusal that more room could have avoided
+abbrev pub IsNoRoom : ℕ → Type 0
+IsNoRoom number = (number ≡ number_of (Refused OutOfMemory)) ⊎ (number ≡ number_of (Refused TableFull))
+
+-- an access is taken and answered, or it is refused and the list is as it was
+abbrev pub IsAccessed : Thread → Kind → ℕ → Calls → Calls → ℕ → Type 0
+IsAccessed t kind word before after number =
+    ((race : Bool) × (IsTaken before after t kind word race × (number ≡ number_of (race_if race)))) ⊎ ((after ≡ before) × IsNoRoom number)
+
+-- the address of a word that was found, or the greatest number
+abbrev pub address_of : Option ℕ → ℕ
+address_of None = 2 ^ 64 - 1
+address_of (Some word) = 4 * word
+
+-- a race where one was found
+abbrev pub race_of : Option ℕ → Status
+race_of None = Quiet
+race_of (Some word) = Race
+
+-- each word of the run is accessed and answered, or one finds no room and those before it are
+abbrev pub IsSpanAccessed : Thread → Kind → Span → Calls → Calls → Option ℕ → ℕ → Type 0
+IsSpanAccessed t kind span before after found number =
+    (IsSpanned before after t.number kind (locks_for t.held kind) span.first (span.last + 1 - span.first) found × (number ≡ number_of (race_of found)))
+    ⊎ ((taken : ℕ) × ((span.first + taken < span.last + 1) × (IsSpanned before after t.number kind (locks_for t.held kind) span.first taken found × IsNoRoom number)))
+
+-- what a call asks of the shard of a handle, if it leads to one
+abbrev pub OfShard : (Calls → Calls → ℕ → Type 0) → Option Value → Option Value → ℕ → Type 0
+OfShard P None after number = (after ≡ None) × (number ≡ number_of EmptyHandle)
+OfShard P (Some (thread_of t)) after number = (after ≡ Some (thread_of t)) × (number ≡ number_of WrongHandle)
+OfShard P (Some (Shard before)) after number = (calls : Calls) × ((after ≡ Some (Shard calls)) × P before calls number)
+
+-- accesses of a thread that ignores them change nothing
+pub record UnlessIgnoring (t : Thread) (P : Option Value → Option Value → ℕ → Type 0) (before after : Option Value) (number : ℕ) : Type 0 where
+  pub ignored : 0 < t.held.depth → (after ≡ before) × (number ≡ number_of Ignored)
+  pub counted : t.held.depth ≡ 0 → P before after number
+
+-- what a call asks of the thread of one handle and of the shard of another
+abbrev pub OfThread : (Thread → Calls → Calls → ℕ → Type 0) → Option Value → Option Value → Option Value → ℕ → Type 0
+OfThread P None before after number = (after ≡ before) × (number ≡ number_of EmptyHandle)
+OfThread P (Some (Shard calls)) before after number = (after ≡ before) × (number ≡ number_of WrongHandle)
+OfThread P (Some (thread_of t)) before after number = UnlessIgnoring t (OfShard (P t)) before after number
+
+-- the words of the run are virgin
+abbrev pub IsReset : Span → Calls → Calls → ℕ → Type 0
+IsReset span before after number = (after ≡ before ++ resets (parts_of span)) × (number ≡ number_of Quiet)
+
+-- a state's status
+abbrev pub status_of : WordState → Status
+status_of words.Virgin = Virgin
+status_of (words.Exclusive t) = Exclusive
+status_of (words.Shared candidates) = Shared
+status_of (words.SharedModified candidates) = SharedModified
+
+-- the state that the definitions give of the list, or there is no memory; the list is as it was, and each of its answers is the definitions'
+abbrev pub IsState : ℕ → Calls → Calls → ℕ → Type 0
+IsState word before after number =
+    (after ≡ before) × (IsLegal (notes_of before) × ((number ≡ number_of (status_of (state_now before word))) ⊎ (number ≡ number_of (Refused OutOfMemory))))

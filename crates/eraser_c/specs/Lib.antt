@@ -1,0 +1,5 @@
+pub mod Owned
+pub mod Kinds
+pub mod Statuses
+pub mod Answers
+pub mod Accesses

@@ -1,0 +1,18 @@
+//! The detector for programs in C and in every language that calls C: shards of memory and threads, each behind a handle that the caller owns.
+//!
+//! A handle is 16 bytes: a number, which is 0 if it is empty, and a pointer. A zeroed handle is empty. `exports` has what C calls. Each call
+//! returns the number of a [`status::Status`]. None asks anything of its caller but what the types say:
+//!
+//! - a handle is zeroed, or a call of this library wrote it, and a copy of it isn't used after it;
+//! - a handle is given to one call at a time, and the handles and places of one call are different ones;
+//! - no call is made in a signal handler, nor in the child that a process with several threads forked.
+#![tactic(auto)]
+
+mod exports;
+mod handle;
+mod kept;
+mod kept_box;
+mod raw;
+mod shards;
+mod status;
+mod threads;

@@ -1,0 +1,221 @@
+//! What a call does to the shard that a handle leads to.
+ghost use Rattle.std.specs.Prelude.{◌≡◌, ◌<◌, ◌≤◌, ◌^◌, ℕ, Option, Err, IfOk, IsOk};
+ghost use Rattle.er_event.specs.Span.{IsOutsideMemory, most_bytes, span_of_bytes};
+ghost use Rattle.eraser_c.specs.Accesses.{IsAccess, IsSpanAccess};
+ghost use Rattle.eraser_c.specs.Answers.{IsAccessed, IsReset, IsSpanAccessed, IsState, OfShard, UnlessIgnoring, address_of, race_if, race_of};
+ghost use Rattle.eraser_c.specs.Statuses.{number_of};
+
+use crate::handle::Handle;
+use crate::kept::Kept;
+use crate::status::Status;
+use crate::threads::Thread;
+use er_event::{Kind, Refusal, Word, WordRange, WordState};
+use er_online::Shard;
+use std::alloc::Global;
+use std::mem::replace;
+
+/// Makes one access of the thread that a handle leads to.
+pub(crate) fn access(
+    alloc: Global,
+    shard: &mut Handle,
+    thread: &mut Handle,
+    kind: Kind,
+    word: Word,
+) -> Status
+    ensures answered { IsAccess thread.old.kept_box.kept kind word shard.old.kept_box.kept shard.new.kept_box.kept (number_of result) }
+    ensures thread { thread.new.kept_box.kept ≡ thread.old.kept_box.kept }
+{
+    let Some(kept) = replace(thread, Handle::empty(alloc)).into_box() else {
+        return Status::EmptyHandle;
+    };
+    let status = match &*kept {
+        Kept::Thread(thread) => access_by(alloc, shard, thread, kind, word),
+        Kept::Shard(_) => Status::WrongHandle,
+    };
+    *thread = Handle::of(kept);
+    status
+}
+
+#[inline(always)]
+fn access_by(
+    alloc: Global,
+    shard: &mut Handle,
+    thread: &Thread,
+    kind: Kind,
+    word: Word,
+) -> Status
+    ensures { UnlessIgnoring thread.now (OfShard (λ before after number. IsAccessed thread.now kind word before after number)) shard.old.kept_box.kept shard.new.kept_box.kept (number_of result) }
+{
+    if thread.held.ignoring() {
+        return Status::Ignored;
+    }
+    let Some(mut kept) = replace(shard, Handle::empty(alloc)).into_box() else {
+        return Status::EmptyHandle;
+    };
+    let status = match &mut *kept {
+        Kept::Shard(shard) => take(shard, thread, kind, word),
+        Kept::Thread(_) => Status::WrongHandle,
+    };
+    *shard = Handle::of(kept);
+    status
+}
+
+#[inline(always)]
+fn take(shard: &mut Shard, thread: &Thread, kind: Kind, word: Word) -> Status
+    ensures { IsAccessed thread.now kind word shard.old shard.new (number_of result) }
+{
+    match shard.access(thread.number, kind, word, thread.locks(kind)) {
+        Ok(is_race) => if_race(is_race),
+        Err(why) => Status::Refused(why.refusal()),
+    }
+}
+
+#[inline(always)]
+fn if_race(is_race: bool) -> Status
+    ensures { result ≡ race_if is_race }
+{
+    if is_race { Status::Race } else { Status::Quiet }
+}
+
+/// Makes an access of each word of a run by the thread that a handle leads to. `first_race` becomes the address of the first word that is a race,
+/// or the greatest number if none is.
+pub(crate) fn access_span(
+    alloc: Global,
+    shard: &mut Handle,
+    thread: &mut Handle,
+    kind: Kind,
+    words: WordRange,
+    first_race: &mut u64,
+) -> Status
+    ensures answered { IsSpanAccess thread.old.kept_box.kept kind words first_race.new shard.old.kept_box.kept shard.new.kept_box.kept (number_of result) }
+    ensures thread { thread.new.kept_box.kept ≡ thread.old.kept_box.kept }
+{
+    let Some(kept) = replace(thread, Handle::empty(alloc)).into_box() else {
+        return Status::EmptyHandle;
+    };
+    let status = match &*kept {
+        Kept::Thread(thread) => span_by(alloc, shard, thread, kind, words, first_race),
+        Kept::Shard(_) => Status::WrongHandle,
+    };
+    *thread = Handle::of(kept);
+    status
+}
+
+fn span_by(
+    alloc: Global,
+    shard: &mut Handle,
+    thread: &Thread,
+    kind: Kind,
+    words: WordRange,
+    first_race: &mut u64,
+) -> Status
+    ensures { UnlessIgnoring thread.now (OfShard (λ before after number. (found : Option ℕ) × ((first_race.new ≡ address_of found) × IsSpanAccessed thread.now kind words before after found number))) shard.old.kept_box.kept shard.new.kept_box.kept (number_of result) }
+{
+    if thread.held.ignoring() {
+        return Status::Ignored;
+    }
+    let Some(mut kept) = replace(shard, Handle::empty(alloc)).into_box() else {
+        return Status::EmptyHandle;
+    };
+    let status = match &mut *kept {
+        Kept::Shard(shard) => take_span(shard, thread, kind, words, first_race),
+        Kept::Thread(_) => Status::WrongHandle,
+    };
+    *shard = Handle::of(kept);
+    status
+}
+
+fn take_span(
+    shard: &mut Shard,
+    thread: &Thread,
+    kind: Kind,
+    words: WordRange,
+    first_race: &mut u64,
+) -> Status
+    ensures { (found : Option ℕ) × ((first_race.new ≡ address_of found) × IsSpanAccessed thread.now kind words shard.old shard.new found (number_of result)) }
+{
+    let spanned = shard.access_span(thread.number, kind, words, thread.locks(kind));
+    *first_race = race_address(spanned.first_race);
+    match spanned.refused {
+        Some(why) => Status::Refused(why.refusal()),
+        None => race_status(spanned.first_race),
+    }
+}
+
+fn race_address(first_race: Option<Word>) -> u64
+    ensures { result ≡ address_of first_race }
+{
+    match first_race {
+        Some(word) => word.address(),
+        None => u64::MAX,
+    }
+}
+
+fn race_status(first_race: Option<Word>) -> Status
+    ensures { result ≡ race_of first_race }
+{
+    match first_race {
+        Some(_) => Status::Race,
+        None => Status::Quiet,
+    }
+}
+
+/// Makes the words of a run virgin.
+pub(crate) fn reset(alloc: Global, shard: &mut Handle, words: WordRange) -> Status
+    ensures { OfShard (λ before after number. IsReset words before after number) shard.old.kept_box.kept shard.new.kept_box.kept (number_of result) }
+{
+    let Some(mut kept) = replace(shard, Handle::empty(alloc)).into_box() else {
+        return Status::EmptyHandle;
+    };
+    let status = match &mut *kept {
+        Kept::Shard(shard) => {
+            shard.reset_span(words);
+            Status::Quiet
+        }
+        Kept::Thread(_) => Status::WrongHandle,
+    };
+    *shard = Handle::of(kept);
+    status
+}
+
+/// What is known of a word.
+pub(crate) fn state(alloc: Global, shard: &mut Handle, word: Word) -> Status
+    ensures { OfShard (λ before after number. IsState word before after number) shard.old.kept_box.kept shard.new.kept_box.kept (number_of result) }
+{
+    let Some(kept) = replace(shard, Handle::empty(alloc)).into_box() else {
+        return Status::EmptyHandle;
+    };
+    let status = match &*kept {
+        Kept::Shard(shard) => state_of(shard, word),
+        Kept::Thread(_) => Status::WrongHandle,
+    };
+    *shard = Handle::of(kept);
+    status
+}
+
+fn state_of(shard: &Shard, word: Word) -> Status
+    ensures { IsState word shard.now shard.now (number_of result) }
+{
+    match shard.state_of(word) {
+        Ok(WordState::Virgin) => Status::Virgin,
+        Ok(WordState::Exclusive(_)) => Status::Exclusive,
+        Ok(WordState::Shared(_)) => Status::Shared,
+        Ok(WordState::SharedModified(_)) => Status::SharedModified,
+        Err(_) => Status::Refused(Refusal::OutOfMemory),
+    }
+}
+
+/// The words that have one of `bytes` bytes from an address on, or what a call that is given these is answered.
+pub(crate) fn words_of(address: u64, bytes: u64) -> Result<WordRange, Status>
+    ensures words { IfOk result (λ words. words ≡ span_of_bytes address bytes) }
+    ensures ok { 0 < bytes → bytes ≤ most_bytes → ¬ IsOutsideMemory address bytes → IsOk result }
+    ensures too_large { most_bytes < bytes → result ≡ Err (Status.Refused Refusal.SizeTooLarge) }
+    ensures out_of_range { bytes ≤ most_bytes → IsOutsideMemory address bytes → result ≡ Err (Status.Refused Refusal.AddressOutOfRange) }
+    ensures none { bytes ≡ 0 → address < 2 ^ 48 → result ≡ Err Status.Quiet }
+{
+    match WordRange::of_bytes(address, bytes) {
+        Ok(Some(words)) => Ok(words),
+        Ok(None) => Err(Status::Quiet),
+        Err(why) => Err(Status::Refused(why)),
+    }
+}
