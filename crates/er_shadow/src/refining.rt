@@ -71,10 +71,7 @@ fn are_among(some: &[LockId], all: &[LockId]) -> bool
 {
     let mut found = 0;
     for lock in all {
-        if found == some.len() || some[found] < *lock {
-            break;
-        }
-        if some[found] == *lock {
+        if found < some.len() && some[found] == *lock {
             found += 1;
         }
     }
