@@ -33,7 +33,7 @@ DOCS = TOP / "docs"
 
 # ---- contracts
 
-HEAD = re.compile(r"^( *)(?:pub(?:\([a-z]+\))? )?(?:const )?(?:unsafe )?fn (\w+)")
+HEAD = re.compile(r'^( *)(?:pub(?:\([a-z]+\))? )?(?:const )?(?:unsafe )?(?:extern "C" )?fn (\w+)')
 IMPL = re.compile(r"^ *(?:impl(?:<.*?>)? (?:[\w:<>', ]+? for )?&?(?:'\w+ )?(\w+)|(?:pub )?(?:struct|trait|enum) (\w+))\b.*\{$")
 CLAUSE = re.compile(r"^ *ensures(?: (\w+))? \{")
 FACT = re.compile(r"^ *(?:pub )?ghost (\w+)(?::| =) \{")
