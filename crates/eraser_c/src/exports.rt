@@ -83,7 +83,7 @@ pub extern "C" fn eraser_release(alloc: Global, thread: &mut Handle, lock: u32, 
 
 /// Opens an ignore bracket of the thread, in which its accesses don't count. Brackets may nest.
 #[unsafe(no_mangle)]
-pub extern "C" fn eraser_ignore_on(alloc: Global, thread: &mut Handle) -> u32
+pub extern "C" fn eraser_thread_ignore_on(alloc: Global, thread: &mut Handle) -> u32
     ensures { IsChanged thread.old.kept_box.kept thread.new.kept_box.kept Event.IgnoreOn result }
 {
     change(alloc, thread, Event::IgnoreOn).number()
@@ -91,7 +91,7 @@ pub extern "C" fn eraser_ignore_on(alloc: Global, thread: &mut Handle) -> u32
 
 /// Closes the innermost ignore bracket of the thread.
 #[unsafe(no_mangle)]
-pub extern "C" fn eraser_ignore_off(alloc: Global, thread: &mut Handle) -> u32
+pub extern "C" fn eraser_thread_ignore_off(alloc: Global, thread: &mut Handle) -> u32
     ensures { IsChanged thread.old.kept_box.kept thread.new.kept_box.kept Event.IgnoreOff result }
 {
     change(alloc, thread, Event::IgnoreOff).number()
