@@ -20,8 +20,8 @@ unfolding accesses
 accesses-more thread kind cover word [] race = ap (λ w. (access_of thread kind w race, cover) ∷ []) (same word)
 accesses-more thread kind cover word (first ∷ races) race =
     ap (λ calls. (access_of thread kind word first, cover) ∷ calls)
-      (accesses-more thread kind cover (word + 1) races race
-      ∙ ap (λ w. accesses thread kind cover (word + 1) races ++ (access_of thread kind w race, cover) ∷ []) (next word (length races)))
+    (accesses-more thread kind cover (word + 1) races race
+    ∙ ap (λ w. accesses thread kind cover (word + 1) races ++ (access_of thread kind w race, cover) ∷ []) (next word (length races)))
 
 -- the first race with one answer more
 first_race-more : (word : ℕ) (races : List Bool) (race : Bool) → first_race word (races ++ race ∷ []) ≡ found_next (first_race word races) (word + length races) race
@@ -50,7 +50,7 @@ spanned-more before now after thread kind cover word count found race was is =
       list = is ∙ (ap (λ calls. calls ++ last count) was.list
           ∙ (append_assoc before (accesses thread kind cover word was.races) (last count)
           ∙ ap (λ calls. before ++ calls)
-            (ap (λ n. accesses thread kind cover word was.races ++ last n) (sym was.size) ∙ sym (accesses-more thread kind cover word was.races race))));
+          (ap (λ n. accesses thread kind cover word was.races ++ last n) (sym was.size) ∙ sym (accesses-more thread kind cover word was.races race))));
       first = ap (λ f. found_next f (word + count) race) was.first
           ∙ (ap (λ n. found_next (first_race word was.races) (word + n) race) (sym was.size) ∙ sym (first_race-more word was.races race));
     }

@@ -40,7 +40,7 @@ impl Model for Shard {
     ghost use Rattle.std.specs.Prelude.{List, ℕ};
     ghost use Rattle.er_online.specs.declared.calls.Call.{Call};
     ghost use Rattle.er_online.specs.Spans.{IsSpanned, found_next, resets};
-ghost use Rattle.er_online.specs.Taken.{IsReplay, calls_coded};
+    ghost use Rattle.er_online.specs.Taken.{IsReplay, calls_coded};
 
     ghost Value = { List (Call × List ℕ) };
 

@@ -37,13 +37,7 @@ pub(crate) fn access(
 }
 
 #[inline(always)]
-fn access_by(
-    alloc: Global,
-    shard: &mut Handle,
-    thread: &Thread,
-    kind: Kind,
-    word: Word,
-) -> Status
+fn access_by(alloc: Global, shard: &mut Handle, thread: &Thread, kind: Kind, word: Word) -> Status
     ensures { UnlessIgnoring thread.now (OfShard (λ before after number. IsAccessed thread.now kind word before after number)) shard.old.kept_box.kept shard.new.kept_box.kept (number_of result) }
 {
     if thread.held.ignoring() {

@@ -14,5 +14,5 @@ loop-taken-preserved c =
     let word : c.new-word.result ≡ c.args.words.first + taken = c.new-word.ensures ∙ ap (λ n. n + taken) (c.number-first.ensures.value ∙ c.first.ensures) in
     let more = subst (λ w. c.access.new.self ≡ c.loop-taken.self ++ (access_of c.args.thread c.args.kind w race, c.args.locks.now) ∷ []) word c.in-Ok.ensures.taken in
     subst (λ f. IsSpanned c.args.self.now c.access.new.self c.args.thread c.args.kind c.args.locks.now c.args.words.first (taken + 1) f)
-      (sym (c.race_found-first_race.ensures ∙ ap (λ w. found_next found w race) word))
-      (spanned-more c.args.self.now c.loop-taken.self c.access.new.self c.args.thread c.args.kind c.args.locks.now c.args.words.first taken found race c.loop-taken.invariant more)
+    (sym (c.race_found-first_race.ensures ∙ ap (λ w. found_next found w race) word))
+    (spanned-more c.args.self.now c.loop-taken.self c.access.new.self c.args.thread c.args.kind c.args.locks.now c.args.words.first taken found race c.loop-taken.invariant more)

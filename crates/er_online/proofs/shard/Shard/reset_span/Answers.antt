@@ -13,4 +13,4 @@ loop-page-init c = sym (append-nil c.args.self.now)
 pub loop-page-preserved : goal.loop-page-preserved
 loop-page-preserved c =
     resets-more c.args.self.now c.loop-page.self c.reset.new.self c.args.words c.loop-page.page c.loop-page.invariant
-      (subst (λ range. c.reset.new.self ≡ c.loop-page.self ++ reset_call range ∷ []) c.part.ensures.value c.reset.ensures)
+    (subst (λ range. c.reset.new.self ≡ c.loop-page.self ++ reset_call range ∷ []) c.part.ensures.value c.reset.ensures)
