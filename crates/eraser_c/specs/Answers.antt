@@ -112,12 +112,6 @@ pub record UnlessIgnoring (t : Thread) (P : Option Value → Option Value → �
   pub ignored : 0 < t.held.depth → (after ≡ before) × (number ≡ number_of Ignored)
   pub counted : t.held.depth ≡ 0 → P before after number
 
--- what a call asks of the thread of one handle and of the shard of another
-abbrev pub OfThread : (Thread → Calls → Calls → ℕ → Type 0) → Option Value → Option Value → Option Value → ℕ → Type 0
-OfThread P None before after number = (after ≡ before) × (number ≡ number_of EmptyHandle)
-OfThread P (Some (Shard calls)) before after number = (after ≡ before) × (number ≡ number_of WrongHandle)
-OfThread P (Some (thread_of t)) before after number = UnlessIgnoring t (OfShard (P t)) before after number
-
 -- the words of the run are virgin
 abbrev pub IsReset : Span → Calls → Calls → ℕ → Type 0
 IsReset span before after number = (after ≡ before ++ resets (parts_of span)) × (number ≡ number_of Quiet)
