@@ -1,6 +1,5 @@
 -- A box of what a handle leads to may go to another thread, since what it leads to may.
 use mir.Raw.{raw}
-use base.Fml.{ftrue}
 use base.Shift.{Keyless}
 use denote.Memory.{lone}
 use denote.RawPtr.{Ptr}
