@@ -168,9 +168,9 @@ pub extern "C" fn eraser_access_span(
     first_race: &mut u64,
 ) -> u32
     ensures answered { 0 < bytes → bytes ≤ most_bytes → ¬ IsOutsideMemory address bytes → IsSpanAccess thread.old.kept_box.kept (kind_of writes) (span_of_bytes address bytes) first_race.new shard.old.kept_box.kept shard.new.kept_box.kept result }
-    ensures too_large { most_bytes < bytes → result ≡ number_of (Status.Refused Refusal.SizeTooLarge) }
-    ensures out_of_range { bytes ≤ most_bytes → IsOutsideMemory address bytes → result ≡ number_of (Status.Refused Refusal.AddressOutOfRange) }
-    ensures none { bytes ≡ 0 → address < 2 ^ 48 → result ≡ number_of Status.Quiet }
+    ensures too_large { most_bytes < bytes → (result ≡ number_of (Status.Refused Refusal.SizeTooLarge)) × (shard.new.kept_box.kept ≡ shard.old.kept_box.kept) }
+    ensures out_of_range { bytes ≤ most_bytes → IsOutsideMemory address bytes → (result ≡ number_of (Status.Refused Refusal.AddressOutOfRange)) × (shard.new.kept_box.kept ≡ shard.old.kept_box.kept) }
+    ensures none { bytes ≡ 0 → address < 2 ^ 48 → (result ≡ number_of Status.Quiet) × (shard.new.kept_box.kept ≡ shard.old.kept_box.kept) }
     ensures thread { thread.new.kept_box.kept ≡ thread.old.kept_box.kept }
 {
     *first_race = u64::MAX;
@@ -184,9 +184,9 @@ pub extern "C" fn eraser_access_span(
 #[unsafe(no_mangle)]
 pub extern "C" fn eraser_reset(alloc: Global, shard: &mut Handle, address: u64, bytes: u64) -> u32
     ensures done { 0 < bytes → bytes ≤ most_bytes → ¬ IsOutsideMemory address bytes → OfShard (λ before after number. IsReset (span_of_bytes address bytes) before after number) shard.old.kept_box.kept shard.new.kept_box.kept result }
-    ensures too_large { most_bytes < bytes → result ≡ number_of (Status.Refused Refusal.SizeTooLarge) }
-    ensures out_of_range { bytes ≤ most_bytes → IsOutsideMemory address bytes → result ≡ number_of (Status.Refused Refusal.AddressOutOfRange) }
-    ensures none { bytes ≡ 0 → address < 2 ^ 48 → result ≡ number_of Status.Quiet }
+    ensures too_large { most_bytes < bytes → (result ≡ number_of (Status.Refused Refusal.SizeTooLarge)) × (shard.new.kept_box.kept ≡ shard.old.kept_box.kept) }
+    ensures out_of_range { bytes ≤ most_bytes → IsOutsideMemory address bytes → (result ≡ number_of (Status.Refused Refusal.AddressOutOfRange)) × (shard.new.kept_box.kept ≡ shard.old.kept_box.kept) }
+    ensures none { bytes ≡ 0 → address < 2 ^ 48 → (result ≡ number_of Status.Quiet) × (shard.new.kept_box.kept ≡ shard.old.kept_box.kept) }
 {
     match words_of(address, bytes) {
         Ok(words) => reset(alloc, shard, words).number(),

@@ -12,20 +12,20 @@ use Rattle.eraser_c.proofs.shards.access.Goals as goal
 
 -- the handle leads to a thread
 by-thread : (v : Option Value) (t : Thread) → v ≡ Some (thread_of t) → (kind : Kind) (word : ℕ) (before after : Option Value) (number : ℕ)
-  → UnlessIgnoring t (OfShard (λ before after number. IsAccessed t kind word before after number)) before after number → IsAccess v kind word before after number
+    → UnlessIgnoring t (OfShard (λ before after number. IsAccessed t kind word before after number)) before after number → IsAccess v kind word before after number
 by-thread v t is kind word before after number done = rw is done
 
 -- the handle leads to a shard
 by-shard : (v : Option Value) (calls : Calls) → v ≡ Some (Shard calls) → (kind : Kind) (word : ℕ) (before after : Option Value) (number : ℕ)
-  → after ≡ before → number ≡ number_of WrongHandle → IsAccess v kind word before after number
+    → after ≡ before → number ≡ number_of WrongHandle → IsAccess v kind word before after number
 by-shard v calls is kind word before after number same told = rw is (same, told)
 
 pub returns-clause-answered : goal.returns-clause-answered
 returns-clause-answered c = elim c.match-deref.branch [
-    | in-Thread w ↦ (
+  | in-Thread w ↦ (
       let is : c.args.thread.now.kept_box.kept ≡ Some (thread_of w.in-Thread.thread) = search rules in
       rw (w.shard-is, w.status-is) (by-thread _ _ is _ _ _ _ _ w.access_by-status.ensures))
-    | in-Shard w ↦ (
+  | in-Shard w ↦ (
       let is : c.args.thread.now.kept_box.kept ≡ Some (Shard w.in-Shard.field-0) = search rules in
       by-shard _ _ is _ _ _ _ _ (ap (λ s. s.kept_box.kept) w.shard-is) (ap number_of w.status-is))
-  ]
+]
