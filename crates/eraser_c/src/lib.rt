@@ -5,7 +5,8 @@
 //!
 //! - a handle is zeroed, or a call of this library wrote it, and a copy of it isn't used after it;
 //! - a handle is given to one call at a time, and the handles and places of one call are different ones;
-//! - no call is made in a signal handler, nor in the child that a process with several threads forked.
+//! - no pointer is null, and where `locks` points to there is room for as many numbers as the call is told;
+//! - no call is made in a signal handler that interrupted another call or `malloc`, nor in the child of a `fork` if another thread was inside a call.
 #![tactic(auto)]
 
 mod exports;
