@@ -171,7 +171,7 @@ uint32_t eraser_thread_ignore_on(eraser_thread *thread) ERASER_NONNULL;
 uint32_t eraser_thread_ignore_off(eraser_thread *thread) ERASER_NONNULL;
 /* The thread is at this interrupt level, 0 to 31: it counts as holding the locks of levels 1 to this one. */
 uint32_t eraser_level(eraser_thread *thread, uint32_t level) ERASER_NONNULL;
-/* The numbers of the locks that it holds, rising: the first `room` of them. `count` is how many there are. */
+/* The numbers of the locks that it holds, rising, the locks of its level last: the first `room` of them. `count` is how many there are. */
 uint32_t eraser_held(eraser_thread *thread, uint32_t *locks, size_t room, size_t *count) ERASER_NONNULL;
 
 /* An access of the word that has this byte. */
