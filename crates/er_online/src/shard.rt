@@ -1,13 +1,14 @@
 //! A shard.
-ghost use Rattle.std.specs.Prelude.{◌≡◌, ◌≢◌, ◌≤◌, ◌+◌, ℕ, [], ◌∷◌, ◌++◌, Some, IfOk, IsNone, IsSome, OnOk, OnErr, IsErrOf};
+ghost use Rattle.std.specs.Prelude.{◌≡◌, ◌≢◌, ◌≤◌, ◌+◌, ℕ, [], ◌∷◌, ◌++◌, Some, IfOk, IsNone, IsOk, IsSome, IsTrue, OnOk, OnErr, IsErrOf};
 ghost use Rattle.er_event.specs.Span.{parts_of};
+ghost use Rattle.er_event.specs.declared.steps.WordState.TheVariants.{Exclusive};
 ghost use Rattle.er_model.specs.Parts.{FitsEnd, IsLegal};
 ghost use Rattle.er_model.specs.Table.{advanced, moved, reports};
 ghost use Rattle.er_model.specs.Words.{Counted};
 ghost use Rattle.er_online.specs.Spans.{IsSpanned, found_next, resets};
 ghost use Rattle.er_online.specs.Taken.{access_of, notes_of, reset_of, state_now};
 ghost use Rattle.er_shadow.specs.Replies.{reply_if};
-ghost use Rattle.er_shadow.specs.Shadows.{states};
+ghost use Rattle.er_shadow.specs.Shadows.{needs_set, states};
 
 use crate::Call;
 use crate::history::History;
@@ -68,8 +69,8 @@ impl Shard {
     }
 
     /// Takes a counted access with the locks that cover it: those that the thread holds in any mode for a read, and those that it holds in write
-    /// mode for a write. Returns whether it is a race. Refused if a set of locks finds no place (`TableFull`), and if there is no memory
-    /// (`OutOfMemory`).
+    /// mode for a write. Returns whether it is a race. Refused if a set of locks finds no place (`TableFull`), which isn't asked for while one thread
+    /// alone has accessed the word, and if there is no memory (`OutOfMemory`).
     #[inline(always)]
     pub fn access(
         &mut self,
@@ -81,6 +82,8 @@ impl Shard {
         ensures taken { IfOk result (λ race. self.new ≡ self.old ++ (access_of thread kind word race, locks.now) ∷ []) }
         ensures reply { IfOk result (λ race. FitsEnd (notes_of self.old) (Counted thread kind word locks.now) (reply_if race)) }
         ensures err { OnErr result (self.new ≡ self.old) }
+        ensures table_full { IsErrOf result NoRoom.TableFull → IsTrue (needs_set (state_now self.old word) thread) }
+        ensures own { state_now self.old word ≡ Exclusive thread → IsOk result }
         ensures refusals { ¬ IsErrOf result NoRoom.JournalFull }
     {
         let race = answer(&mut self.words, thread, kind, word, locks)?;
@@ -187,6 +190,8 @@ fn answer(
     ensures ok { OnOk result ((w : ℕ) → states words.new w ≡ moved (states words.old w) w (Counted thread kind word locks.now)) }
     ensures race { IfOk result (λ race. race ≡ reports (states words.old word) (advanced (states words.old word) thread kind locks.now)) }
     ensures err { OnErr result ((w : ℕ) → states words.new w ≡ states words.old w) }
+    ensures full { IsErrOf result NoRoom.TableFull → IsTrue (needs_set (states words.old word) thread) }
+    ensures own { states words.old word ≡ Exclusive thread → IsOk result }
     ensures refusals { ¬ IsErrOf result NoRoom.JournalFull }
 {
     if words.access_quickly(thread, word, kind, locks).is_some() {
