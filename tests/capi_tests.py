@@ -293,6 +293,31 @@ def shown():
     return [(text, blocks[at + 1][1]) for at, (kind, text) in enumerate(blocks[:-1]) if kind == "sh" and blocks[at + 1][0] == "text"]
 
 
+def library(record, folder):
+    """capi/build renews the library if it is of another archive, also of an older one, and refuses one that isn't there."""
+    (folder / "tree/capi").mkdir(parents=True)
+    for path in (*CAPI.glob("eraser_*.[ch]"), CAPI / "build"):
+        shutil.copy2(path, folder / "tree/capi")
+    made, archives = folder / "tree/capi/out/liberaser.a", [folder / "first.a", folder / "second.a"]
+    for at, path in enumerate(archives):
+        (folder / "member").write_text(f"{at}\n")
+        command(["ar", "rcsD", path, folder / "member"])
+        os.utime(path, (at, at))
+
+    def built(path):
+        done = command([folder / "tree/capi/build"], env={**os.environ, "ERASER_PROVED": str(path)})
+        return (done.returncode, done.stderr), made.stat().st_mtime_ns, command(["ar", "p", made, "member"]).stdout
+
+    second, again, first = built(archives[1]), built(archives[1]), built(archives[0])
+    record("capi: capi/build of an archive", (second[0], second[2]) == ((0, ""), "1\n") and again == second, f"{second} {again}")
+    record("capi: capi/build of an older archive", (first[0], first[2]) == ((0, ""), "0\n"), f"{first}")
+    (folder / "tree/capi/eraser_memory.c").write_text("int eraser_memory;\n")
+    os.utime(folder / "tree/capi/eraser_memory.c", (0, 0))
+    record("capi: capi/build of an older source", built(archives[0])[1] != first[1])
+    status, _, kept = built(folder / "no.a")
+    record("capi: capi/build of no archive", status[0] == 125 and status[1].startswith("capi: ") and kept == "0\n", f"{status} {kept}")
+
+
 def document(record, folder):
     """Its commands print what it shows, with what ./install puts below a prefix."""
     not_run, prefix = [], folder / "prefix"
@@ -329,6 +354,7 @@ def tests(record):
                 random_lists(record, driver, of_layer)
                 refused_lists(record, folder, driver, of_layer)
         programs(record, folder)
+        library(record, folder)
         return document(record, folder)
 
 
