@@ -428,28 +428,43 @@ static bool grow(struct table *table)
     return true;
 }
 
-/* The number of a lock, a new one if it has none. Those of one table are TABLES apart. */
+/* Whether a lock has a number. Where it stands, or may be put. */
+static bool is_known(const struct table *table, uintptr_t lock, uint32_t *at)
+{
+    if (!table->room)
+        return false;
+    *at = find(table, lock);
+    return table->known[*at].lock != 0;
+}
+
+/* A number that no other lock has. Those of one table are TABLES apart. */
+static uint32_t new_number(eraser_detector *e, struct table *table)
+{
+    if (!table->spares)
+        return table->given++ * TABLES + (uint32_t)(table - e->tables);
+    uint32_t number = table->spare[table->first_spare];
+    table->first_spare = (table->first_spare + 1) & (table->room - 1);
+    table->spares--;
+    return number;
+}
+
+/* The number of a lock, a new one if it has none. Only a new one may want memory. */
 static uint32_t number_of(eraser_detector *e, uintptr_t lock, uint32_t *number)
 {
     struct table *table = table_of(e, lock);
-    uint32_t status = ERASER_OUT_OF_MEMORY;
+    uint32_t status = ERASER_QUIET, at = 0;
     take(&table->lock);
-    if (2 * (table->count + 1) <= table->room || grow(table)) {
-        struct known *known = &table->known[find(table, lock)];
-        if (!known->lock) {
-            known->lock = lock;
+    if (!is_known(table, lock, &at)) {
+        if (2 * (table->count + 1) <= table->room || grow(table)) {
+            at = find(table, lock);
+            table->known[at] = (struct known){lock, new_number(e, table)};
             table->count++;
-            if (table->spares) {
-                known->number = table->spare[table->first_spare];
-                table->first_spare = (table->first_spare + 1) & (table->room - 1);
-                table->spares--;
-            } else {
-                known->number = table->given++ * TABLES + (uint32_t)(table - e->tables);
-            }
+        } else {
+            status = ERASER_OUT_OF_MEMORY;
         }
-        *number = known->number;
-        status = ERASER_QUIET;
     }
+    if (status == ERASER_QUIET)
+        *number = table->known[at].number;
     leave(&table->lock);
     return status;
 }
@@ -473,14 +488,12 @@ uint32_t eraser_destroying(eraser_detector *e, const volatile void *lock)
     if (status != ERASER_QUIET)
         return status;
     struct table *table = table_of(e, (uintptr_t)lock);
+    uint32_t at;
     take(&table->lock);
-    if (table->room) {
-        uint32_t at = find(table, (uintptr_t)lock);
-        if (table->known[at].lock) {
-            table->spare[(table->first_spare + table->spares++) & (table->room - 1)] = table->known[at].number;
-            table->count--;
-            close_gap(table, at);
-        }
+    if (is_known(table, (uintptr_t)lock, &at)) {
+        table->spare[(table->first_spare + table->spares++) & (table->room - 1)] = table->known[at].number;
+        table->count--;
+        close_gap(table, at);
     }
     leave(&table->lock);
     return end(ERASER_QUIET);

@@ -169,6 +169,20 @@ static void check_memory(void)
     CHECK(mallinfo2().uordblks < before + 20000);
 }
 
+/* A lock that is known asks for no memory, however full its table is. */
+static void check_known(void)
+{
+    struct eraser_options options = {.on_race = count_race, .context = &races};
+    CHECK((detector = eraser_start(&options)) != NULL);
+    for (int at = 0; at < LOCKS; at++) {
+        CHECK(eraser_locked(detector, lock_at(at), true) == ERASER_QUIET && eraser_unlocking(detector, lock_at(at)) == ERASER_QUIET);
+        size_t before = mallinfo2().uordblks;
+        CHECK(eraser_locked(detector, lock_at(at), true) == ERASER_QUIET && eraser_unlocking(detector, lock_at(at)) == ERASER_QUIET);
+        CHECK(mallinfo2().uordblks == before);
+    }
+    eraser_stop(detector);
+}
+
 /* Detectors know nothing of one another, also if one comes where another one was. */
 static void check_detectors(void)
 {
@@ -202,6 +216,7 @@ int main(void)
     run_thread(end_late, NULL);
     check_memory();
     eraser_stop(detector);
+    check_known();
     check_detectors();
     printf("fine\n");
     return 0;
