@@ -114,7 +114,7 @@ static uint64_t started;
 #define OF_THREAD static _Thread_local __attribute__((tls_model("initial-exec")))
 enum { CALL = 1, PAUSE = 2 };
 OF_THREAD volatile sig_atomic_t busy; /* CALL, if the thread is in a call, and PAUSE for each pause */
-OF_THREAD bool forks;
+OF_THREAD volatile sig_atomic_t forks; /* how many forks are under way, one inside the other, for which all locks are taken */
 OF_THREAD struct {
     uint64_t start;
     struct self *self;
@@ -580,28 +580,43 @@ static void for_each_lock(for_lock *do_it)
     }
 }
 
-/* The child has a copy in which nobody is at work. A fork inside a call can't wait for what that call holds. */
+/* The child has a copy in which nobody is at work. A fork inside a call can't wait for what that call holds. A handler may fork between this and the fork
+ * that it is for: then the locks are taken already. */
 static void before_fork(void)
 {
+    if (forks)
+        forks++;
     if (busy & CALL)
         return;
     busy += CALL;
     for_each_lock(take);
-    forks = true;
+    forks = 1;
 }
 
 static void after_fork(void)
 {
-    if (!forks)
+    if (!forks || --forks)
         return;
-    forks = false;
     for_each_lock(leave);
     busy -= CALL;
 }
 
+/* The other threads are not in the child. A call that needs no lock may have been under way in one, so nobody uses what it had, and it isn't freed. */
+static void begin_child(void)
+{
+    for (eraser_detector *e = forks ? detectors : NULL; e; e = e->next) {
+        e->selves = pthread_getspecific(e->key);
+        if (e->selves) {
+            e->selves->link = &e->selves;
+            e->selves->next = NULL;
+        }
+    }
+    after_fork();
+}
+
 static void watch_forks(void)
 {
-    pthread_atfork(before_fork, after_fork, after_fork);
+    pthread_atfork(before_fork, after_fork, begin_child);
 }
 
 /* ---- Start and stop ---- */
