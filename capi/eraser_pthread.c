@@ -186,12 +186,14 @@ static inline uint32_t end(uint32_t status)
 /* Puts the thread's own record of this detector into `mine`. */
 APART static uint32_t find_self(eraser_detector *e)
 {
+    int error = errno;
     struct self *self = pthread_getspecific(e->key);
     uint32_t status = self ? ERASER_QUIET : meet(e, &self);
     if (status == ERASER_QUIET) {
         mine.self = self;
         mine.start = e->start;
     }
+    errno = error;
     return status;
 }
 
@@ -284,6 +286,7 @@ static inline uint32_t access_part(eraser_detector *e, struct self *self, uint64
     return status;
 }
 
+/* No thread ends inside on_race, which would leave what it holds locked, and errno is the program's. */
 APART static void report(eraser_detector *e, const struct self *self, struct eraser_race race, struct found found)
 {
     race.word = (const volatile void *)(uintptr_t)found.word;
@@ -292,7 +295,11 @@ APART static void report(eraser_detector *e, const struct self *self, struct era
     race.lock_count = self->count;
     race.locks = self->locks;
     race.lock_writes = self->writes;
+    int error = errno, cancels;
+    pthread_setcancelstate(PTHREAD_CANCEL_DISABLE, &cancels);
     e->on_race(e->context, &race);
+    pthread_setcancelstate(cancels, &cancels);
+    errno = error;
 }
 
 static inline uint32_t access_bytes(eraser_detector *e, const volatile void *address, size_t size, bool writes, const void *site)
@@ -405,9 +412,11 @@ static uint32_t find(const struct table *table, uintptr_t lock)
 /* Twice the room. As many numbers may be spare as there were locks at a time, which is fewer than the room. */
 static bool grow(struct table *table)
 {
+    int error = errno;
     struct table grown = {.room = table->room ? 2 * table->room : 16};
     grown.known = malloc(grown.room * sizeof *grown.known);
     grown.spare = malloc(grown.room * sizeof *grown.spare);
+    errno = error;
     if (!grown.known || !grown.spare) {
         free(grown.known);
         free(grown.spare);

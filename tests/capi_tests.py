@@ -172,7 +172,7 @@ def random_calls(seed, of_layer):
     dice = random.Random(f"{seed} {of_layer}")
     # Few threads, locks and words, so that they meet; sometimes many locks.
     locks = dice.choice([2, 3, 3, 70])
-    # Whole pages and more are dear for the reference.
+    # Whole pages and more take the reference long.
     longer = [4096, 9000] if of_layer and seed % 40 == 0 else []
     verbs = ["lock", "unlock", "read", "write", "free", "look", "ignore-on", "ignore-off"] + ([] if of_layer else ["level", "one-read", "one-write"])
     weights = [12 if locks < 70 else 30, 9, 14, 14, 1, 5, 1, 2] + ([] if of_layer else [3, 6, 6])

@@ -1,6 +1,7 @@
 /* Lives of locks, threads and detectors, and what the layer refuses. */
 #include "checks.h"
 
+#include <errno.h>
 #include <malloc.h>
 #include <stdatomic.h>
 
@@ -51,7 +52,7 @@ static void *use_it(void *lock)
     return NULL;
 }
 
-/* A helper that uses the word under one lock after the other, as it is told: threads are dear. */
+/* A helper that uses the word under one lock after the other, as it is told: threads cost much. */
 static pthread_barrier_t meeting;
 static const void *asked;
 static bool ends;
@@ -183,6 +184,37 @@ static void check_known(void)
     eraser_stop(detector);
 }
 
+/* A thread that is cancelled while it finds a race doesn't end there, with what it holds. errno stays as it was. */
+static pthread_mutex_t held = PTHREAD_MUTEX_INITIALIZER;
+static void cancel(void *context, const struct eraser_race *race)
+{
+    count_race(context, race);
+    errno = ENOENT;
+    CHECK(pthread_cancel(pthread_self()) == 0);
+    pthread_testcancel();
+}
+
+static void *use_and_end(void *unused)
+{
+    CHECK(pthread_mutex_lock(&held) == 0);
+    errno = EDOM;
+    CHECK(eraser_write(detector, &word, sizeof word) == ERASER_RACE && errno == EDOM);
+    CHECK(pthread_mutex_unlock(&held) == 0);
+    pthread_testcancel();
+    return unused;
+}
+
+static void check_cancelled(void)
+{
+    pthread_t thread;
+    void *ended;
+    struct eraser_options options = {.on_race = cancel, .context = &races};
+    CHECK((detector = eraser_start(&options)) != NULL && eraser_write(detector, &word, sizeof word) == ERASER_QUIET);
+    CHECK(pthread_create(&thread, NULL, use_and_end, NULL) == 0 && pthread_join(thread, &ended) == 0 && ended == PTHREAD_CANCELED);
+    CHECK(pthread_mutex_trylock(&held) == 0 && pthread_mutex_unlock(&held) == 0);
+    eraser_stop(detector);
+}
+
 /* Detectors know nothing of one another, also if one comes where another one was. */
 static void check_detectors(void)
 {
@@ -217,6 +249,7 @@ int main(void)
     check_memory();
     eraser_stop(detector);
     check_known();
+    check_cancelled();
     check_detectors();
     printf("fine\n");
     return 0;
