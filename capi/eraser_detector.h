@@ -73,10 +73,14 @@ const char *eraser_text(uint32_t status);
  *   eraser_destroying  before a lock's memory is something else
  *   eraser_freeing     before bytes are given back, or are handed to another thread that goes on without a lock
  * A lock is any address that stands for it, but not null. Recursive locks count: a lock is held until it was released as often as taken.
+ * No call changes errno but eraser_start, and none is a point of cancellation.
  *
  * Signal handlers. A call inside another call of the same thread does nothing and answers ERASER_BUSY, so a handler never waits for what it interrupted.
  * A call that interrupts other code works, and may ask malloc for memory: a handler that may interrupt malloc brackets itself by eraser_pause and
  * eraser_resume, and its calls answer ERASER_BUSY.
+ *
+ * Priorities. A call waits for a short time for those of other threads on the same words, and lets others run meanwhile (sched_yield). Among threads of
+ * SCHED_FIFO or SCHED_RR with different priorities, which share a processor, such a wait may not end: give them one priority.
  *
  * Forks. The child of `fork` goes on with a copy of the detector in which the forking thread alone makes calls, with the locks that it had. The child of
  * `vfork`, of `clone`, or of a fork inside another call (from a handler) makes no call. */
@@ -85,8 +89,8 @@ typedef struct eraser_detector eraser_detector;
 
 /* A race, as `on_race` gets it. What the pointers point to is there until `on_race` returns. */
 struct eraser_race {
-    const volatile void *address;  /* the access that found it: the first byte .. */
-    size_t size;                   /* .. and how many */
+    const volatile void *address;  /* the first byte of the access that found it */
+    size_t size;                   /* how many bytes that access has */
     const volatile void *word;     /* the first of its words that is a race; others may be too */
     bool writes;                   /* whether it writes */
     uint32_t thread;               /* the thread that made it */
@@ -97,7 +101,8 @@ struct eraser_race {
     const void *site;              /* where the call of eraser_read or eraser_write returns to */
 };
 
-/* Called in the thread that made the access, which holds no lock of the detector's. It must return, and calls inside it answer ERASER_BUSY. */
+/* Called in the thread that made the access, which holds no lock of the detector's. It must return, and calls inside it answer ERASER_BUSY. The thread can't
+ * be cancelled meanwhile. */
 typedef void eraser_on_race(void *context, const struct eraser_race *race);
 
 struct eraser_options {
@@ -107,8 +112,8 @@ struct eraser_options {
     void *context;           /* what on_race gets */
 };
 
-/* A new detector; NULL stands for the usual options. If there is none, NULL with errno: EINVAL for too many shards, ENOMEM, or EAGAIN if the process has
- * no more keys of threads. A process may have several. */
+/* A new detector; NULL stands for the usual options. If there is none, NULL with errno: EINVAL for too many shards or sets, ENOMEM, or EAGAIN if the
+ * process has no more keys of threads. A process may have several. */
 eraser_detector *eraser_start(const struct eraser_options *options);
 /* Gives all of it back. Each other thread that made a call has ended or makes no more, and none ends meanwhile. Not inside on_race. NULL is fine. */
 void eraser_stop(eraser_detector *detector);
@@ -120,7 +125,7 @@ uint32_t eraser_write(eraser_detector *detector, const volatile void *address, s
 
 uint32_t eraser_locked(eraser_detector *detector, const volatile void *lock, bool writes);
 uint32_t eraser_unlocking(eraser_detector *detector, const volatile void *lock);
-/* Its number may be given to a lock that is new. Until the words that it protected are freed, that lock then counts as this one. */
+/* No thread holds it. Its number may be given to a lock that is new. Until the words that it protected are freed, that lock then counts as this one. */
 uint32_t eraser_destroying(eraser_detector *detector, const volatile void *lock);
 /* Each word that has one of these bytes is virgin again. */
 uint32_t eraser_freeing(eraser_detector *detector, const volatile void *address, size_t size);
@@ -134,7 +139,8 @@ uint32_t eraser_look(eraser_detector *detector, const volatile void *address);
 /* This thread's number. 0 if it has none: no memory was there. */
 uint32_t eraser_self(eraser_detector *detector);
 
-/* This thread's calls between the two are refused, for all detectors. They nest, and may be called from a signal handler. */
+/* This thread's calls between the two are refused, for all detectors. They nest, and may be called from a signal handler. Each eraser_resume
+ * is of a pause of this thread. */
 void eraser_pause(void);
 void eraser_resume(void);
 
@@ -143,9 +149,10 @@ void eraser_print(void *context, const struct eraser_race *race);
 
 /* ---- 2. The proved calls ----
  *
- * A handle is 16 bytes of the program's. It is empty if it is zeroed. `new` fills it, and `free` leaves it empty. It isn't copied while it is filled, and
- * isn't null; nobody else writes to it. There is one call at a time for each handle: a shard stands under a lock of the program's, a thread's handle is its thread's own. No call is
- * made from a signal handler that interrupted another one. They allocate by rattle_alloc, rattle_realloc and rattle_dealloc (eraser_memory.c). A shard
+ * A handle is 16 bytes of the program's. It is empty if it is zeroed. `new` fills it, and `free` leaves it empty: both take a handle of either sort, and
+ * free what it had. It isn't copied while it is filled, and isn't null; nobody else writes to it. There is one call at a time for each handle: a lock of the
+ * program's is held for each call on a shard, and a thread's handle is its thread's own. No call is made from a signal handler that interrupted another one.
+ * They allocate by rattle_alloc, rattle_realloc and rattle_dealloc (eraser_memory.c). A shard
  * has any words: whoever calls it says which ones, and no word is in two of them. */
 
 typedef struct eraser_shard {
@@ -158,7 +165,7 @@ typedef struct eraser_thread {
     void *at;
 } eraser_thread;
 
-/* A shard that keeps at most max_sets sets of locks, 1 to 1,048,576. What the handle had is freed. */
+/* A shard that keeps at most max_sets sets of locks; the empty one doesn't count, and above 1,048,576 it is that many. What the handle had is freed. */
 uint32_t eraser_shard_new(eraser_shard *shard, uint32_t max_sets) ERASER_NONNULL;
 uint32_t eraser_shard_free(eraser_shard *shard) ERASER_NONNULL;
 /* A thread of this number, below 2^30, that holds no lock. What the handle had is freed. */

@@ -69,7 +69,8 @@ static void answer(const struct step *step)
     for (unsigned at = 0; at < THREADS; at++)
         if (numbers[at] && numbers[at] == found.other)
             other = at;
-    if (found.thread != numbers[step->thread] || found.address != (void *)(uintptr_t)step->first || found.size != step->second || found.writes != (step->verb[0] == 'w'))
+    bool is_ours = found.thread == numbers[step->thread] && found.address == (void *)(uintptr_t)step->first && found.size == step->second;
+    if (!is_ours || found.writes != (step->verb[0] == 'w'))
         exit(5);
     printf("race 0x%llx after %u holding", (unsigned long long)(uintptr_t)found.word, other);
     for (size_t at = 0; at < found.lock_count; at++)
