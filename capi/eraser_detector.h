@@ -73,7 +73,7 @@ const char *eraser_text(uint32_t status);
  *   eraser_destroying  before a lock's memory is something else
  *   eraser_freeing     before bytes are given back, or are handed to another thread that goes on without a lock
  * A lock is any address that stands for it, but not null. Recursive locks count: a lock is held until it was released as often as taken.
- * No call changes errno but eraser_start, and none is a point of cancellation.
+ * Only eraser_start, and eraser_print where the program itself calls it, may change errno or be a point of cancellation.
  *
  * Signal handlers. A call inside another call of the same thread does nothing and answers ERASER_BUSY, so a handler never waits for what it interrupted.
  * A call that interrupts other code works, and may ask malloc for memory: a handler that may interrupt malloc brackets itself by eraser_pause and
@@ -98,7 +98,7 @@ struct eraser_race {
     size_t lock_count;             /* how many locks the thread holds now .. */
     const volatile void *const *locks; /* .. which ones, the oldest first .. */
     const bool *lock_writes;       /* .. and whether each is held to write */
-    const void *site;              /* where the call of eraser_read or eraser_write returns to */
+    const void *site;              /* where the call of eraser_read or eraser_write returns to: the byte before is the call's */
 };
 
 /* Called in the thread that made the access, which holds no lock of the detector's. It must return, and calls inside it answer ERASER_BUSY. The thread can't
@@ -144,7 +144,7 @@ uint32_t eraser_self(eraser_detector *detector);
 void eraser_pause(void);
 void eraser_resume(void);
 
-/* An on_race that prints a line on standard error. */
+/* An on_race that prints a line on standard error. Its address is that of the call's last byte. */
 void eraser_print(void *context, const struct eraser_race *race);
 
 /* ---- 2. The proved calls ----

@@ -729,6 +729,7 @@ void eraser_print(void *context, const struct eraser_race *race)
     if (race->other)
         snprintf(other, sizeof other, ", after thread %u", race->other);
     int length = snprintf(line, sizeof line, "race: thread %u %s %zu bytes at %p, the word at %p%s, holding %zu locks, called from %p\n", race->thread,
-        race->writes ? "writes" : "reads", race->size, (void *)(uintptr_t)race->address, (void *)(uintptr_t)race->word, other, race->lock_count, race->site);
+        race->writes ? "writes" : "reads", race->size, (void *)(uintptr_t)race->address, (void *)(uintptr_t)race->word, other, race->lock_count,
+        (const void *)((const char *)race->site - 1));
     fwrite(line, 1, (size_t)length, stderr);
 }

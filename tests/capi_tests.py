@@ -293,6 +293,20 @@ def shown():
     return [(text, blocks[at + 1][1]) for at, (kind, text) in enumerate(blocks[:-1]) if kind == "sh" and blocks[at + 1][0] == "text"]
 
 
+def printed_place(record, folder):
+    """The line that a race prints without on_race has the address of the call, as docs/LIBRARY.md says, and addr2line gives its line."""
+    text = (CAPI / "examples/counter.c").read_text()
+    (folder / "printed.c").write_text(text.replace(".on_race = tell", ".on_race = NULL"))
+    line = text[: text.index("eraser_write(detector, &bare")].count("\n") + 1
+    sources = [folder / "printed.c", CAPI / "eraser_pthread.c", CAPI / "eraser_memory.c"]
+    for level in ("-O0", "-O2"):
+        built = command(["gcc", "-g", "-no-pie", level, "-w", f"-I{CAPI}", *sources, archive(), "-o", folder / "printed", "-pthread"])
+        found = command([folder / "printed"])
+        match = re.fullmatch(r"race: thread 2 writes 4 bytes at (\S+), the word at \1, after thread 1, holding 0 locks, called from (\S+)\n", found.stderr)
+        told = command(["addr2line", "-e", folder / "printed", match[2] if match else "0"]).stdout
+        record(f"capi: the place of a race that is printed {level}", re.search(rf"/printed\.c:{line}\b", told), f"{built} {found} {told}")
+
+
 def library(record, folder):
     """capi/build renews the library if it is of another archive, also of an older one, and refuses one that isn't there."""
     (folder / "tree/capi").mkdir(parents=True)
@@ -354,6 +368,7 @@ def tests(record):
                 random_lists(record, driver, of_layer)
                 refused_lists(record, folder, driver, of_layer)
         programs(record, folder)
+        printed_place(record, folder)
         library(record, folder)
         return document(record, folder)
 
