@@ -439,7 +439,8 @@ def packages_tests(record, tree):
     """Packages that can't be installed are named, and the tests run."""
     found = tree.run("test", PATH=few_commands(tree.home / "bin"))
     asked = (tree.home / "asked").read_text() if os.geteuid() == 0 else ""
-    names = ("gcc libc6-dev g++ clang libdw-dev", "libjemalloc-dev libtcmalloc-minimal4", "valgrind", "--no-install-recommends chromium fonts-dejavu-core")
+    names = ("gcc libc6-dev g++ clang libdw-dev", "libjemalloc-dev libtcmalloc-minimal4", "pkg-config", "valgrind",
+             "--no-install-recommends chromium fonts-dejavu-core")
     is_told = all(f"on Debian: apt-get install {name}\n" in found.stderr and (asked == "" or f"install -y -qq {name}\n" in asked) for name in names)
     record("test: no package can be installed", (found.returncode, found.stdout) == (0, "one line\n5 passed, 0 failed\n") and is_told, f"{found} {asked}")
 
