@@ -6,7 +6,8 @@
 //   eraser::write(counter)++;                   reports an access, and gives the object
 //   int now = eraser::read(counter);
 //
-// Without a session they report nothing, and lock all the same.
+// Without a session they report nothing, and lock all the same. With std::unique_lock, a try of a lock or a condition variable a program calls eraser_locked
+// and eraser_unlocking itself.
 #ifndef ERASER_DETECTOR_HPP
 #define ERASER_DETECTOR_HPP
 
@@ -74,14 +75,14 @@ public:
     explicit lock_guard(Mutex &mutex) : mutex_(mutex)
     {
         mutex_.lock();
-        if (running())
-            eraser_locked(running(), &mutex_, true);
+        if (eraser_detector *detector = running())
+            eraser_locked(detector, &mutex_, true);
     }
 
     ~lock_guard()
     {
-        if (running())
-            eraser_unlocking(running(), &mutex_);
+        if (eraser_detector *detector = running())
+            eraser_unlocking(detector, &mutex_);
         mutex_.unlock();
     }
 
@@ -98,14 +99,14 @@ public:
     explicit shared_lock_guard(SharedMutex &mutex) : mutex_(mutex)
     {
         mutex_.lock_shared();
-        if (running())
-            eraser_locked(running(), &mutex_, false);
+        if (eraser_detector *detector = running())
+            eraser_locked(detector, &mutex_, false);
     }
 
     ~shared_lock_guard()
     {
-        if (running())
-            eraser_unlocking(running(), &mutex_);
+        if (eraser_detector *detector = running())
+            eraser_unlocking(detector, &mutex_);
         mutex_.unlock_shared();
     }
 
@@ -125,23 +126,23 @@ private:
 // The object's own bytes: not those that it points to.
 template <class T> ERASER_INLINE const T &read(const T &object) noexcept
 {
-    if (running())
-        eraser_read(running(), std::addressof(object), sizeof object);
+    if (eraser_detector *detector = running())
+        eraser_read(detector, std::addressof(object), sizeof object);
     return object;
 }
 
 template <class T> ERASER_INLINE T &write(T &object) noexcept
 {
-    if (running())
-        eraser_write(running(), std::addressof(object), sizeof object);
+    if (eraser_detector *detector = running())
+        eraser_write(detector, std::addressof(object), sizeof object);
     return object;
 }
 
 // Before an object's memory is something else, or the object is handed to a thread that goes on without a lock.
 template <class T> ERASER_INLINE void freeing(const T &object) noexcept
 {
-    if (running())
-        eraser_freeing(running(), std::addressof(object), sizeof object);
+    if (eraser_detector *detector = running())
+        eraser_freeing(detector, std::addressof(object), sizeof object);
 }
 
 #undef ERASER_INLINE
