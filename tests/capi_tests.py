@@ -189,7 +189,8 @@ def random_calls(seed, of_layer):
         elif verb in ("read", "write", "free"):
             address = dice.choice([4096, 4096, 4097, 4100, 4608, 8188, 8190, 20480, LIMIT - 4, LIMIT - 1, LIMIT])
             sizes = [1, 4, 4, 4, 8, 16, 3, 0] + longer
-            calls.append((thread, verb, address, dice.choice(sizes) if verb != "free" or of_layer else min(dice.choice(sizes), 8192 - address if address < 8192 else 4)))
+            size = dice.choice(sizes)
+            calls.append((thread, verb, address, size if verb != "free" or of_layer else min(size, 8192 - address if address < 8192 else 4)))
         else:
             calls.append((thread, verb, dice.choice([4096, 4098, 4100, 8188, 8192, 20480, LIMIT - 1, LIMIT]), 0))
     return calls
@@ -239,8 +240,8 @@ def refused_lists(record, folder, driver, of_layer):
         refused = 0
         for nth, found, has_refused in each_refused(library, folder, lambda env: command([driver], input=text, env=env)):
             refused += has_refused
-            is_right = (found.returncode, found.stdout, found.stderr) == (0, wanted, "")
-            record(f"capi: list {seed} by the {name} with allocation {nth} refused", is_right, f"{found.returncode} {found.stderr} {differing(found.stdout, wanted)}")
+            is_right, how = (found.returncode, found.stdout, found.stderr) == (0, wanted, ""), differing(found.stdout, wanted)
+            record(f"capi: list {seed} by the {name} with allocation {nth} refused", is_right, f"{found.returncode} {found.stderr} {how}")
         record(f"capi: list {seed} by the {name} has allocations", refused > 5, f"{refused}")
 
 
@@ -276,6 +277,9 @@ def headers(record, folder):
                 text, standard = f"#include <{name}>\n#include <{name}>\n", "c11" if language == "c" else "c++17"
                 done = command([compiler, "-x", language, f"-std={standard}", *WARNINGS, f"-I{CAPI}", "-c", "-", "-o", folder / "header.o"], input=text)
                 record(f"capi: {name} by {compiler}", (done.returncode, done.stderr) == (0, ""), f"{done}")
+    line = re.compile(r"^ *(?:pub const )?(ERASER_[A-Z_]+)(?:: u32)? = (\d+)[,;]? *(?:/\*.*)?$", re.M)
+    statuses = [dict(line.findall((CAPI / name).read_text())) for name in ("eraser_detector.h", "rust/src/lib.rs")]
+    record("capi: the statuses in Rust", len(statuses[0]) > 20 and statuses[0] == statuses[1], f"{statuses}")
     for compiler in filter(shutil.which, COMPILERS["c"]):
         for source in ("eraser_pthread.c", "eraser_memory.c"):
             done = command([compiler, "-std=c11", *WARNINGS, "-O2", "-c", CAPI / source, "-o", folder / "source.o"])

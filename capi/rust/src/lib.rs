@@ -1,4 +1,5 @@
-//! The calls of `eraser_detector.h` for programs with threads, with their names and meanings. That header has what each one promises and asks.
+//! The calls of the first part of `eraser_detector.h`, for programs with threads, and all statuses, with their names and meanings. That header has what
+//! each one promises and asks.
 //!
 //! Safe Rust has no data race. These calls are for what is not safe Rust: interpreters, emulators and runtimes that run other code's threads, and
 //! `unsafe` code with locks of its own.
@@ -42,7 +43,23 @@ pub struct EraserOptions {
 pub const ERASER_QUIET: u32 = 0;
 pub const ERASER_RACE: u32 = 1;
 pub const ERASER_IGNORED: u32 = 2;
+pub const ERASER_ALREADY_HELD: u32 = 3;
+pub const ERASER_NOT_HELD: u32 = 4;
+pub const ERASER_WRONG_MODE: u32 = 5;
+pub const ERASER_IGNORE_NOT_ON: u32 = 6;
+pub const ERASER_IGNORE_TOO_DEEP: u32 = 7;
+pub const ERASER_HELD_FULL: u32 = 8;
+pub const ERASER_SIZE_TOO_LARGE: u32 = 9;
+pub const ERASER_ADDRESS_OUT_OF_RANGE: u32 = 10;
+pub const ERASER_JOURNAL_FULL: u32 = 11;
+pub const ERASER_TABLE_FULL: u32 = 12;
 pub const ERASER_OUT_OF_MEMORY: u32 = 13;
+pub const ERASER_FOREIGN_SEAT: u32 = 14;
+pub const ERASER_TOO_MANY_THREADS: u32 = 15;
+pub const ERASER_LEVEL_TOO_HIGH: u32 = 16;
+pub const ERASER_LEVEL_LOCK: u32 = 17;
+pub const ERASER_EMPTY_HANDLE: u32 = 18;
+pub const ERASER_WRONG_HANDLE: u32 = 19;
 pub const ERASER_VIRGIN: u32 = 20;
 pub const ERASER_EXCLUSIVE: u32 = 21;
 pub const ERASER_SHARED: u32 = 22;
