@@ -58,6 +58,9 @@ static void check_signals(void)
     CHECK(eraser_write(detector, data, sizeof data) == ERASER_QUIET && eraser_freeing(detector, data, sizeof data) == ERASER_QUIET);
     CHECK(eraser_locked(detector, &handler_lock, true) == ERASER_QUIET && eraser_unlocking(detector, &handler_lock) == ERASER_QUIET);
     CHECK(eraser_write(detector, &of_handler, 4) == ERASER_QUIET && eraser_freeing(detector, &of_handler, 4) == ERASER_QUIET);
+    /* Outside of a call its own calls work. */
+    CHECK(raise(SIGUSR1) == 0 && quiet_calls == 3 && busy_calls == 0 && eraser_look(detector, &of_handler) == ERASER_EXCLUSIVE);
+    CHECK(eraser_freeing(detector, &of_handler, 4) == ERASER_QUIET);
     CHECK(pthread_create(&thread, NULL, interrupted, NULL) == 0);
     while (eraser_look(detector, &data[WORDS - 1]) == ERASER_VIRGIN)
         sched_yield();
