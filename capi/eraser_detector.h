@@ -118,7 +118,7 @@ eraser_detector *eraser_start(const struct eraser_options *options);
 /* Gives all of it back. Each other thread that made a call has ended or makes no more, and none ends meanwhile. Not inside on_race. NULL is fine. */
 void eraser_stop(eraser_detector *detector);
 
-/* An access of so many bytes. ERASER_RACE if one of its words is a race; on_race was then called, once. If it is refused for want of memory or by a full
+/* An access of so many bytes. ERASER_RACE if one of its words is a race; on_race was then called, once. If it is refused for lack of memory or by a full
  * table, the words before the refused one are noted. */
 uint32_t eraser_read(eraser_detector *detector, const volatile void *address, size_t size);
 uint32_t eraser_write(eraser_detector *detector, const volatile void *address, size_t size);
@@ -184,7 +184,7 @@ uint32_t eraser_held(eraser_thread *thread, uint32_t *locks, size_t room, size_t
 /* An access of the word that has this byte. */
 uint32_t eraser_access(eraser_shard *shard, eraser_thread *thread, uint64_t address, bool writes) ERASER_NONNULL;
 /* An access of each word that has one of these bytes, in order. If one is a race, first_race is the address of the first such word, else UINT64_MAX. If it is
- * refused for want of memory or by a full table, the words before the refused one are noted. */
+ * refused for lack of memory or by a full table, the words before the refused one are noted. */
 uint32_t eraser_access_span(eraser_shard *shard, eraser_thread *thread, uint64_t address, uint64_t bytes, bool writes, uint64_t *first_race) ERASER_NONNULL;
 /* Each word that has one of these bytes is virgin again. */
 uint32_t eraser_reset(eraser_shard *shard, uint64_t address, uint64_t bytes) ERASER_NONNULL;

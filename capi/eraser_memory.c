@@ -22,7 +22,7 @@ static struct tried tried(void *at, int error)
     return at ? (struct tried){true, at} : (struct tried){false, &nothing};
 }
 
-/* malloc may answer null for a size of 0, which is no want of memory. */
+/* malloc may answer null for a size of 0, which is no lack of memory. */
 static size_t at_least_one(size_t size)
 {
     return size ? size : 1;
