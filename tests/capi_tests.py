@@ -5,7 +5,9 @@
   turn, the answers are the same once a refused call is made again
 - the programs of tests/capi, plain and with AddressSanitizer, UndefinedBehaviorSanitizer and ThreadSanitizer: many threads, wrong handles, lives of locks,
   threads and detectors, signal handlers, forks
-- the headers have no warning in C11 and in C++17, by gcc and clang
+- the headers have no warning in C11 and in C++17, by gcc and clang, and the statuses in Rust are the header's
+- capi/build makes the library of the archive and the sources that are there, also of older ones
+- the address in a race's line is that of the call, by addr2line
 - the programs of docs/LIBRARY.md build by its commands with what ./install puts, and print what it shows
 
 `tests/run` calls `tests`. By itself this file runs these tests alone. ERASER_PROVED is the path of another archive of the proved calls.
