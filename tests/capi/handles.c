@@ -1,6 +1,15 @@
 /* Empty, wrong and freed handles, and what each proved call refuses. */
 #include "checks.h"
 
+/* The status of a run without a race, which `first_race` always says. */
+static uint32_t quiet_span(eraser_shard *shard, eraser_thread *thread, uint64_t address, uint64_t bytes)
+{
+    uint64_t race = 5;
+    uint32_t status = eraser_access_span(shard, thread, address, bytes, true, &race);
+    CHECK(race == UINT64_MAX);
+    return status;
+}
+
 /* A shard has as many sets of locks as it may, and refuses an access that wants one more, which leaves the state. */
 static void check_full(uint32_t most)
 {
@@ -28,15 +37,6 @@ static void check_full(uint32_t most)
     CHECK(eraser_shard_free(&shard) == ERASER_QUIET && eraser_thread_free(&first) == ERASER_QUIET && eraser_thread_free(&second) == ERASER_QUIET);
 }
 
-/* What a run of bytes answers, with first_race set to 7 before. It must say that there is no race. */
-static uint32_t span(eraser_shard *shard, eraser_thread *thread, uint64_t address, uint64_t bytes)
-{
-    uint64_t race = 7;
-    uint32_t status = eraser_access_span(shard, thread, address, bytes, true, &race);
-    CHECK(race == UINT64_MAX);
-    return status;
-}
-
 /* `count` and the places for locks stay as they were if a handle is empty or wrong. */
 static uint32_t held_of_no_thread(eraser_thread *thread)
 {
@@ -53,7 +53,7 @@ int main(void)
     eraser_thread thread, second = {0, NULL};
     uint32_t held[2];
     size_t count = 0;
-    uint64_t race = 5;
+    uint64_t race;
     memset(&shard, 0, sizeof shard);
     memset(&thread, 0, sizeof thread);
     _Static_assert(sizeof shard == 16 && sizeof thread == 16, "a handle has 16 bytes");
@@ -61,22 +61,22 @@ int main(void)
     /* Empty ones. */
     CHECK(eraser_shard_free(&shard) == ERASER_QUIET && eraser_thread_free(&thread) == ERASER_QUIET);
     CHECK(eraser_access(&shard, &thread, 4096, true) == ERASER_EMPTY_HANDLE);
-    CHECK(span(&shard, &thread, 4096, 8) == ERASER_EMPTY_HANDLE);
+    CHECK(quiet_span(&shard, &thread, 4096, 8) == ERASER_EMPTY_HANDLE);
     CHECK(eraser_reset(&shard, 4096, 4) == ERASER_EMPTY_HANDLE && eraser_state(&shard, 4096) == ERASER_EMPTY_HANDLE);
     CHECK(eraser_acquire(&thread, 1, true) == ERASER_EMPTY_HANDLE && eraser_release(&thread, 1, true) == ERASER_EMPTY_HANDLE);
     CHECK(eraser_thread_ignore_on(&thread) == ERASER_EMPTY_HANDLE && eraser_thread_ignore_off(&thread) == ERASER_EMPTY_HANDLE);
     CHECK(eraser_level(&thread, 1) == ERASER_EMPTY_HANDLE && held_of_no_thread(&thread) == ERASER_EMPTY_HANDLE);
     CHECK(eraser_thread_new(&thread, 1u << 30) == ERASER_TOO_MANY_THREADS && thread.kind == 0);
     CHECK(eraser_thread_new(&thread, 1) == ERASER_QUIET && thread.kind != 0);
-    CHECK(eraser_access(&shard, &thread, 4096, true) == ERASER_EMPTY_HANDLE && span(&shard, &thread, 4096, 8) == ERASER_EMPTY_HANDLE);
+    CHECK(eraser_access(&shard, &thread, 4096, true) == ERASER_EMPTY_HANDLE && quiet_span(&shard, &thread, 4096, 8) == ERASER_EMPTY_HANDLE);
     CHECK(eraser_shard_new(&shard, 1000) == ERASER_QUIET && eraser_shard_new(&other, 1000) == ERASER_QUIET && eraser_thread_new(&second, 2) == ERASER_QUIET);
 
     /* Wrong ones, and nothing changed. */
     CHECK(eraser_access((eraser_shard *)(void *)&second, &thread, 4096, true) == ERASER_WRONG_HANDLE);
     CHECK(eraser_access(&shard, (eraser_thread *)(void *)&other, 4096, true) == ERASER_WRONG_HANDLE);
-    CHECK(span((eraser_shard *)(void *)&second, &thread, 4096, 8) == ERASER_WRONG_HANDLE);
-    CHECK(span(&shard, (eraser_thread *)(void *)&other, 4096, 8) == ERASER_WRONG_HANDLE);
-    CHECK(held_of_no_thread((eraser_thread *)(void *)&other) == ERASER_WRONG_HANDLE);
+    CHECK(quiet_span((eraser_shard *)(void *)&second, &thread, 4096, 8) == ERASER_WRONG_HANDLE);
+    CHECK(quiet_span(&shard, (eraser_thread *)(void *)&other, 4096, 8) == ERASER_WRONG_HANDLE);
+    CHECK(held_of_no_thread((eraser_thread *)(void *)&shard) == ERASER_WRONG_HANDLE);
     CHECK(eraser_acquire((eraser_thread *)(void *)&shard, 1, true) == ERASER_WRONG_HANDLE);
     CHECK(eraser_state((eraser_shard *)(void *)&thread, 4096) == ERASER_WRONG_HANDLE);
     CHECK(eraser_reset((eraser_shard *)(void *)&thread, 4096, 4) == ERASER_WRONG_HANDLE && eraser_state(&shard, 4096) == ERASER_VIRGIN);
@@ -100,7 +100,7 @@ int main(void)
     for (int depth = 0; depth < 255; depth++)
         CHECK(eraser_thread_ignore_on(&thread) == ERASER_QUIET);
     CHECK(eraser_thread_ignore_on(&thread) == ERASER_IGNORE_TOO_DEEP && eraser_access(&shard, &thread, 4096, true) == ERASER_IGNORED);
-    CHECK(span(&shard, &thread, 4096, 8) == ERASER_IGNORED && eraser_state(&shard, 4096) == ERASER_VIRGIN);
+    CHECK(quiet_span(&shard, &thread, 4096, 8) == ERASER_IGNORED && eraser_state(&shard, 4096) == ERASER_VIRGIN);
     for (int depth = 0; depth < 255; depth++)
         CHECK(eraser_thread_ignore_off(&thread) == ERASER_QUIET);
 
@@ -112,24 +112,24 @@ int main(void)
     CHECK(eraser_state(&shard, end) == ERASER_ADDRESS_OUT_OF_RANGE && eraser_reset(&shard, end - 4, 5) == ERASER_ADDRESS_OUT_OF_RANGE);
     CHECK(eraser_state(&shard, end - 4) == ERASER_EXCLUSIVE && eraser_reset(&shard, end - 1, 1) == ERASER_QUIET);
     CHECK(eraser_state(&shard, end - 4) == ERASER_VIRGIN);
-    CHECK(span(&shard, &thread, end - 8, 9) == ERASER_ADDRESS_OUT_OF_RANGE && eraser_state(&shard, end - 8) == ERASER_VIRGIN);
-    CHECK(span(&shard, &thread, 8192, 4194305) == ERASER_SIZE_TOO_LARGE && eraser_state(&shard, 8192) == ERASER_VIRGIN);
-    CHECK(span(&shard, &thread, 8192, 0) == ERASER_QUIET && eraser_state(&shard, 8192) == ERASER_VIRGIN);
+    CHECK(quiet_span(&shard, &thread, end - 8, 9) == ERASER_ADDRESS_OUT_OF_RANGE && eraser_state(&shard, end - 8) == ERASER_VIRGIN);
+    CHECK(quiet_span(&shard, &thread, 8192, 4194305) == ERASER_SIZE_TOO_LARGE && eraser_state(&shard, 8192) == ERASER_VIRGIN);
+    CHECK(quiet_span(&shard, &thread, 8192, 0) == ERASER_QUIET && eraser_state(&shard, 8192) == ERASER_VIRGIN);
     CHECK(eraser_reset(&shard, 8192, 4194305) == ERASER_SIZE_TOO_LARGE && eraser_reset(&shard, 8192, 0) == ERASER_QUIET);
 
     /* What is refused of a run leaves words that were used. */
     CHECK(eraser_access(&shard, &thread, 8192, true) == ERASER_QUIET);
-    CHECK(span(&shard, &second, 8192, 4194305) == ERASER_SIZE_TOO_LARGE && span(&shard, &second, 8192, end) == ERASER_SIZE_TOO_LARGE);
+    CHECK(quiet_span(&shard, &second, 8192, 4194305) == ERASER_SIZE_TOO_LARGE && quiet_span(&shard, &second, 8192, end) == ERASER_SIZE_TOO_LARGE);
     CHECK(eraser_reset(&shard, 8192, 4194305) == ERASER_SIZE_TOO_LARGE && eraser_reset(&shard, 8192, 0) == ERASER_QUIET);
-    CHECK(span(&shard, &second, end - 4, 5) == ERASER_ADDRESS_OUT_OF_RANGE && eraser_reset(&shard, end - 4, 5) == ERASER_ADDRESS_OUT_OF_RANGE);
+    CHECK(quiet_span(&shard, &second, end - 4, 5) == ERASER_ADDRESS_OUT_OF_RANGE && eraser_reset(&shard, end - 4, 5) == ERASER_ADDRESS_OUT_OF_RANGE);
     CHECK(eraser_state(&shard, 8192) == ERASER_EXCLUSIVE && eraser_reset(&shard, 8192, 4) == ERASER_QUIET);
 
     /* A race: which word, and once. */
-    CHECK(eraser_access_span(&shard, &thread, 8195, 6, true, &race) == ERASER_QUIET && race == UINT64_MAX);
+    CHECK(quiet_span(&shard, &thread, 8195, 6) == ERASER_QUIET);
     CHECK(eraser_state(&shard, 8192) == ERASER_EXCLUSIVE && eraser_state(&shard, 8203) == ERASER_EXCLUSIVE && eraser_state(&shard, 8204) == ERASER_VIRGIN);
     CHECK(eraser_access(&shard, &second, 8196, false) == ERASER_QUIET && eraser_state(&shard, 8196) == ERASER_SHARED);
     CHECK(eraser_access_span(&shard, &second, 8192, 4096, true, &race) == ERASER_RACE && race == 8192);
-    CHECK(eraser_access_span(&shard, &second, 8192, 4096, true, &race) == ERASER_QUIET && race == UINT64_MAX);
+    CHECK(quiet_span(&shard, &second, 8192, 4096) == ERASER_QUIET);
 
     /* A handle that is filled again is new; one that is freed is empty, however often. */
     CHECK(eraser_shard_new(&shard, 1) == ERASER_QUIET && eraser_state(&shard, 8192) == ERASER_VIRGIN);
