@@ -327,7 +327,8 @@ void read_options(int count, char **words)
         case 'V': fputs(version, stdout); end_printed(); break;
         default: fputs("record: --help says what there is\n", stderr); exit(STATUS_FAILED);
         }
-    options.asks_facts = ask_facts(options.rules);
+    /* Where these rules take nothing, a trace need not be kept for them. */
+    options.asks_facts = !options.until_fault && !(options.has_form && trace_form == &text_form) && ask_facts(options.rules);
     if (options.asks_facts && !options.has_form)
         keep_stacks();
     choose_form();
