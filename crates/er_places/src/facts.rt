@@ -9,7 +9,7 @@ use er_lines::is_site_name;
 use std::alloc::{AllocError, Global};
 use std::collections::BTreeMap;
 use std::io;
-use std::io::Read;
+use std::io::{ErrorKind, Read};
 
 // The most blocks that are kept.
 const MOST_BLOCKS: usize = 256;
@@ -381,7 +381,11 @@ impl<R: Read> Noting<R> {
         let mut buffer = [0; 4096];
         for _ in 0..u64::MAX {
             match self.read(&mut buffer) {
-                Ok(0) | Err(_) => return,
+                Ok(0) => return,
+                Err(why) => {
+                    self.facts.failed |= why.kind() == ErrorKind::OutOfMemory;
+                    return;
+                }
                 Ok(_) if !self.decoded.is_binary() => return,
                 Ok(_) => {}
             }
