@@ -1,7 +1,8 @@
-use Rattle.std.proofs.Common.{◌≡◌, ◌+◌, ◌-◌, ◌≤◌, false}
+use Rattle.std.proofs.Common.{◌≡◌, ◌+◌, ◌-◌, ◌≤◌, false, []}
 use Rattle.er_device.specs.Device.{inner_of, has_failed, taken_of}
 use Rattle.er_lines.specs.Lending.{taken_by, lines_from, lines_left}
 use Rattle.er_lines.specs.Reading.{Continues}
+use Rattle.er_text.specs.Inner.Numbers.{AreRight}
 use Rattle.er_text.specs.Inner.Traces.{progress, at_front, read_content}
 use Rattle.er_text.proofs.reading.TraceReader.read_left.Given as goal
 
@@ -11,6 +12,7 @@ invariant-loop g l = record {
   limit : l.self.place.limit ≡ l.fn.self.place.limit;
   within : l.self.place.start ≤ l.fn.self.place.limit;
   working : has_failed l.reader ≡ false;
+  right : AreRight (λ kind n. []) l.trace.names l.numbers;
   taken : taken_of l.reader + taken_by l.fn.self.place ≤ taken_of l.fn.reader + taken_by l.self.place;
 }
 
