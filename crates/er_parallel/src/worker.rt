@@ -113,7 +113,9 @@ fn answer_all<R: Wait>(
         return answer_alone(rt, alloc, steps, share, machine, found);
     }
     let mut at = next_busy(steps, share, 0);
+    let mut ahead = 0;
     while at < steps.len() {
+        ahead = read_own(machine, steps, share, at, ahead);
         let step = &steps[at];
         if let Err(cause) = go_on(rt, alloc, steps, share, at, step, machine, found) {
             let shard = shard_for(share.shards, step.event);
@@ -148,6 +150,49 @@ fn answer_alone<R: Wait>(
         }
     }
     Ok(())
+}
+
+// Reads words ahead again once those that were read are behind. Up to `ahead` they were, and the result is up to where they are now.
+#[inline(always)]
+fn read_own(
+    machine: &mut Machine<'_>,
+    steps: &[Step],
+    share: Share,
+    at: usize,
+    ahead: usize,
+) -> usize
+    requires share { IsShare share }
+    requires within { at < length steps.now }
+    ensures { machine.new ≡ machine.old }
+{
+    if at < ahead {
+        return ahead;
+    }
+    read_ahead(machine, steps, share, at)
+}
+
+// Reads the words of the next few steps that aren't idle ahead, and returns the position behind them. The words of others stay out: this worker has no
+// pages for them, so each look for one would be a search.
+#[inline(never)]
+fn read_ahead(machine: &mut Machine<'_>, steps: &[Step], share: Share, at: usize) -> usize
+    requires share { IsShare share }
+    requires within { at < length steps.now }
+    ensures { machine.new ≡ machine.old }
+{
+    let mut own = [steps[at]; 16];
+    let mut count = 0;
+    for next in at..steps.len() {
+        if !is_idle(share, &steps[next]) {
+            own[count] = steps[next];
+            count += 1;
+            if count == own.len() {
+                machine.look_ahead(&own, 0);
+                return next + 1;
+            }
+        }
+    }
+    machine.look_ahead(&own[..count], 0);
+    steps.len()
 }
 
 // The first position from here on, in a batch, of a step that isn't idle, or the end of the batch. It is a loop of its own, so that its few values stay

@@ -1,6 +1,8 @@
-use Rattle.std.proofs.Common.{◌≡◌, ◌+◌, length, refl, arith}
+use Rattle.std.proofs.Common.{◌≡◌, ◌+◌, length, refl, subst, sym, arith}
 use Rattle.std.proofs.lemmas.Option.{slice_get_read}
 use Rattle.er_parallel.proofs.TakingLemmas.{come-none, come-end, come-to}
+use Rattle.er_parallel.specs.Inner.Taking.{HasCome}
+use Rattle.er_replay.specs.Standing.{Replayed}
 use Rattle.er_parallel.proofs.worker.answer_all.Goals as goal
 
 pub loop-at-init : goal.loop-at-init
@@ -20,7 +22,8 @@ loop-at-preserved g c =
       within = next.ensures.within;
       come = λ past follows. come-to past c.args.steps.now c.args.share (c.loop-at.at + 1) next.result c.go_on.new.found.items c.go_on.new.machine
           next.ensures.behind next.ensures.within next.ensures.idle
-          (c.in_default.ensures.far past (c.loop-at.invariant.come past follows));
+          (c.in_default.ensures.far past
+          (subst (λ (m : Replayed). HasCome c.loop-at.at past c.args.steps.now c.args.share c.loop-at.found.items m) (sym c.read_own-ahead.ensures) (c.loop-at.invariant.come past follows)));
     }
 
 pub returns-clause-done : goal.returns-clause-done
