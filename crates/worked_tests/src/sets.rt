@@ -1,5 +1,6 @@
 //! Sets of locks that are stored once: by two threads at once, which wait for each other first, and in a book that is asked with the vector of
-//! its sets and with another. Sets that an owner has for itself, and words over them. And reports of more steps than 32 bits number: a text of so many would be too long for a test.
+//! its sets and with another. Sets that an owner has for itself, and words over them. And reports of more steps than 32 bits number: a text of so many
+//! would be too long for a test.
 use crate::Host;
 use crate::together::meeting_gate;
 use boxcar::Vec;
@@ -87,9 +88,9 @@ fn each_vector_is_pushed_to_once(rt: HostRuntime) {
 }
 
 // The number that an owner with room for two sets of its own gives the set of each of these locks alone, and 0 where it gives none.
-fn own_numbers<R: Host>(rt: &R, locks: &[u32]) -> Vec<u32> {
+fn own_numbers<R: Host>(rt: &R, locks: &[u32]) -> std::vec::Vec<u32> {
     let mut known = OwnKnown::new(rt.alloc(), 2);
-    let mut numbers = Vec::new(rt.alloc());
+    let mut numbers = std::vec::Vec::new(rt.alloc());
     for lock in locks {
         let number = known.number_of(&(), &set_of(rt, *lock)).unwrap_or(0);
         numbers.push(number).expect(rt, "memory");
@@ -99,24 +100,39 @@ fn own_numbers<R: Host>(rt: &R, locks: &[u32]) -> Vec<u32> {
 
 #[test]
 fn own_sets_are_full_at_their_own_limit(rt: HostRuntime) {
-    assert_eq!(rt; own_numbers(&rt, &[7, 8, 7, 9, 8]).as_slice(), [1, 2, 1, 0, 2].as_slice());
+    assert_eq!(rt;
+        own_numbers(&rt, &[7, 8, 7, 9, 8]).as_slice(),
+        [1, 2, 1, 0, 2].as_slice()
+    );
 }
 
 // Which of the writes of one word are races, each by this thread and under this lock alone, where the sets of the word's owner are its own.
-fn own_races<R: Host>(rt: &R, writes: &[(u32, u32)]) -> Vec<bool> {
+fn own_races<R: Host>(rt: &R, writes: &[(ThreadId, u32)]) -> std::vec::Vec<bool> {
     let mut words = OwnWords::new(rt.alloc(), 10).expect(rt, "memory");
-    let mut races = Vec::new(rt.alloc());
+    let mut races = std::vec::Vec::new(rt.alloc());
     for &(thread, lock) in writes {
-        let noted = words.access_noting(&(), ThreadId::new(thread), Word::new(4), Kind::Write, &set_of(rt, lock));
-        races.push(noted.expect(rt, "room").is_race).expect(rt, "memory");
+        let noted = words.access_noting(&(), thread, Word::new(4), Kind::Write, &set_of(rt, lock));
+        races
+            .push(noted.expect(rt, "room").is_race)
+            .expect(rt, "memory");
     }
     races
 }
 
 #[test]
 fn words_over_own_sets_find_a_race(rt: HostRuntime) {
-    let writes = [(1, 7), (2, 8), (2, 8), (1, 7), (2, 8)];
-    assert_eq!(rt; own_races(&rt, &writes).as_slice(), [false, false, false, true, false].as_slice());
+    let (first, second) = (ThreadId::new(1), ThreadId::new(2));
+    let writes = [
+        (first, 7),
+        (second, 8),
+        (second, 8),
+        (first, 7),
+        (second, 8),
+    ];
+    assert_eq!(rt;
+        own_races(&rt, &writes).as_slice(),
+        [false, false, false, true, false].as_slice()
+    );
 }
 
 // Whether there is room for the steps of a trace in a report that has so many before them, and how many steps and races it then has.
