@@ -1,5 +1,5 @@
 -- A shard's words go on being the replay of the calls, while the list grows by one call.
-use Rattle.std.proofs.Common.{◌≡◌, ◌∙◌, Bool, ◌<◌, ℕ, List, [], ◌∷◌, ◌++◌, length, slice_get, Some, sym, ap, cond}
+use Rattle.std.proofs.Common.{◌≡◌, ◌∙◌, Bool, ℕ, List, [], ◌∷◌, ◌++◌, slice_get, Some, sym, ap, cond}
 use Rattle.std.proofs.lemmas.List.{map-append}
 use Rattle.er_event.specs.declared.steps.Reply.TheVariants.{Race, Quiet}
 use Rattle.er_event.specs.declared.steps.Kind.{Kind}
@@ -13,7 +13,7 @@ use Rattle.er_shadow.specs.Shadows.{Shadows, states}
 use Rattle.er_online.specs.declared.calls.Call.{Call}
 use Rattle.er_online.specs.Taken.{IsReplay, mark_of, reply_of, note_of, notes_of}
 
-notes-grow : (calls : List (Call × List ℕ)) (call : Call × List ℕ) → notes_of (calls ++ call ∷ []) ≡ notes_of calls ++ note_of call ∷ []
+pub notes-grow : (calls : List (Call × List ℕ)) (call : Call × List ℕ) → notes_of (calls ++ call ∷ []) ≡ notes_of calls ++ note_of call ∷ []
 notes-grow calls call = map-append note_of calls (call ∷ [])
 
 no_notes : (k : ℕ) (noted : Noted) → slice_get [] k ≡ Some noted → ⊥

@@ -44,6 +44,10 @@ notes_of calls = map note_of calls
 abbrev pub state_now : List (Call × List ℕ) → ℕ → WordState
 state_now calls w = state_of_notes (notes_of calls) w
 
+-- each word has the state that it had
+abbrev pub HasSameStates : List (Call × List ℕ) → List (Call × List ℕ) → Type 0
+HasSameStates before after = (w : ℕ) → state_now after w ≡ state_now before w
+
 -- each answer is the one that the definitions give of the list, and so is each word's state
 pub record IsReplay (calls : List (Call × List ℕ)) (words : Shadows) : Type 0 where
   pub legal : IsLegal (notes_of calls)

@@ -5,18 +5,22 @@
 //!
 //! What it promises, by the names of clauses: an accepted call lengthens the list by exactly itself (`taken`), its answer is the one that the
 //! definitions give of the list (`reply`), a refused call leaves all as it was (`err`), and the words have the states that the definitions give of
-//! the list (`state`).
+//! the list (`state`). An access that changed no word's state says so (`settled`), and may be left out when it comes again
+//! (`a_settled_access_may_be_left_out`).
 //!
 //! ```text
 //! let mut shard = Shard::new(alloc, 1_048_576)?;
-//! let is_race = shard.access(thread, Kind::Write, word, held.write_held())?;
+//! let noted = shard.access(thread, Kind::Write, word, held.write_held())?;
 //! shard.reset(range);
 //! ```
 #![tactic(auto)]
 
 pub use calls::Call;
+pub use er_shadow::Noted;
+pub use laws::a_settled_access_may_be_left_out;
 pub use shard::{Shard, Spanned};
 
 mod calls;
 mod history;
+mod laws;
 mod shard;

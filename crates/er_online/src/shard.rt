@@ -1,19 +1,19 @@
 //! A shard.
-ghost use Rattle.std.specs.Prelude.{◌≡◌, ◌≢◌, ◌≤◌, ◌+◌, ℕ, [], ◌∷◌, ◌++◌, Some, IfOk, IsNone, IsOk, IsSome, IsTrue, OnOk, OnErr, IsErrOf};
+ghost use Rattle.std.specs.Prelude.{◌≡◌, ◌≢◌, ◌≤◌, ◌+◌, ℕ, [], ◌∷◌, ◌++◌, Some, IfOk, IsNone, IsOk, IsSome, IsTrue, false, true, None, OnOk, OnErr, IsErrOf};
 ghost use Rattle.er_event.specs.Span.{parts_of};
 ghost use Rattle.er_event.specs.declared.steps.WordState.TheVariants.{Exclusive};
 ghost use Rattle.er_model.specs.Parts.{FitsEnd, IsLegal};
 ghost use Rattle.er_model.specs.Table.{advanced, moved, reports};
 ghost use Rattle.er_model.specs.Words.{Counted};
 ghost use Rattle.er_online.specs.Spans.{IsSpanned, found_next, resets};
-ghost use Rattle.er_online.specs.Taken.{access_of, notes_of, reset_of, state_now};
+ghost use Rattle.er_online.specs.Taken.{HasSameStates, access_of, notes_of, reset_of, state_now};
 ghost use Rattle.er_shadow.specs.Replies.{reply_if};
 ghost use Rattle.er_shadow.specs.Shadows.{needs_set, states};
 
 use crate::Call;
 use crate::history::History;
 use er_event::{Kind, Lockset, NoRoom, PageRange, ThreadId, Word, WordRange, WordState};
-use er_shadow::OwnWords;
+use er_shadow::{Noted, OwnWords};
 use std::alloc::{AllocError, Global};
 use std::marker::Model;
 
@@ -26,6 +26,8 @@ pub struct Spanned {
     pub first_race: Option<Word>,
     /// Why the word after these was refused, if it was.
     pub refused: Option<NoRoom>,
+    /// Whether all were taken and each word kept its state. It may be false of such accesses too.
+    pub is_settled: bool,
 }
 
 /// Some of memory's words. Contracts see the list of the calls that it took, each with the locks that covered it: each answer and each word's state
@@ -69,7 +71,7 @@ impl Shard {
     }
 
     /// Takes a counted access with the locks that cover it: those that the thread holds in any mode for a read, and those that it holds in write
-    /// mode for a write. Returns whether it is a race. Refused if a set of locks finds no place (`TableFull`), which isn't asked for while one thread
+    /// mode for a write. Returns whether it is a race, and whether it changed its word. Refused if a set of locks finds no place (`TableFull`), which isn't asked for while one thread
     /// alone has accessed the word, and if there is no memory (`OutOfMemory`).
     #[inline(always)]
     pub fn access(
@@ -78,18 +80,20 @@ impl Shard {
         kind: Kind,
         word: Word,
         locks: &Lockset,
-    ) -> Result<bool, NoRoom>
-        ensures taken { IfOk result (λ race. self.new ≡ self.old ++ (access_of thread kind word race, locks.now) ∷ []) }
-        ensures reply { IfOk result (λ race. FitsEnd (notes_of self.old) (Counted thread kind word locks.now) (reply_if race)) }
+    ) -> Result<Noted, NoRoom>
+        ensures taken { IfOk result (λ noted. self.new ≡ self.old ++ (access_of thread kind word noted.is_race, locks.now) ∷ []) }
+        ensures reply { IfOk result (λ noted. FitsEnd (notes_of self.old) (Counted thread kind word locks.now) (reply_if noted.is_race)) }
+        ensures settled { IfOk result (λ noted. noted.has_changed ≡ false → HasSameStates self.old self.new) }
+        ensures quiet { IfOk result (λ noted. noted.has_changed ≡ false → noted.is_race ≡ false) }
         ensures err { OnErr result (self.new ≡ self.old) }
         ensures table_full { IsErrOf result NoRoom.TableFull → IsTrue (needs_set (state_now self.old word) thread) }
         ensures own { state_now self.old word ≡ Exclusive thread → IsOk result }
         ensures refusals { ¬ IsErrOf result NoRoom.JournalFull }
     {
-        let race = answer(&mut self.words, thread, kind, word, locks)?;
-        let call = Call::Access(thread, kind, word, race);
+        let noted = answer(&mut self.words, thread, kind, word, locks)?;
+        let call = Call::Access(thread, kind, word, noted.is_race);
         self.history = self.history.and(&call, locks);
-        Ok(race)
+        Ok(noted)
     }
 
     /// Makes the words of a range virgin. It takes no memory.
@@ -115,20 +119,27 @@ impl Shard {
         ensures all { IsNone result.refused → words.first + result.taken ≡ words.last + 1 }
         ensures some { IsSome result.refused → words.first + result.taken ≤ words.last }
         ensures refusals { result.refused ≢ Some NoRoom.JournalFull }
+        ensures settled { result.is_settled ≡ true → HasSameStates self.old self.new }
+        ensures quiet { result.is_settled ≡ true → (result.first_race ≡ None) × (result.refused ≡ None) }
     {
         let first = words.first().number();
         let count = words.last().number() - first + 1;
         let mut first_race = None;
+        let mut is_settled = true;
         for taken in 0..count {
             let word = Word::new(first + taken);
             match self.access(thread, kind, word, locks) {
-                Ok(is_race) => first_race = race_found(first_race, word, is_race),
+                Ok(noted) => {
+                    first_race = race_found(first_race, word, noted.is_race);
+                    is_settled = is_settled && !noted.has_changed;
+                }
                 Err(why) => {
                     self.keep();
                     return Spanned {
                         taken,
                         first_race,
                         refused: Some(why),
+                        is_settled: false,
                     };
                 }
             }
@@ -138,6 +149,7 @@ impl Shard {
             taken: count,
             first_race,
             refused: None,
+            is_settled,
         }
     }
 
@@ -178,7 +190,7 @@ fn race_found(found: Option<Word>, word: Word, is_race: bool) -> Option<Word>
     }
 }
 
-// Whether an access is a race. Most accesses leave their word as it is, and these are found first.
+// What an access does. Most accesses leave their word as it is, and these are found first.
 #[inline(always)]
 fn answer(
     words: &mut OwnWords,
@@ -186,17 +198,20 @@ fn answer(
     kind: Kind,
     word: Word,
     locks: &Lockset,
-) -> Result<bool, NoRoom>
+) -> Result<Noted, NoRoom>
     ensures ok { OnOk result ((w : ℕ) → states words.new w ≡ moved (states words.old w) w (Counted thread kind word locks.now)) }
-    ensures race { IfOk result (λ race. race ≡ reports (states words.old word) (advanced (states words.old word) thread kind locks.now)) }
+    ensures race { IfOk result (λ noted. noted.is_race ≡ reports (states words.old word) (advanced (states words.old word) thread kind locks.now)) }
+    ensures unchanged { IfOk result (λ noted. noted.has_changed ≡ false → (w : ℕ) → states words.new w ≡ states words.old w) }
     ensures err { OnErr result ((w : ℕ) → states words.new w ≡ states words.old w) }
     ensures full { IsErrOf result NoRoom.TableFull → IsTrue (needs_set (states words.old word) thread) }
     ensures own { states words.old word ≡ Exclusive thread → IsOk result }
     ensures refusals { ¬ IsErrOf result NoRoom.JournalFull }
 {
-    if words.access_quickly(thread, word, kind, locks).is_some() {
-        return Ok(false);
+    if let Some(has_changed) = words.access_quickly(thread, word, kind, locks) {
+        return Ok(Noted {
+            is_race: false,
+            has_changed,
+        });
     }
-    let noted = words.access_noting(&(), thread, word, kind, locks)?;
-    Ok(noted.is_race)
+    words.access_noting(&(), thread, word, kind, locks)
 }

@@ -15,7 +15,7 @@ use types.Part.{agg}
 use types.Run.{enter, returns, no_more}
 use types.ByLocal.{alloc_all, pass_all, free_all, look_at, sets}
 use denote.Exit.{yes}
-use denote.RattleType.{RattleType, Valss, owns}
+use denote.RattleType.{Valss, owns}
 use denote.Builtin.{RefOf}
 use denote.Signature.{plain, type_at, types_at}
 use denote.Steps.{nothing}

@@ -1,5 +1,5 @@
 -- Each page adds its reuse.
-use Rattle.std.proofs.Common.{◌≡◌, ◌∙◌, ◌∷◌, [], ◌++◌, subst, sym}
+use Rattle.std.proofs.Common.{◌≡◌, ◌∷◌, [], ◌++◌, subst, sym}
 use Rattle.std.proofs.lemmas.List.{append-nil}
 use Rattle.er_event.specs.Span.{parts_below}
 use Rattle.er_online.specs.Spans.{reset_call}
