@@ -2,7 +2,7 @@
 use Rattle.std.specs.Prelude.{ℕ, ◌≡◌, Option, Some, None}
 use Rattle.er_event.specs.Span.{Span}
 use Rattle.er_event.specs.declared.steps.Kind.{Kind}
-use Rattle.eraser_c.specs.Answers.{IsAccessed, IsSpanAccessed, OfShard, UnlessIgnoring, address_of}
+use Rattle.eraser_c.specs.Answers.{IsAccessed, IsSpanFound, OfShard, UnlessIgnoring}
 use Rattle.eraser_c.specs.Owned.{Value}
 use Rattle.eraser_c.specs.Statuses.{number_of}
 use Rattle.eraser_c.specs.declared.kept.Kept.TheVariants.{Shard, Thread as thread_of}
@@ -20,4 +20,4 @@ abbrev pub IsSpanAccess : Option Value → Kind → Span → ℕ → Option Valu
 IsSpanAccess None kind span first before after number = (after ≡ before) × (number ≡ number_of EmptyHandle)
 IsSpanAccess (Some (Shard calls)) kind span first before after number = (after ≡ before) × (number ≡ number_of WrongHandle)
 IsSpanAccess (Some (thread_of t)) kind span first before after number =
-    UnlessIgnoring t (OfShard (λ before after number. (found : Option ℕ) × ((first ≡ address_of found) × IsSpanAccessed t kind span before after found number))) before after number
+    UnlessIgnoring t (OfShard (λ before after number. IsSpanFound t kind span first before after number)) before after number

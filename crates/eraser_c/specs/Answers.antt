@@ -15,7 +15,7 @@ use Rattle.er_model.specs.Holdings.{refused_by, changed_by}
 use Rattle.er_model.specs.Parts.{FitsEnd, IsLegal}
 use Rattle.er_model.specs.Words.{Counted}
 use Rattle.er_online.specs.Spans.{IsSpanned, resets}
-use Rattle.er_online.specs.Taken.{access_of, notes_of, reply_of, state_now}
+use Rattle.er_online.specs.Taken.{HasSameStates, access_of, notes_of, reply_of, state_now}
 use Rattle.er_online.specs.declared.calls.Call.{Call}
 use Rattle.eraser_c.specs.Owned.{Value}
 use Rattle.eraser_c.specs.Statuses.{number_of}
@@ -32,6 +32,7 @@ Calls = List (Call × List ℕ)
 abbrev pub kind_of : Bool → Kind
 kind_of writes = cond writes writing reading
 
+-- and what it says of a lock
 abbrev pub mode_of : Bool → Mode
 mode_of writes = cond writes write_mode read_mode
 
@@ -60,11 +61,11 @@ IsChanged (Some (Shard calls)) after event number = (after ≡ Some (Shard calls
 IsChanged (Some (thread_of before)) after event number =
     (t : Thread) × ((after ≡ Some (thread_of t)) × IsFollowed before t event number)
 
--- the locks that the thread of a handle holds, as far as there is room, and how many they are
-abbrev pub IsHeld : Option Value → List ℕ → ℕ → ℕ → Type 0
-IsHeld None locks count number = number ≡ number_of EmptyHandle
-IsHeld (Some (Shard calls)) locks count number = number ≡ number_of WrongHandle
-IsHeld (Some (thread_of t)) locks count number =
+-- the locks that the thread of a handle holds, as far as there is room, and how many they are; without a thread both are as they were
+abbrev pub IsHeld : Option Value → List ℕ → List ℕ → ℕ → ℕ → ℕ → Type 0
+IsHeld None was locks counted count number = (locks ≡ was) × ((count ≡ counted) × (number ≡ number_of EmptyHandle))
+IsHeld (Some (Shard calls)) was locks counted count number = (locks ≡ was) × ((count ≡ counted) × (number ≡ number_of WrongHandle))
+IsHeld (Some (thread_of t)) was locks counted count number =
     ((n : ℕ) → n ≤ length t.held.held → n ≤ length locks → take n locks ≡ take n t.held.held) × ((count ≡ length t.held.held) × (number ≡ number_of Quiet))
 
 -- race or quiet
@@ -105,6 +106,23 @@ IsSpanTaken t kind span before after found number =
 pub record IsSpanAccessed (t : Thread) (kind : Kind) (span : Span) (before after : Calls) (found : Option ℕ) (number : ℕ) : Type 0 where
   pub legal : IsLegal (notes_of after)
   pub taken : IsSpanTaken t kind span before after found number
+
+-- so it is, and `first` says where the first race is
+abbrev pub IsSpanFound : Thread → Kind → Span → ℕ → Calls → Calls → ℕ → Type 0
+IsSpanFound t kind span first before after number = (found : Option ℕ) × ((first ≡ address_of found) × IsSpanAccessed t kind span before after found number)
+
+-- where a word is named, the status says that it is a race, or that a later one found no room
+abbrev pub NamesRace : ℕ → ℕ → Type 0
+NamesRace first number = (first ≡ address_of None) ⊎ ((number ≡ number_of Race) ⊎ IsNoRoom number)
+
+-- no access was a race, and each word of the handle's shard has the state that it had
+pub record IsSettled (before after : Option Value) (number : ℕ) : Type 0 where
+  pub was : Calls
+  pub now : Calls
+  pub from : before ≡ Some (Shard was)
+  pub to : after ≡ Some (Shard now)
+  pub same : HasSameStates was now
+  pub quiet : number ≡ number_of Quiet
 
 -- what a call asks of the shard of a handle, if it leads to one
 abbrev pub OfShard : (Calls → Calls → ℕ → Type 0) → Option Value → Option Value → ℕ → Type 0

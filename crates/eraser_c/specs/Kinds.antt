@@ -4,7 +4,7 @@ use Rattle.eraser_c.specs.Owned.{Value}
 use Rattle.eraser_c.specs.declared.kept.Kept.TheVariants.{Shard, Thread}
 
 -- 0 is empty, 1 a shard, 2 a thread
-abbrev pub kind_of : Option Value → ℕ
-kind_of None = 0
-kind_of (Some (Shard calls)) = 1
-kind_of (Some (Thread thread)) = 2
+abbrev pub handle_number : Option Value → ℕ
+handle_number None = 0
+handle_number (Some (Shard calls)) = 1
+handle_number (Some (Thread thread)) = 2

@@ -3,12 +3,12 @@ ghost use Rattle.std.specs.Prelude.{◌≡◌, ◌<◌, ◌≤◌, ◌^◌, ◌/
 ghost use Rattle.er_event.specs.Span.{IsOutsideMemory, most_bytes, span_of_bytes};
 ghost use Rattle.er_held.specs.Held.{nothing_held};
 ghost use Rattle.eraser_c.specs.Accesses.{IsAccess, IsSpanAccess};
-ghost use Rattle.eraser_c.specs.Answers.{IsChanged, IsHeld, IsMade, IsReset, IsState, OfShard, kind_of, mode_of};
+ghost use Rattle.eraser_c.specs.Answers.{IsChanged, IsHeld, IsMade, IsReset, IsSettled, IsState, NamesRace, OfShard, kind_of, mode_of};
 ghost use Rattle.eraser_c.specs.Statuses.{number_of};
 
 use crate::handle::Handle;
 use crate::kept::Kept;
-use crate::shards::{access, access_span, reset, state, words_of};
+use crate::shards::{SpanAnswer, access, access_span, reset, state, words_of};
 use crate::status::Status;
 use crate::threads::{Thread, change, held};
 use er_event::{Event, Kind, Level, LockId, Mode, Refusal, ThreadId, Word};
@@ -129,7 +129,7 @@ pub extern "C" fn eraser_held(
     locks: &mut [u32],
     count: &mut usize,
 ) -> u32
-    ensures held { IsHeld thread.old.kept_box.kept locks.new count.new result }
+    ensures held { IsHeld thread.old.kept_box.kept locks.old locks.new count.old count.new result }
     ensures thread { thread.new.kept_box.kept ≡ thread.old.kept_box.kept }
 {
     held(alloc, thread, locks, count).number()
@@ -156,7 +156,8 @@ pub extern "C" fn eraser_access(
 }
 
 /// The thread reads each word that has one of `bytes` bytes from an address on, or writes it if `writes`. `first_race` becomes the address of the
-/// first word that is a race, or the greatest number if none is. If one finds no room, those before it stay done.
+/// first word that is a race, or the greatest number if none is, and `settled` 1 only if no word's state changed, else 0. If a word finds no room,
+/// those before it stay done.
 #[unsafe(no_mangle)]
 pub extern "C" fn eraser_access_span(
     alloc: Global,
@@ -166,18 +167,23 @@ pub extern "C" fn eraser_access_span(
     bytes: u64,
     writes: bool,
     first_race: &mut u64,
+    settled: &mut u8,
 ) -> u32
     ensures answered { 0 < bytes → bytes ≤ most_bytes → ¬ IsOutsideMemory address bytes → IsSpanAccess thread.old.kept_box.kept (kind_of writes) (span_of_bytes address bytes) first_race.new shard.old.kept_box.kept shard.new.kept_box.kept result }
     ensures too_large { most_bytes < bytes → (result ≡ number_of (Status.Refused Refusal.SizeTooLarge)) × (shard.new.kept_box.kept ≡ shard.old.kept_box.kept) }
     ensures out_of_range { bytes ≤ most_bytes → IsOutsideMemory address bytes → (result ≡ number_of (Status.Refused Refusal.AddressOutOfRange)) × (shard.new.kept_box.kept ≡ shard.old.kept_box.kept) }
     ensures none { bytes ≡ 0 → address < 2 ^ 48 → (result ≡ number_of Status.Quiet) × (shard.new.kept_box.kept ≡ shard.old.kept_box.kept) }
+    ensures named { NamesRace first_race.new result }
+    ensures settled { settled.new ≡ 1 → IsSettled shard.old.kept_box.kept shard.new.kept_box.kept result }
     ensures thread { thread.new.kept_box.kept ≡ thread.old.kept_box.kept }
 {
-    *first_race = u64::MAX;
-    match words_of(address, bytes) {
-        Ok(words) => access_span(alloc, shard, thread, kind_of(writes), words, first_race).number(),
-        Err(status) => status.number(),
-    }
+    let answer = match words_of(address, bytes) {
+        Ok(words) => access_span(alloc, shard, thread, kind_of(writes), words),
+        Err(status) => SpanAnswer::without_race(status),
+    };
+    *first_race = answer.first_race;
+    *settled = u8::from(answer.is_settled);
+    answer.status.number()
 }
 
 /// Makes each word that has one of `bytes` bytes from an address on virgin.

@@ -1,6 +1,6 @@
 //! The handle that C has.
 ghost use Rattle.std.specs.Prelude.{◌≡◌, Some, None, IfSome, IfNone};
-ghost use Rattle.eraser_c.specs.Kinds.{kind_of};
+ghost use Rattle.eraser_c.specs.Kinds.{handle_number};
 
 use crate::kept::Kept;
 use crate::kept_box::KeptBox;
@@ -12,7 +12,7 @@ use std::alloc::Global;
 pub struct Handle {
     kind: u64,
     pub kept_box: KeptBox,
-    ghost tied: { kind ≡ kind_of kept_box.kept },
+    ghost tied: { kind ≡ handle_number kept_box.kept },
 }
 
 impl Handle {

@@ -1,9 +1,10 @@
 //! What a call does to the shard that a handle leads to.
-ghost use Rattle.std.specs.Prelude.{◌≡◌, ◌<◌, ◌≤◌, ◌^◌, ℕ, Option, Err, IfOk, IsOk};
+ghost use Rattle.std.specs.Prelude.{◌≡◌, ◌<◌, ◌≤◌, ◌^◌, true, false, None, Err, IfOk, IsOk};
 ghost use Rattle.er_event.specs.Span.{IsOutsideMemory, most_bytes, span_of_bytes};
 ghost use Rattle.eraser_c.specs.Accesses.{IsAccess, IsSpanAccess};
-ghost use Rattle.eraser_c.specs.Answers.{IsAccessed, IsReset, IsSpanAccessed, IsState, OfShard, UnlessIgnoring, address_of, race_if, race_of};
+ghost use Rattle.eraser_c.specs.Answers.{IsAccessed, IsReset, IsSettled, IsSpanFound, IsState, NamesRace, OfShard, UnlessIgnoring, address_of, race_if, race_of};
 ghost use Rattle.eraser_c.specs.Statuses.{number_of};
+ghost use Rattle.er_online.specs.Taken.{HasSameStates};
 
 use crate::handle::Handle;
 use crate::kept::Kept;
@@ -59,7 +60,7 @@ fn take(shard: &mut Shard, thread: &Thread, kind: Kind, word: Word) -> Status
     ensures { IsAccessed thread.now kind word shard.old shard.new (number_of result) }
 {
     match shard.access(thread.number, kind, word, thread.locks(kind)) {
-        Ok(is_race) => if_race(is_race),
+        Ok(noted) => if_race(noted.is_race),
         Err(why) => Status::Refused(why.refusal()),
     }
 }
@@ -71,28 +72,53 @@ fn if_race(is_race: bool) -> Status
     if is_race { Status::Race } else { Status::Quiet }
 }
 
-/// Makes an access of each word of a run by the thread that a handle leads to. `first_race` becomes the address of the first word that is a race,
-/// or the greatest number if none is.
+/// What the accesses of a run of words are answered.
+#[derive(Clone, Copy)]
+pub(crate) struct SpanAnswer {
+    pub status: Status,
+    /// The address of the first word that is a race, or the greatest number if none is.
+    pub first_race: u64,
+    /// No word's state changed. It may be false of such accesses too.
+    pub is_settled: bool,
+}
+
+impl SpanAnswer {
+    /// That of accesses that weren't made.
+    pub(crate) fn without_race(status: Status) -> SpanAnswer
+        ensures status { result.status ≡ status }
+        ensures none { result.first_race ≡ address_of None }
+        ensures unsettled { result.is_settled ≡ false }
+    {
+        SpanAnswer {
+            status,
+            first_race: u64::MAX,
+            is_settled: false,
+        }
+    }
+}
+
+/// Makes an access of each word of a run by the thread that a handle leads to.
 pub(crate) fn access_span(
     alloc: Global,
     shard: &mut Handle,
     thread: &mut Handle,
     kind: Kind,
     words: WordRange,
-    first_race: &mut u64,
-) -> Status
-    ensures answered { IsSpanAccess thread.old.kept_box.kept kind words first_race.new shard.old.kept_box.kept shard.new.kept_box.kept (number_of result) }
+) -> SpanAnswer
+    ensures answered { IsSpanAccess thread.old.kept_box.kept kind words result.first_race shard.old.kept_box.kept shard.new.kept_box.kept (number_of result.status) }
+    ensures named { NamesRace result.first_race (number_of result.status) }
+    ensures settled { result.is_settled ≡ true → IsSettled shard.old.kept_box.kept shard.new.kept_box.kept (number_of result.status) }
     ensures thread { thread.new.kept_box.kept ≡ thread.old.kept_box.kept }
 {
     let Some(kept) = replace(thread, Handle::empty(alloc)).into_box() else {
-        return Status::EmptyHandle;
+        return SpanAnswer::without_race(Status::EmptyHandle);
     };
-    let status = match &*kept {
-        Kept::Thread(thread) => span_by(alloc, shard, thread, kind, words, first_race),
-        Kept::Shard(_) => Status::WrongHandle,
+    let answer = match &*kept {
+        Kept::Thread(thread) => span_by(alloc, shard, thread, kind, words),
+        Kept::Shard(_) => SpanAnswer::without_race(Status::WrongHandle),
     };
     *thread = Handle::of(kept);
-    status
+    answer
 }
 
 fn span_by(
@@ -101,38 +127,41 @@ fn span_by(
     thread: &Thread,
     kind: Kind,
     words: WordRange,
-    first_race: &mut u64,
-) -> Status
-    ensures { UnlessIgnoring thread.now (OfShard (λ before after number. (found : Option ℕ) × ((first_race.new ≡ address_of found) × IsSpanAccessed thread.now kind words before after found number))) shard.old.kept_box.kept shard.new.kept_box.kept (number_of result) }
+) -> SpanAnswer
+    ensures answered { UnlessIgnoring thread.now (OfShard (λ before after number. IsSpanFound thread.now kind words result.first_race before after number)) shard.old.kept_box.kept shard.new.kept_box.kept (number_of result.status) }
+    ensures named { NamesRace result.first_race (number_of result.status) }
+    ensures settled { result.is_settled ≡ true → IsSettled shard.old.kept_box.kept shard.new.kept_box.kept (number_of result.status) }
 {
     if thread.held.ignoring() {
-        return Status::Ignored;
+        return SpanAnswer::without_race(Status::Ignored);
     }
     let Some(mut kept) = replace(shard, Handle::empty(alloc)).into_box() else {
-        return Status::EmptyHandle;
+        return SpanAnswer::without_race(Status::EmptyHandle);
     };
-    let status = match &mut *kept {
-        Kept::Shard(shard) => take_span(shard, thread, kind, words, first_race),
-        Kept::Thread(_) => Status::WrongHandle,
+    let answer = match &mut *kept {
+        Kept::Shard(shard) => take_span(shard, thread, kind, words),
+        Kept::Thread(_) => SpanAnswer::without_race(Status::WrongHandle),
     };
     *shard = Handle::of(kept);
-    status
+    answer
 }
 
-fn take_span(
-    shard: &mut Shard,
-    thread: &Thread,
-    kind: Kind,
-    words: WordRange,
-    first_race: &mut u64,
-) -> Status
-    ensures { (found : Option ℕ) × ((first_race.new ≡ address_of found) × IsSpanAccessed thread.now kind words shard.old shard.new found (number_of result)) }
+fn take_span(shard: &mut Shard, thread: &Thread, kind: Kind, words: WordRange) -> SpanAnswer
+    ensures answered { IsSpanFound thread.now kind words result.first_race shard.old shard.new (number_of result.status) }
+    ensures named { NamesRace result.first_race (number_of result.status) }
+    ensures settled { result.is_settled ≡ true → HasSameStates shard.old shard.new }
+    ensures quiet { result.is_settled ≡ true → result.status ≡ Status.Quiet }
 {
     let spanned = shard.access_span(thread.number, kind, words, thread.locks(kind));
-    *first_race = race_address(spanned.first_race);
-    match spanned.refused {
+    let first_race = race_address(spanned.first_race);
+    let status = match spanned.refused {
         Some(why) => Status::Refused(why.refusal()),
         None => race_status(spanned.first_race),
+    };
+    SpanAnswer {
+        status,
+        first_race,
+        is_settled: spanned.is_settled,
     }
 }
 

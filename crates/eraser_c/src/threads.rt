@@ -63,7 +63,7 @@ pub(crate) fn held(
     locks: &mut [u32],
     count: &mut usize,
 ) -> Status
-    ensures held { IsHeld thread.old.kept_box.kept locks.new count.new (number_of result) }
+    ensures held { IsHeld thread.old.kept_box.kept locks.old locks.new count.old count.new (number_of result) }
     ensures thread { thread.new.kept_box.kept ≡ thread.old.kept_box.kept }
 {
     let Some(kept) = replace(thread, Handle::empty(alloc)).into_box() else {

@@ -2,7 +2,7 @@ use Rattle.std.proofs.Common.{rules, ◌≡◌, ap, ℕ, Option, Some}
 use Rattle.er_event.specs.Span.{Span}
 use Rattle.er_event.specs.declared.steps.Kind.{Kind}
 use Rattle.eraser_c.specs.Accesses.{IsSpanAccess}
-use Rattle.eraser_c.specs.Answers.{IsSpanAccessed, OfShard, UnlessIgnoring, Calls, address_of}
+use Rattle.eraser_c.specs.Answers.{IsSpanFound, OfShard, UnlessIgnoring, Calls}
 use Rattle.eraser_c.specs.Owned.{Value}
 use Rattle.eraser_c.specs.Statuses.{number_of}
 use Rattle.eraser_c.specs.declared.kept.Kept.TheVariants.{Shard, Thread as thread_of}
@@ -13,7 +13,7 @@ use Rattle.eraser_c.proofs.shards.access_span.Goals as goal
 
 -- the handle leads to a thread
 by-thread : (v : Option Value) (t : Thread) → v ≡ Some (thread_of t) → (kind : Kind) (span : Span) (first : ℕ) (before after : Option Value) (number : ℕ)
-    → UnlessIgnoring t (OfShard (λ before after number. (found : Option ℕ) × ((first ≡ address_of found) × IsSpanAccessed t kind span before after found number))) before after number
+    → UnlessIgnoring t (OfShard (λ before after number. IsSpanFound t kind span first before after number)) before after number
     → IsSpanAccess v kind span first before after number
 by-thread v t is kind span first before after number done = rw is done
 
@@ -26,8 +26,8 @@ pub returns-clause-answered : goal.returns-clause-answered
 returns-clause-answered c = elim c.match-deref.branch [
   | in-Thread w ↦ (
       let is : c.args.thread.now.kept_box.kept ≡ Some (thread_of w.in-Thread.thread) = search rules in
-      rw (w.shard-is, w.first_race-is, w.status-is) (by-thread _ _ is _ _ _ _ _ _ w.span_by-status.ensures))
+      rw (w.shard-is, w.answer-is) (by-thread _ _ is _ _ _ _ _ _ w.span_by-answer.ensures.answered))
   | in-Shard w ↦ (
       let is : c.args.thread.now.kept_box.kept ≡ Some (Shard w.in-Shard.field-0) = search rules in
-      by-shard _ _ is _ _ _ _ _ _ (ap (λ s. s.kept_box.kept) w.shard-is) (ap number_of w.status-is))
+      by-shard _ _ is _ _ _ _ _ _ (ap (λ s. s.kept_box.kept) w.shard-is) (search rules))
 ]

@@ -27,5 +27,5 @@ pub returns-clause-settled : goal.returns-clause-settled
 returns-clause-settled c = λ same.
     let calls = c.self.inside.history.calls in let race = c.in_ok-noted.noted.is_race in
     let grown = replay-grows calls _ _ _ (Access c.args.thread c.args.kind c.args.word race) c.args.locks.now c.self.invariant c.and-self-inside.ensures
-      (access-fits calls _ c.args.thread c.args.kind c.args.word c.args.locks.now race c.self.invariant c.in_ok-noted.ensures.race) c.in_ok-noted.ensures.ok in
+    (access-fits calls _ c.args.thread c.args.kind c.args.word c.args.locks.now race c.self.invariant c.in_ok-noted.ensures.race) c.in_ok-noted.ensures.ok in
     subst (λ before. HasSameStates before c.and-self-inside.result.calls) c.self.view_is (same-states calls _ _ _ c.self.invariant grown (c.in_ok-noted.ensures.unchanged same))

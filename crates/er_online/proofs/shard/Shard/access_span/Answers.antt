@@ -25,9 +25,9 @@ loop-taken-preserved c =
     ] in
     record {
       spanned = subst (λ f. IsSpanned c.args.self.now c.access.new.self c.args.thread c.args.kind c.args.locks.now c.args.words.first (taken + 1) f)
-        (sym (c.race_found-first_race.ensures ∙ ap (λ w. found_next found w race) word))
-        (spanned-more c.args.self.now c.loop-taken.self c.access.new.self c.args.thread c.args.kind c.args.locks.now c.args.words.first taken found race c.loop-taken.invariant.spanned more);
+          (sym (c.race_found-first_race.ensures ∙ ap (λ w. found_next found w race) word))
+          (spanned-more c.args.self.now c.loop-taken.self c.access.new.self c.args.thread c.args.kind c.args.locks.now c.args.words.first taken found race c.loop-taken.invariant.spanned more);
       settled = λ yes w. c.in-Ok.ensures.settled (both yes).1 w ∙ c.loop-taken.invariant.settled (both yes).0 w;
       quiet = λ yes. c.race_found-first_race.ensures ∙ (ap (λ f. found_next f c.new-word.result race) (c.loop-taken.invariant.quiet (both yes).0)
-        ∙ ap (λ r. found_next None c.new-word.result r) (c.in-Ok.ensures.quiet (both yes).1));
+          ∙ ap (λ r. found_next None c.new-word.result r) (c.in-Ok.ensures.quiet (both yes).1));
     }
