@@ -94,7 +94,8 @@ struct eraser_race {
     const volatile void *word;     /* the first of its words that is a race; others may be too */
     bool writes;                   /* whether it writes */
     uint32_t thread;               /* the thread that made it */
-    uint32_t other;                /* which other thread last used the word, 0 if that is no longer known: a shard remembers 128 words */
+    uint32_t other;                /* which other thread last used the word, 0 if that is no longer known: a shard remembers 128 words. A use that was
+                                    * the same as one of that thread before, and changed nothing, doesn't count */
     size_t lock_count;             /* how many locks the thread holds now .. */
     const volatile void *const *locks; /* .. which ones, the oldest first .. */
     const bool *lock_writes;       /* .. and whether each is held to write */
@@ -184,8 +185,11 @@ uint32_t eraser_held(eraser_thread *thread, uint32_t *locks, size_t room, size_t
 /* An access of the word that has this byte. */
 uint32_t eraser_access(eraser_shard *shard, eraser_thread *thread, uint64_t address, bool writes) ERASER_NONNULL;
 /* An access of each word that has one of these bytes, in order. If one is a race, first_race is the address of the first such word, else UINT64_MAX. If it is
- * refused for lack of memory or by a full table, the words before the refused one are noted. */
-uint32_t eraser_access_span(eraser_shard *shard, eraser_thread *thread, uint64_t address, uint64_t bytes, bool writes, uint64_t *first_race) ERASER_NONNULL;
+ * refused for lack of memory or by a full table, the words before the refused one are noted.
+ * settled is 1 only if the access was counted and quiet, and left each word's state as it was; else 0. Then the same access, by the same thread with the same
+ * locks, may be left out as long as no call has changed these words' states: it would be quiet and change nothing. */
+uint32_t eraser_access_span(eraser_shard *shard, eraser_thread *thread, uint64_t address, uint64_t bytes, bool writes, uint64_t *first_race,
+    uint8_t *settled) ERASER_NONNULL;
 /* Each word that has one of these bytes is virgin again. */
 uint32_t eraser_reset(eraser_shard *shard, uint64_t address, uint64_t bytes) ERASER_NONNULL;
 /* ERASER_VIRGIN to ERASER_SHARED_MODIFIED. */

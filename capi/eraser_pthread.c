@@ -3,6 +3,7 @@
  * - each word is in one shard, that of its page, and a shard's handle is only used under its lock (`take`, `leave`)
  * - a thread's handle is only used by its thread, for one call at a time (`enter`, `end`)
  * - each lock has a number of its own while it lives (`number_of`)
+ * - an access that is answered without its shard is one that the shard would leave all as it is at (`is_settled`)
  *
  * Locks of this file are taken in one order: `starts`, a detector's `crowd`, its locks' tables, its shards, in the order in which they stand. Only
  * `before_fork` takes several. No call of the program's is made under one of them. */
@@ -53,6 +54,7 @@ static inline void leave(spin *lock)
 /* ---- What a detector has ---- */
 
 enum { PAGE = 4096, NOTES = 128, HELD = 64, TABLES = 64, SHARDS = 256, MOST_SHARDS = 65536, MOST_SETS = 1048576 };
+enum { BLOCK = 256, BLOCKS = 128, GROUP = 64 }; /* words of a block, of how many blocks a thread remembers accesses, words of a part of a block */
 #define ADDRESSES (UINT64_C(1) << 48)
 
 /* Who used a word last, and who before that was another thread. 0 if nobody is known. */
@@ -66,6 +68,12 @@ struct place {
     _Alignas(128) spin lock;
     eraser_shard shard;
     struct note notes[NOTES]; /* of the word w at w % NOTES, until another word comes there */
+    _Alignas(64) atomic_uint_least64_t version; /* one more, under the lock, with each call that may have changed the state of a word */
+};
+
+/* Accesses of a block that were settled, a bit for each word: one of a kind, by a thread with these locks, while the shard had this version. */
+struct settled {
+    uint64_t block, version, locks, words[BLOCK / GROUP];
 };
 
 /* Numbers of locks by their addresses, those of one part of the addresses. Where a lock would stand, or behind that, there it is, with no gap before it. */
@@ -84,12 +92,18 @@ struct self {
     struct self *next, **link; /* link: what points to it */
     eraser_thread thread;
     uint32_t number;
-    unsigned endings, count;
+    unsigned endings, count, ignoring;
+    uint64_t locks, given; /* the number of what is held, see `number_locks`, and the last one that was given */
+    uint64_t turn; /* how far that turns the places of what is settled */
+    uint64_t rest; /* how many settled accesses aren't remembered, see `judge` */
+    uint64_t hits, misses, evictions;
     struct {
         uint32_t number, rounds;
+        uint64_t below, locks; /* the numbers of what was held before, and with this lock */
     } held[HELD];
-    const volatile void *locks[HELD]; /* of what is held, the oldest first */
+    const volatile void *addresses[HELD]; /* of what is held, the oldest first */
     bool writes[HELD];
+    struct settled settled[BLOCKS]; /* see `settled_of` */
 };
 
 struct eraser_detector {
@@ -119,6 +133,30 @@ OF_THREAD struct {
     uint64_t start;
     struct self *self;
 } mine;
+
+/* ---- What a thread holds ---- */
+
+/* 0 while accesses are ignored: no access is remembered by it. */
+enum { IGNORING = 0, NO_LOCKS = 1 };
+
+static uint64_t locks_below(const struct self *self, unsigned at)
+{
+    return at ? self->held[at - 1].locks : NO_LOCKS;
+}
+
+/* A number that what the thread held with the lock at this place has alone. A lock that comes back to where it was last gets the number that it had there. */
+static void number_lock(struct self *self, unsigned at)
+{
+    self->held[at].below = locks_below(self, at);
+    self->held[at].locks = ++self->given;
+}
+
+/* After each change of what the thread holds. The same number stands for the same locks in the same modes, and no open bracket. */
+static void number_locks(struct self *self)
+{
+    self->locks = self->ignoring ? IGNORING : locks_below(self, self->count);
+    self->turn = (self->locks - NO_LOCKS) * 41;
+}
 
 /* ---- Threads ---- */
 
@@ -156,6 +194,7 @@ static uint32_t meet(eraser_detector *e, struct self **found)
         return ERASER_OUT_OF_MEMORY;
     memset(self, 0, sizeof *self);
     self->detector = e;
+    self->locks = self->given = NO_LOCKS;
     take(&e->crowd);
     self->number = e->threads + 1;
     uint32_t status = eraser_thread_new(&self->thread, self->number);
@@ -262,6 +301,98 @@ static uint32_t note(struct place *place, uint64_t word, uint32_t thread)
     return note->before;
 }
 
+/* ---- Settled accesses ----
+ *
+ * An access that left its word's state as it was leaves it so again, and is quiet, as long as the word has that state and the access is by the same
+ * thread, of the same kind, with the same locks. (er_online proves it: a_settled_access_may_be_left_out.) A thread remembers such accesses, with the
+ * version of their shard. Each call that may change a word's state changes the version before it leaves the shard's lock. So if the version is still the
+ * remembered one when it is loaded, no state has changed between the access that is remembered and that load. The access is placed there, among the calls
+ * of the shard, where it would change nothing. Nothing is moved past it: what happened before it, in whatever thread, has published its version, and the
+ * load can't miss that; what happens after it changes the version later. Only the shard's note of who used the word last isn't renewed. */
+
+/* Where a thread remembers accesses of a kind to the words around an address. Those of a block that have another kind or other locks have other places. */
+static inline struct settled *settled_of(struct self *self, uint64_t at, bool writes)
+{
+    return &self->settled[(at / 4 / BLOCK + writes * (BLOCKS / 2) + self->turn) % BLOCKS];
+}
+
+static inline uint64_t *group_of(struct settled *known, uint64_t at)
+{
+    return &known->words[at / 4 / GROUP % (BLOCK / GROUP)];
+}
+
+/* The bits of the words that have a byte from `at` on before `end`. There are none if the words are of two groups. */
+static inline uint64_t bits_of(uint64_t at, uint64_t end)
+{
+    uint64_t first = at / 4, last = (end - 1) / 4;
+    return first / GROUP == last / GROUP ? (UINT64_MAX >> (GROUP - 1 - (last - first))) << first % GROUP : 0;
+}
+
+/* Whether an access may be left out. No byte is remembered that has no address. */
+static inline bool is_remembered(eraser_detector *e, struct self *self, uint64_t at, uint64_t size, bool writes)
+{
+    if (size - 1 >= 4 * GROUP)
+        return false;
+    struct settled *known = settled_of(self, at, writes);
+    uint64_t bits = bits_of(at, at + size);
+    bool is = known->block == at / 4 / BLOCK && known->locks == self->locks && bits && (*group_of(known, at) & bits) == bits &&
+        known->version == atomic_load_explicit(&place_of(e, at)->version, memory_order_acquire);
+    self->hits += is;
+    return is;
+}
+
+/* So it is, if it is a call by itself. Nothing else is called here, since this is what most accesses take. */
+static inline bool is_settled(eraser_detector *e, uint64_t at, uint64_t size, bool writes)
+{
+    if (!e || busy || mine.start != e->start || mine.self->rest)
+        return false;
+    busy = CALL;
+    atomic_signal_fence(memory_order_seq_cst);
+    bool is = is_remembered(e, mine.self, at, size, writes);
+    end(ERASER_QUIET);
+    return is;
+}
+
+/* To remember an access and to look for it takes a quarter of the time of one. If the words that a thread uses are too many for that, it gains nothing, and
+ * rests for 64 times as long. */
+APART static void judge(struct self *self)
+{
+    if (3 * self->hits < self->misses)
+        self->rest = 64 * self->misses;
+    self->hits = self->misses = self->evictions = 0;
+}
+
+/* Of an access that was settled at this version. */
+static inline void remember(struct self *self, uint64_t version, uint64_t at, uint64_t end, bool writes)
+{
+    if (self->rest) {
+        self->rest--;
+        return;
+    }
+    struct settled *known = settled_of(self, at, writes);
+    uint64_t block = at / 4 / BLOCK;
+    self->misses++;
+    if (known->block != block || known->version != version || known->locks != self->locks) {
+        if (known->locks && known->block != block && ++self->evictions == BLOCKS / 2)
+            judge(self);
+        *known = (struct settled){.block = block, .version = version, .locks = self->locks};
+    }
+    *group_of(known, at) |= bits_of(at, end);
+}
+
+/* Under the shard's lock. */
+static inline uint64_t version_of(struct place *place)
+{
+    return atomic_load_explicit(&place->version, memory_order_relaxed);
+}
+
+static inline void change_version(struct place *place)
+{
+    atomic_store_explicit(&place->version, version_of(place) + 1, memory_order_release);
+}
+
+/* ---- Parts of accesses ---- */
+
 /* The first race of an access: its word's address, UINT64_MAX if there is none, and the other thread. */
 struct found {
     uint64_t word;
@@ -273,16 +404,22 @@ static inline uint32_t access_part(eraser_detector *e, struct self *self, uint64
 {
     struct place *place = place_of(e, at);
     uint64_t first_race = UINT64_MAX;
+    uint8_t settled = 0;
     take(&place->lock);
-    uint32_t status = eraser_access_span(&place->shard, &self->thread, at, end - at, writes, &first_race);
+    uint32_t status = eraser_access_span(&place->shard, &self->thread, at, end - at, writes, &first_race, &settled);
     if (status != ERASER_IGNORED) {
+        if (!settled)
+            change_version(place);
         for (uint64_t word = at / 4; word <= (end - 1) / 4; word++) {
             uint32_t other = note(place, word, self->number);
             if (word * 4 == first_race && found->word == UINT64_MAX)
                 *found = (struct found){first_race, other};
         }
     }
+    uint64_t version = version_of(place);
     leave(&place->lock);
+    if (settled)
+        remember(self, version, at, end, writes);
     return status;
 }
 
@@ -293,7 +430,7 @@ APART static void report(eraser_detector *e, const struct self *self, struct era
     race.thread = self->number;
     race.other = found.other;
     race.lock_count = self->count;
-    race.locks = self->locks;
+    race.locks = self->addresses;
     race.lock_writes = self->writes;
     int error = errno, cancels;
     pthread_setcancelstate(PTHREAD_CANCEL_DISABLE, &cancels);
@@ -302,7 +439,8 @@ APART static void report(eraser_detector *e, const struct self *self, struct era
     errno = error;
 }
 
-static inline uint32_t access_bytes(eraser_detector *e, const volatile void *address, size_t size, bool writes, const void *site)
+/* An access that is to be told to the shards of its words. */
+APART static uint32_t access_bytes(eraser_detector *e, const volatile void *address, size_t size, bool writes, const void *site)
 {
     struct self *self;
     uint32_t status = enter(e, &self);
@@ -324,12 +462,12 @@ static inline uint32_t access_bytes(eraser_detector *e, const volatile void *add
 
 APART uint32_t eraser_read(eraser_detector *e, const volatile void *address, size_t size)
 {
-    return access_bytes(e, address, size, false, __builtin_return_address(0));
+    return is_settled(e, (uintptr_t)address, size, false) ? ERASER_QUIET : access_bytes(e, address, size, false, __builtin_return_address(0));
 }
 
 APART uint32_t eraser_write(eraser_detector *e, const volatile void *address, size_t size)
 {
-    return access_bytes(e, address, size, true, __builtin_return_address(0));
+    return is_settled(e, (uintptr_t)address, size, true) ? ERASER_QUIET : access_bytes(e, address, size, true, __builtin_return_address(0));
 }
 
 /* Of one page. The notes may stay: a race needs another thread after this, and then that one is the last. */
@@ -338,6 +476,7 @@ static uint32_t free_part(eraser_detector *e, uint64_t at, uint64_t end)
     struct place *place = place_of(e, at);
     take(&place->lock);
     uint32_t status = eraser_reset(&place->shard, at, end - at);
+    change_version(place);
     leave(&place->lock);
     return status;
 }
@@ -373,14 +512,24 @@ uint32_t eraser_ignore_begin(eraser_detector *e)
 {
     struct self *self;
     uint32_t status = enter(e, &self);
-    return status == ERASER_QUIET ? end(eraser_thread_ignore_on(&self->thread)) : status;
+    if (status != ERASER_QUIET)
+        return status;
+    status = eraser_thread_ignore_on(&self->thread);
+    self->ignoring += status == ERASER_QUIET;
+    number_locks(self);
+    return end(status);
 }
 
 uint32_t eraser_ignore_end(eraser_detector *e)
 {
     struct self *self;
     uint32_t status = enter(e, &self);
-    return status == ERASER_QUIET ? end(eraser_thread_ignore_off(&self->thread)) : status;
+    if (status != ERASER_QUIET)
+        return status;
+    status = eraser_thread_ignore_off(&self->thread);
+    self->ignoring -= status == ERASER_QUIET;
+    number_locks(self);
+    return end(status);
 }
 
 /* ---- Locks ---- */
@@ -513,7 +662,7 @@ static unsigned place_held(const struct self *self, const volatile void *lock)
 {
     unsigned at = self->count;
     for (unsigned other = 0; other < self->count; other++)
-        if (self->locks[other] == lock)
+        if (self->addresses[other] == lock)
             at = other;
     return at;
 }
@@ -539,11 +688,15 @@ uint32_t eraser_locked(eraser_detector *e, const volatile void *lock, bool write
     if (status == ERASER_QUIET)
         status = eraser_acquire(&self->thread, number, writes);
     if (status == ERASER_QUIET) {
+        bool was_here = self->held[at].number == number && self->writes[at] == writes && self->held[at].below == locks_below(self, at);
         self->held[at].number = number;
         self->held[at].rounds = 1;
-        self->locks[at] = lock;
+        self->addresses[at] = lock;
         self->writes[at] = writes;
+        if (!was_here)
+            number_lock(self, at);
         self->count++;
+        number_locks(self);
     }
     return end(status);
 }
@@ -566,9 +719,11 @@ uint32_t eraser_unlocking(eraser_detector *e, const volatile void *lock)
         self->count--;
         for (; at < self->count; at++) {
             self->held[at] = self->held[at + 1];
-            self->locks[at] = self->locks[at + 1];
+            self->addresses[at] = self->addresses[at + 1];
             self->writes[at] = self->writes[at + 1];
+            number_lock(self, at);
         }
+        number_locks(self);
     }
     return end(status);
 }

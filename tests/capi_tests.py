@@ -1,8 +1,9 @@
 #!/usr/bin/env python3
 """The library for C: the proved calls and the layer over POSIX threads, called by programs in C, C++ and Rust.
 
-- 1,000 random lists of calls, by the proved calls and by the layer: each answer is that of tests/reference.py. With each allocation of some of them refused in
-  turn, the answers are the same once a refused call is made again
+- 1,000 random lists of calls, by the proved calls and by the layer: each answer is that of tests/reference.py, and so is which accesses leave all as it was.
+  With each allocation of some of them refused in turn, the answers are the same once a refused call is made again
+- what a thread remembers of its accesses: the layer finds what it has to, and doesn't if one of some bugs is planted in it
 - the programs of tests/capi, plain and with AddressSanitizer, UndefinedBehaviorSanitizer and ThreadSanitizer: many threads, wrong handles, lives of locks,
   threads and detectors, signal handlers, forks
 - the headers have no warning in C11 and in C++17, by gcc and clang, and the statuses in Rust are the header's
@@ -35,6 +36,7 @@ REFUSED_LISTS = 4
 WARNINGS = ["-Wall", "-Wextra", "-Wpedantic", "-Werror"]
 COMPILERS = {"c": ("gcc", "clang"), "c++": ("g++", "clang++")}
 PATIENCE = 600
+AFTER = re.compile(r"after (\S+) holding")
 LIMIT = 2**48
 LEVEL_LOCKS = 4294967264
 
@@ -47,11 +49,12 @@ def command(words, **more):
     return subprocess.run([str(word) for word in words], capture_output=True, text=True, timeout=PATIENCE, **more)
 
 
-def build(folder, name, *flags):
+def build(folder, name, *flags, layer=CAPI / "eraser_pthread.c"):
     """A program of tests/capi with the layer's sources, by gcc with these flags."""
     target = folder / f"{name}{''.join(flags).replace('=', '-')}"
-    sources = [SOURCES / f"{name}.c", CAPI / "eraser_pthread.c", CAPI / "eraser_memory.c"]
-    done = command(["gcc", "-std=c11", "-D_GNU_SOURCE", "-g", "-O1", *WARNINGS, *flags, f"-I{CAPI}", *sources, archive(), "-o", target, "-pthread"])
+    flags = [*WARNINGS, *flags, *LINKED.get(name, [])]
+    sources = [SOURCES / f"{name}.c", layer, CAPI / "eraser_memory.c"]
+    done = command(["gcc", "-std=c11", "-D_GNU_SOURCE", "-g", "-O1", *flags, f"-I{CAPI}", *sources, archive(), "-o", target, "-pthread"])
     return target, done
 
 
@@ -64,8 +67,8 @@ class Expected:
     def __init__(self, of_layer):
         self.run, self.of_layer = reference.Replay([]), of_layer
         self.rounds = {}
-        # Who used a word last, by the shard's slot, as the layer remembers it.
-        self.notes, self.held_order = {}, {}
+        # The threads that used a word since it was freed, and the words of each slot of a shard, in which the layer remembers a word's last users.
+        self.users, self.slots = {}, {}
 
     def step(self, thread, verb, *operands):
         """What the reference says of one step: a refusal, `race`, a state, or nothing."""
@@ -114,36 +117,42 @@ class Expected:
             return "quiet", None
         if self.is_ignoring(thread):
             return "ignored", None
-        first, other = None, None
-        for word in range(address // 4, (address + size - 1) // 4 + 1):
+        first, others = None, None
+        words = range(address // 4, (address + size - 1) // 4 + 1)
+        before = [self.state(word) for word in words]
+        for word in words:
             is_race = self.step(thread, b"write" if writes else b"read", 4 * word) == "race"
-            last = self.note(thread, word)
+            known = self.others(thread, word)
             if is_race and first is None:
-                first, other = 4 * word, last
-        return ("quiet" if first is None else f"race 0x{first:x}"), other
+                first, others = 4 * word, known
+        is_settled = not self.of_layer and before == [self.state(word) for word in words]
+        return (f"race 0x{first:x}" if first is not None else "quiet settled" if is_settled else "quiet"), others
 
-    def slot(self, word):
-        return word // 1024 % 4, word % 128
+    def state(self, word):
+        of = self.run.words.get(word)
+        if not of or not of.accesses:
+            return None
+        return of.accesses[0][0] if of.joining() is None else (of.written(), frozenset(of.candidates()))
 
-    def note(self, thread, word):
-        kept, last, before = self.notes.get(self.slot(word), (None, None, None))
-        if kept != word:
-            last, before = thread, None
-        elif last != thread:
-            last, before = thread, last
-        self.notes[self.slot(word)] = (word, last, before)
-        return before
+    def others(self, thread, word):
+        """Which other threads may be told to have used the word before: 4 if that may be unknown."""
+        users = self.users.setdefault(word, set())
+        known = users - {thread}
+        users.add(thread)
+        slot = self.slots.setdefault((word // 1024 % 4, word % 128), set())
+        slot.add(word)
+        return sorted(known | ({4} if len(slot) > 1 or not known else set()))
 
     def free(self, thread, address, size):
         if address >= LIMIT or address + size > LIMIT:
             return "address out of range"
         self.step(thread, b"reuse", address, size)
         words = range(address // 4, (address + size - 1) // 4 + 1) if size else ()
-        self.notes = {slot: note for slot, note in self.notes.items() if note[0] not in words}
+        self.users = {word: users for word, users in self.users.items() if word not in words}
         return "quiet"
 
     def answer(self, thread, verb, first, second):
-        other = None
+        others = None
         if verb == "lock":
             found = self.lock(thread, first, second)
         elif verb == "unlock":
@@ -158,15 +167,15 @@ class Expected:
             found = "address out of range" if first >= LIMIT else self.step(thread, b"show", first)
         elif verb.startswith("one-"):
             # This call has no place for the word, which the caller knows.
-            found = self.access(thread, first, 1, verb == "one-write")[0].split(" 0x")[0]
+            found = self.access(thread, first, 1, verb == "one-write")[0].removesuffix(" settled").split(" 0x")[0]
         else:
-            found, other = self.access(thread, first, second, verb == "write")
+            found, others = self.access(thread, first, second, verb == "write")
         held = self.held(thread)
         if not self.of_layer:
             return found + " holding" + "".join(f" {lock}" for lock in sorted(int(lock[1:]) for lock in held))
         if found.startswith("race"):
             locks = "".join(f" {lock.decode()[1:]}{'' if mode == b'lock' else 'r'}" for lock, mode in held.items())
-            return f"{found} after {4 if other is None else other} holding{locks}"
+            return f"{found} after {'|'.join(map(str, others))} holding{locks}"
         return found
 
 
@@ -178,10 +187,12 @@ def random_calls(seed, of_layer):
     longer = [4096, 9000] if of_layer and seed % 40 == 0 else []
     verbs = ["lock", "unlock", "read", "write", "free", "look", "ignore-on", "ignore-off"] + ([] if of_layer else ["level", "one-read", "one-write"])
     weights = [12 if locks < 70 else 30, 9, 14, 14, 1, 5, 1, 2] + ([] if of_layer else [3, 6, 6])
-    calls = []
+    calls, last = [], {}
     for _ in range(dice.randrange(20, 160)):
         thread, verb = dice.randrange(4), dice.choices(verbs, weights)[0]
-        if verb in ("lock", "unlock"):
+        if thread in last and dice.randrange(4) == 0:
+            calls.append(last[thread])
+        elif verb in ("lock", "unlock"):
             lock = dice.randrange(locks)
             if not of_layer and dice.randrange(40) == 0:
                 lock = dice.choice([LEVEL_LOCKS, LEVEL_LOCKS + 1, 2**32 - 1])
@@ -193,6 +204,8 @@ def random_calls(seed, of_layer):
             sizes = [1, 4, 4, 4, 8, 16, 3, 0] + longer
             size = dice.choice(sizes)
             calls.append((thread, verb, address, size if verb != "free" or of_layer else min(size, 8192 - address if address < 8192 else 4)))
+            if verb != "free":
+                last[thread] = calls[-1]
         else:
             calls.append((thread, verb, dice.choice([4096, 4098, 4100, 8188, 8192, 20480, LIMIT - 1, LIMIT]), 0))
     return calls
@@ -207,6 +220,16 @@ def texts(of_layer, seeds):
     for seed in seeds:
         calls = random_calls(seed, of_layer)
         yield seed, "".join(" ".join(map(str, call)) + "\n" for call in calls), answers(calls, of_layer)
+
+
+def told(found, wanted):
+    """What was printed, with the threads that may be told after a race in place of one of them."""
+    lines = found.splitlines()
+    for at, (line, other) in enumerate(zip(lines, wanted.splitlines())):
+        one, several = AFTER.search(line), AFTER.search(other)
+        if one and several and one[1] in several[1].split("|"):
+            lines[at] = line.replace(one[0], several[0])
+    return "".join(line + "\n" for line in lines)
 
 
 def differing(found, wanted):
@@ -226,8 +249,9 @@ def random_lists(record, driver, of_layer):
         lists = list(texts(of_layer, range(LISTS)))
         for (seed, _, wanted), found in zip(lists, pool.map(run, [text for _, text, _ in lists])):
             races += wanted.count("race")
-            is_right = (found.returncode, found.stdout, found.stderr) == (0, wanted, "")
-            record(f"capi: random list {seed} by the {name}", is_right, f"{found.returncode} {found.stderr} {differing(found.stdout, wanted)}")
+            answered = told(found.stdout, wanted)
+            is_right = (found.returncode, answered, found.stderr) == (0, wanted, "")
+            record(f"capi: random list {seed} by the {name}", is_right, f"{found.returncode} {found.stderr} {differing(answered, wanted)}")
     record(f"capi: the random lists by the {name} have races", races > LISTS, f"{races}")
 
 
@@ -242,7 +266,8 @@ def refused_lists(record, folder, driver, of_layer):
         refused = 0
         for nth, found, has_refused in each_refused(library, folder, lambda env: command([driver], input=text, env=env)):
             refused += has_refused
-            is_right, how = (found.returncode, found.stdout, found.stderr) == (0, wanted, ""), differing(found.stdout, wanted)
+            answered = told(found.stdout, wanted)
+            is_right, how = (found.returncode, answered, found.stderr) == (0, wanted, ""), differing(answered, wanted)
             record(f"capi: list {seed} by the {name} with allocation {nth} refused", is_right, f"{found.returncode} {found.stderr} {how}")
         record(f"capi: list {seed} by the {name} has allocations", refused > 5, f"{refused}")
 
@@ -250,7 +275,15 @@ def refused_lists(record, folder, driver, of_layer):
 # ---- programs
 
 # Each with its words, and with those under ThreadSanitizer.
-PROGRAMS = {"handles": ([], []), "lives": ([], []), "breaks": ([], ["apart"]), "threads": (["64", "1500"], ["8", "1500"])}
+PROGRAMS = {
+    "handles": ([], []),
+    "lives": ([], []),
+    "breaks": ([], ["apart"]),
+    "threads": (["64", "1500"], ["8", "1500"]),
+    "settled": (["16", "20"], ["4", "5"]),
+}
+# What a program is linked with besides.
+LINKED = {"settled": ["-Wl,--wrap=eraser_access_span"]}
 BUILDS = {
     "plain": ["-O2"],
     "AddressSanitizer and UndefinedBehaviorSanitizer": ["-fsanitize=address,undefined", "-fno-sanitize-recover=all"],
@@ -270,6 +303,55 @@ def programs(record, folder):
         for (name, kind), (built, found) in zip(asked, pool.map(run, asked)):
             record(f"capi: {name} ({kind}) is built", built.returncode == 0 and built.stderr == "", f"{built}")
             record(f"capi: {name} ({kind})", found and (found.returncode, found.stdout, found.stderr) == (0, "fine\n", ""), f"{found}"[:3000])
+
+
+# Bugs of what a thread remembers, each as the text that it takes the place of.
+PLANTED = {
+    "a reset keeps the version": ("    change_version(place);\n    leave", "    leave"),
+    "an access keeps the version": ("        if (!settled)\n            change_version(place);\n", ""),
+    "a version isn't compared": (" &&\n        known->version == atomic_load_explicit(&place_of(e, at)->version, memory_order_acquire)", ""),
+    "a release is forgotten": ("        number_locks(self);\n    }\n    return end(status);\n}\n\n/* ---- Forks", "    }\n    return end(status);\n}\n\n/* ---- Forks"),
+    "an acquire is forgotten": ("        self->count++;\n        number_locks(self);", "        self->count++;"),
+    "the older lock's release is one of the younger": ("            number_lock(self, at);\n        }\n        number_locks", "        }\n        number_locks"),
+    "modes are one": (" && self->writes[at] == writes && self->held", " && self->held"),
+    "locks are one": ("self->held[at].number == number && self->writes", "self->held[at].number != UINT32_MAX && self->writes"),
+    "what was held below is forgotten": (" && self->held[at].below == locks_below(self, at);", " && self->held[at].below;"),
+    "an ignore bracket is forgotten": ("self->ignoring ? IGNORING : locks_below", "locks_below"),
+    "an inner end is the end of ignoring": ("self->ignoring -= status == ERASER_QUIET", "self->ignoring *= status != ERASER_QUIET"),
+    "kinds are one": (" + writes * (BLOCKS / 2)", " + 0 * writes"),
+    "blocks are one": ("known->block == at / 4 / BLOCK && ", ""),
+    "locks aren't compared": ("known->locks == self->locks && ", ""),
+    "a first word stands for all": ("(*group_of(known, at) & bits) == bits", "(*group_of(known, at) & bits)"),
+    "groups are one": ("known->words[at / 4 / GROUP % (BLOCK / GROUP)]", "known->words[at * 0]"),
+    "two groups are one": ("first / GROUP == last / GROUP ? (", "last - first < GROUP ? ("),
+    "a new version isn't remembered": ("known->block != block || known->version != version ||", "known->block != block ||"),
+    "bits of older versions stay": (
+        "        *known = (struct settled){",
+        "        if (known->block == block && known->locks == self->locks)\n            known->version = version;\n        else\n            *known = (struct settled){",
+    ),
+    "it never rests": ("        self->rest = 64 * self->misses;", "        self->rest = 0;"),
+    "it rests for ever": ("        self->rest--;\n", ""),
+    "nothing is remembered": ("    *group_of(known, at) |= bits_of(at, end);\n", ""),
+}
+
+
+def planted(record, folder):
+    """The program `settled` finds each of these."""
+    text = (CAPI / "eraser_pthread.c").read_text()
+
+    def run(asked):
+        at, (old, new) = asked
+        place = folder / f"planted{at}"
+        place.mkdir()
+        layer = place / "eraser_pthread.c"
+        layer.write_text(text.replace(old, new))
+        target, built = build(place, "settled", "-Wno-unused", layer=layer)
+        return built, text.count(old), command([target, "2", "2"]) if built.returncode == 0 else None
+
+    with concurrent.futures.ThreadPoolExecutor(2) as pool:
+        for name, (built, times, found) in zip(PLANTED, pool.map(run, enumerate(PLANTED.values()))):
+            record(f"capi: planted: {name}: is built", times == 1 and built.returncode == 0, f"{times} {built}")
+            record(f"capi: planted: {name}", found and found.returncode == 1 and found.stdout.startswith("wrong: "), f"{found}"[:3000])
 
 
 def headers(record, folder):
@@ -374,6 +456,7 @@ def tests(record):
                 random_lists(record, driver, of_layer)
                 refused_lists(record, folder, driver, of_layer)
         programs(record, folder)
+        planted(record, folder)
         printed_place(record, folder)
         library(record, folder)
         return document(record, folder)

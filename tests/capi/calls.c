@@ -27,15 +27,18 @@ static void print_held(eraser_thread *thread)
             printf(" %u", (unsigned)locks[at]);
 }
 
-/* A span goes to the shards of its pages, as a program's would. */
-static uint32_t span(eraser_thread *thread, uint64_t address, uint64_t size, bool writes, uint64_t *first_race)
+/* A span goes to the shards of its pages, as a program's would. `settled` becomes 1 if each part is. */
+static uint32_t span(eraser_thread *thread, uint64_t address, uint64_t size, bool writes, uint64_t *first_race, uint8_t *settled)
 {
     uint32_t status = ERASER_QUIET;
     if (address >> 48 || size > (UINT64_C(1) << 48) - address)
-        return eraser_access_span(shard_of(address), thread, address, size, writes, first_race);
+        return eraser_access_span(shard_of(address), thread, address, size, writes, first_race, settled);
+    *settled = size > 0;
     for (uint64_t at = address, end = address + size; at < end;) {
         uint64_t page_end = (at | 4095) + 1, part = page_end < end ? page_end : end, found = UINT64_MAX;
-        uint32_t answer = eraser_access_span(shard_of(at), thread, at, part - at, writes, &found);
+        uint8_t part_settled;
+        uint32_t answer = eraser_access_span(shard_of(at), thread, at, part - at, writes, &found, &part_settled);
+        *settled &= part_settled;
         if (found != UINT64_MAX && *first_race == UINT64_MAX)
             *first_race = found;
         if (answer > ERASER_IGNORED)
@@ -67,6 +70,7 @@ int main(void)
         eraser_thread *thread = &threads[at];
         uint64_t race = UINT64_MAX;
         uint32_t status;
+        uint8_t settled = 0;
         do {
             if (strcmp(verb, "lock") == 0)
                 status = eraser_acquire(thread, (uint32_t)first, second);
@@ -81,7 +85,7 @@ int main(void)
             else if (strcmp(verb, "one-read") == 0 || strcmp(verb, "one-write") == 0)
                 status = eraser_access(shard_of(first), thread, first, verb[4] == 'w');
             else if (strcmp(verb, "read") == 0 || strcmp(verb, "write") == 0)
-                status = span(thread, first, second, verb[0] == 'w', &race);
+                status = span(thread, first, second, verb[0] == 'w', &race, &settled);
             else if (strcmp(verb, "free") == 0)
                 status = eraser_reset(shard_of(first), first, second);
             else if (strcmp(verb, "look") == 0)
@@ -92,7 +96,7 @@ int main(void)
         if (race != UINT64_MAX)
             printf("race 0x%llx", (unsigned long long)race);
         else
-            printf("%s", eraser_text(status));
+            printf("%s%s", eraser_text(status), settled ? " settled" : "");
         print_held(thread);
         printf("\n");
     }

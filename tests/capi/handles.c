@@ -1,12 +1,13 @@
 /* Empty, wrong and freed handles, and what each proved call refuses. */
 #include "checks.h"
 
-/* The status of a run without a race, which `first_race` always says. */
+/* The status of a run without a race, which `first_race` always says. `settled` is always written, and a run that isn't quiet isn't settled. */
 static uint32_t quiet_span(eraser_shard *shard, eraser_thread *thread, uint64_t address, uint64_t bytes)
 {
     uint64_t race = 5;
-    uint32_t status = eraser_access_span(shard, thread, address, bytes, true, &race);
-    CHECK(race == UINT64_MAX);
+    uint8_t settled = 6;
+    uint32_t status = eraser_access_span(shard, thread, address, bytes, true, &race, &settled);
+    CHECK(race == UINT64_MAX && (settled == 0 || (settled == 1 && status == ERASER_QUIET && bytes > 0)));
     return status;
 }
 
@@ -16,6 +17,7 @@ static void check_full(uint32_t most)
     eraser_shard shard = {0, NULL};
     eraser_thread first = {0, NULL}, second = {0, NULL};
     uint64_t race;
+    uint8_t settled;
     CHECK(eraser_shard_new(&shard, most) == ERASER_QUIET);
     CHECK(eraser_thread_new(&first, 1) == ERASER_QUIET && eraser_thread_new(&second, 2) == ERASER_QUIET);
     for (uint32_t lock = 0; lock < most + 2; lock++) {
@@ -25,7 +27,8 @@ static void check_full(uint32_t most)
         CHECK(eraser_access(&shard, &second, at, true) == (is_kept ? ERASER_QUIET : ERASER_TABLE_FULL));
         CHECK(eraser_state(&shard, at) == (is_kept ? ERASER_SHARED_MODIFIED : ERASER_EXCLUSIVE));
         race = 7;
-        CHECK(eraser_access_span(&shard, &second, at, 4, true, &race) == (is_kept ? ERASER_QUIET : ERASER_TABLE_FULL) && race == UINT64_MAX);
+        CHECK(eraser_access_span(&shard, &second, at, 4, true, &race, &settled) == (is_kept ? ERASER_QUIET : ERASER_TABLE_FULL) && race == UINT64_MAX);
+        CHECK(settled == is_kept);
         CHECK(eraser_state(&shard, at) == (is_kept ? ERASER_SHARED_MODIFIED : ERASER_EXCLUSIVE));
         CHECK(eraser_access(&shard, &first, at, true) == (is_kept ? ERASER_RACE : ERASER_QUIET) && eraser_release(&second, lock, true) == ERASER_QUIET);
     }
@@ -54,6 +57,7 @@ int main(void)
     uint32_t held[2];
     size_t count = 0;
     uint64_t race;
+    uint8_t settled;
     memset(&shard, 0, sizeof shard);
     memset(&thread, 0, sizeof thread);
     _Static_assert(sizeof shard == 16 && sizeof thread == 16, "a handle has 16 bytes");
@@ -128,7 +132,7 @@ int main(void)
     CHECK(quiet_span(&shard, &thread, 8195, 6) == ERASER_QUIET);
     CHECK(eraser_state(&shard, 8192) == ERASER_EXCLUSIVE && eraser_state(&shard, 8203) == ERASER_EXCLUSIVE && eraser_state(&shard, 8204) == ERASER_VIRGIN);
     CHECK(eraser_access(&shard, &second, 8196, false) == ERASER_QUIET && eraser_state(&shard, 8196) == ERASER_SHARED);
-    CHECK(eraser_access_span(&shard, &second, 8192, 4096, true, &race) == ERASER_RACE && race == 8192);
+    CHECK(eraser_access_span(&shard, &second, 8192, 4096, true, &race, &settled) == ERASER_RACE && race == 8192 && settled == 0);
     CHECK(quiet_span(&shard, &second, 8192, 4096) == ERASER_QUIET);
 
     /* A handle that is filled again is new; one that is freed is empty, however often. */
