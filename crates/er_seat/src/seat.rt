@@ -19,10 +19,10 @@ use er_event::{
 };
 use er_held::Held;
 use er_journal::{BriefReply, Call, HeldLocks, Stamp, What};
-use er_shard::{Shard, in_brief};
+use er_shard::{ShardIn, in_brief};
+use er_table::{Grow, Store};
 use std::alloc::{AllocError, Global};
 use std::marker::Model;
-use std::sync::Wait;
 
 /// A seat that no thread has taken: a detector's name, with room for the first call. Contracts see the name.
 #[derive(Drop)]
@@ -246,10 +246,10 @@ impl Seat {
     /// Makes an access outside any bracket in a shard, under a ticket, and lists it. Refused if there is no memory for the list and the stamp
     /// (`OutOfMemory`), and then if the shard refuses it.
     #[tactic(auto, unfolding(crate::specs::Seats::with_call, crate::specs::Seats::access_stamp))]
-    pub fn record_access<R: Wait>(
+    pub fn record_access<R, S: Grow<R>>(
         &mut self,
         rt: &R,
-        shard: &mut Shard,
+        shard: &mut ShardIn<S>,
         ticket: u64,
         word: Word,
         kind: Kind,
@@ -278,7 +278,12 @@ impl Seat {
 
     /// Makes one page part of a reuse in a shard, under a ticket, and lists it. Refused if there is no memory for the list (`OutOfMemory`), and then
     /// if the shard refuses it.
-    pub fn reuse(&mut self, shard: &mut Shard, ticket: u64, range: PageRange) -> Result<(), NoRoom>
+    pub fn reuse<S: Store>(
+        &mut self,
+        shard: &mut ShardIn<S>,
+        ticket: u64,
+        range: PageRange,
+    ) -> Result<(), NoRoom>
         ensures call { OnOk result (self.new ≡ with_call self.old (ticketed (Event.Reuse range) ticket Reply.Done)) }
         ensures entry { OnOk result (shard.new ≡ with_entry shard.old (entry_of ticket self.old.thread (What.Reset range) Reply.Done)) }
         ensures err { OnErr result (self.new ≡ self.old) }

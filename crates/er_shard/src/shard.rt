@@ -1,31 +1,38 @@
 //! A shard: its words, and the journal of which they are the replay.
-ghost use Rattle.std.specs.Prelude.{◌≡◌, ◌≤◌, ◌<◌, ◌⊎◌, ◌+◌, [], Bool, length, IsTrue, IfOk, IsErrOf, OnOk, OnErr, vec_capacity};
+ghost use Rattle.std.specs.Prelude.{ℕ, ◌≡◌, ◌≤◌, ◌<◌, ◌⊎◌, ◌+◌, [], Bool, length, IsTrue, IfOk, IsErrOf, OnOk, OnErr, vec_capacity};
+ghost use Rattle.er_event.specs.declared.steps.WordState.TheVariants.{Virgin};
 ghost use Rattle.er_journal.specs.Journals.{IsLegalJournal, journal_state, notes_of, mark_of_what};
 ghost use Rattle.er_model.specs.Parts.{FitsEnd};
 ghost use Rattle.er_shadow.specs.Replies.{reply_if};
-ghost use Rattle.er_shadow.specs.Shadows.{needs_set};
+ghost use Rattle.er_shadow.specs.Shadows.{needs_set, states};
 ghost use Rattle.er_shard.specs.Journaled.{entry_of};
+ghost use Rattle.er_table.specs.Sets.{most_sets};
 
 use er_event::{NoRoom, PageRange, Reply, ThreadId, Word, WordState};
 use er_journal::{BriefReply, Entry, Stamp, What};
-use er_shadow::ShadowMap;
-use er_table::LocksetTable;
+use er_shadow::{OwnWords, ShadowMap, Words};
+use er_table::{Grow, LocksetTable, Owned, Shared, Store};
 use std::alloc::{AllocError, Global};
 use std::marker::Model;
-use std::sync::Wait;
 
 /// Some of memory's words, and the journal of what was done to them. Contracts see the journal, with the shard's name, number and limit: the words'
 /// states are those that the journal gives.
 #[derive(Drop)]
-pub struct Shard<'t> {
-    words: ShadowMap<'t>,
+pub struct ShardIn<S: Store> {
+    words: Words<S>,
     journal: Vec<Entry>,
     name: u64,
     number: u32,
     limit: u32,
 }
 
-impl<'t> Model for Shard<'t> {
+/// A shard whose words share their sets of locks by a table, which may make it wait.
+pub type Shard<'t> = ShardIn<Shared<'t>>;
+
+/// A shard whose words have their sets of locks for themselves. It waits for nobody.
+pub type OwnShard = ShardIn<Owned>;
+
+impl<S: Store> Model for ShardIn<S> {
     ghost use Rattle.er_shard.specs.Journaled.{Journaled, IsReplayOf};
 
     ghost Value = { Journaled };
@@ -35,9 +42,7 @@ impl<'t> Model for Shard<'t> {
     ghost invariant = { λ s. IsReplayOf s.journal.items s.limit s.words };
 }
 
-impl<'t> Shard<'t> {
-    ghost use Rattle.er_shard.specs.Journaled.{AreStamped, with_entry};
-
+impl<'t> ShardIn<Shared<'t>> {
     /// A shard with an empty journal that takes `limit` entries. `name` is its detector's, and `number` its place there. The sets of locks that its
     /// words need go into the table. The only error is that there is no memory.
     pub fn new(
@@ -49,13 +54,41 @@ impl<'t> Shard<'t> {
     ) -> Result<Shard<'t>, AllocError>
         ensures { IfOk result (λ shard. shard ≡ record { name = name; number = number; limit = limit; journal = [] }) }
     {
-        Ok(Shard {
-            words: ShadowMap::new(alloc, table)?,
+        Ok(ShardIn::over(alloc, ShadowMap::new(alloc, table)?, name, number, limit))
+    }
+}
+
+impl ShardIn<Owned> {
+    /// A shard with an empty journal that takes `limit` entries. Its words take `max_sets` sets of locks. The only error is that there is no memory.
+    pub fn new(
+        alloc: Global,
+        max_sets: u32,
+        name: u64,
+        number: u32,
+        limit: u32,
+    ) -> Result<OwnShard, AllocError>
+        requires few { max_sets ≤ most_sets }
+        ensures { IfOk result (λ shard. shard ≡ record { name = name; number = number; limit = limit; journal = [] }) }
+    {
+        Ok(ShardIn::over(alloc, OwnWords::new(alloc, max_sets)?, name, number, limit))
+    }
+}
+
+impl<S: Store> ShardIn<S> {
+    ghost use Rattle.er_shard.specs.Journaled.{AreStamped, with_entry};
+
+    // A shard of words that are all virgin.
+    fn over(alloc: Global, words: Words<S>, name: u64, number: u32, limit: u32) -> ShardIn<S>
+        requires virgin { (w : ℕ) → states words w ≡ Virgin }
+        ensures { result ≡ record { name = name; number = number; limit = limit; journal = [] } }
+    {
+        ShardIn {
+            words,
             journal: Vec::new(alloc),
             name,
             number,
             limit,
-        })
+        }
     }
 
     /// The name of its detector.
@@ -91,7 +124,9 @@ impl<'t> Shard<'t> {
 
     /// Takes a counted access, and returns `Race` if it is reported, else `Quiet`. Refused if the journal is full (`JournalFull`), if a set of locks
     /// finds no place in the table (`TableFull`), and if there is no memory (`OutOfMemory`).
-    pub fn apply<R: Wait>(&mut self, rt: &R, ticket: u64, stamp: Stamp) -> Result<Reply, NoRoom>
+    pub fn apply<R>(&mut self, rt: &R, ticket: u64, stamp: Stamp) -> Result<Reply, NoRoom>
+    where
+        S: Grow<R>,
         ensures entry { IfOk result (λ reply. self.new ≡ with_entry self.old (entry_of ticket stamp.thread (What.Access stamp) reply)) }
         ensures reply { IfOk result (λ reply. FitsEnd (notes_of self.old.journal) (mark_of_what (What.Access stamp)) reply) }
         ensures race_or_quiet { IfOk result (λ reply. (reply ≡ Reply.Race) ⊎ (reply ≡ Reply.Quiet)) }

@@ -3,7 +3,7 @@ use Rattle.std.proofs.Common.{◌∙◌, refl}
 use Rattle.er_journal.specs.declared.entries.What.TheVariants.{Access}
 use Rattle.er_shard.specs.Journaled.{entry_of}
 use Rattle.er_shard.proofs.Growing.{replay-grows, access-fits, race_or_quiet}
-use Rattle.er_shard.proofs.shard.Shard.apply.Goals as goal
+use Rattle.er_shard.proofs.shard.ShardIn.apply.Goals as goal
 
 pub invariant_of-self-2 : goal.invariant_of-self-2
 invariant_of-self-2 g c =
