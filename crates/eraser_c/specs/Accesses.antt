@@ -5,13 +5,15 @@ use Rattle.er_event.specs.declared.steps.Kind.{Kind}
 use Rattle.eraser_c.specs.Answers.{IsAccessed, IsSpanFound, OfShard, UnlessIgnoring}
 use Rattle.eraser_c.specs.Owned.{Value}
 use Rattle.eraser_c.specs.Statuses.{number_of}
-use Rattle.eraser_c.specs.declared.kept.Kept.TheVariants.{Shard, Thread as thread_of}
+use Rattle.eraser_c.specs.declared.kept.Kept.TheVariants.{Shard, Thread as thread_of, Journal, Seat}
 use Rattle.eraser_c.specs.declared.status.Status.TheVariants.{EmptyHandle, WrongHandle}
 
 -- an access of one word
 abbrev pub IsAccess : Option Value → Kind → ℕ → Option Value → Option Value → ℕ → Type 0
 IsAccess None kind word before after number = (after ≡ before) × (number ≡ number_of EmptyHandle)
 IsAccess (Some (Shard calls)) kind word before after number = (after ≡ before) × (number ≡ number_of WrongHandle)
+IsAccess (Some (Journal shard)) kind word before after number = (after ≡ before) × (number ≡ number_of WrongHandle)
+IsAccess (Some (Seat seat)) kind word before after number = (after ≡ before) × (number ≡ number_of WrongHandle)
 IsAccess (Some (thread_of t)) kind word before after number =
     UnlessIgnoring t (OfShard (λ before after number. IsAccessed t kind word before after number)) before after number
 
@@ -19,5 +21,7 @@ IsAccess (Some (thread_of t)) kind word before after number =
 abbrev pub IsSpanAccess : Option Value → Kind → Span → ℕ → Option Value → Option Value → ℕ → Type 0
 IsSpanAccess None kind span first before after number = (after ≡ before) × (number ≡ number_of EmptyHandle)
 IsSpanAccess (Some (Shard calls)) kind span first before after number = (after ≡ before) × (number ≡ number_of WrongHandle)
+IsSpanAccess (Some (Journal shard)) kind span first before after number = (after ≡ before) × (number ≡ number_of WrongHandle)
+IsSpanAccess (Some (Seat seat)) kind span first before after number = (after ≡ before) × (number ≡ number_of WrongHandle)
 IsSpanAccess (Some (thread_of t)) kind span first before after number =
     UnlessIgnoring t (OfShard (λ before after number. IsSpanFound t kind span first before after number)) before after number

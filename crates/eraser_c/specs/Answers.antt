@@ -1,9 +1,10 @@
 -- What the handles that a call is given become, and which number it returns.
-use Rattle.std.specs.Prelude.{ℕ, ◌≡◌, ◌<◌, ◌≤◌, ◌+◌, ◌-◌, ◌*◌, ◌^◌, ◌⊎◌, Bool, cond, List, [], ◌∷◌, ◌++◌, length, take, Option, Some, None}
+use Rattle.std.specs.Prelude.{ℕ, ◌≡◌, ◌<◌, ◌≤◌, ◌+◌, ◌-◌, ◌*◌, ◌^◌, ◌⊎◌, Bool, true, false, cond, List, [], ◌∷◌, ◌++◌, length, take, Option, Some, None}
 use Rattle.er_event.specs.Span.{Span, parts_of}
 use Rattle.er_event.specs.declared.refusals.Refusal.{Refusal}
 use Rattle.er_event.specs.declared.refusals.Refusal.TheVariants.{OutOfMemory, TableFull}
 use Rattle.er_event.specs.declared.steps.Event.{Event}
+use Rattle.er_event.specs.declared.steps.Event.TheVariants as event
 use Rattle.er_event.specs.declared.steps.Kind.{Kind}
 use Rattle.er_event.specs.declared.steps.Kind.TheVariants.{Read as reading, Write as writing}
 use Rattle.er_event.specs.declared.steps.Mode.{Mode}
@@ -17,9 +18,12 @@ use Rattle.er_model.specs.Words.{Counted}
 use Rattle.er_online.specs.Spans.{IsSpanned, resets}
 use Rattle.er_online.specs.Taken.{HasSameStates, access_of, notes_of, reply_of, state_now}
 use Rattle.er_online.specs.declared.calls.Call.{Call}
+use Rattle.er_seat.specs.Seats.{done, holdings_of, with_call}
+use Rattle.er_settle.specs.Seats.{SeatList}
+use Rattle.er_journal.specs.Journals.{IsLegalJournal, journal_state}
 use Rattle.eraser_c.specs.Owned.{Value}
 use Rattle.eraser_c.specs.Statuses.{number_of}
-use Rattle.eraser_c.specs.declared.kept.Kept.TheVariants.{Shard, Thread as thread_of}
+use Rattle.eraser_c.specs.declared.kept.Kept.TheVariants.{Shard, Thread as thread_of, Journal, Seat}
 use Rattle.eraser_c.specs.declared.status.Status.{Status}
 use Rattle.eraser_c.specs.declared.status.Status.TheVariants.{Quiet, Race, Ignored, Refused, EmptyHandle, WrongHandle, Virgin, Exclusive, Shared, SharedModified}
 use Rattle.eraser_c.specs.declared.threads.Thread.{Thread}
@@ -54,19 +58,45 @@ IsFollowedUnless None before after event number =
 abbrev pub IsFollowed : Thread → Thread → Event → ℕ → Type 0
 IsFollowed before after event number = IsFollowedUnless (refused_by before.held event) before after event number
 
--- so does the thread of a handle
+-- the event is no access, no reuse, no show and no order event
+abbrev pub changes_thread : Event → Bool
+changes_thread (event.Access kind word site) = false
+changes_thread (event.Reuse range) = false
+changes_thread (event.Show word) = false
+changes_thread (event.Sync sync) = false
+changes_thread _ = true
+
+-- what the definitions refuse isn't listed; what they accept is, unless there is no memory
+abbrev pub IsListedUnless : Option Refusal → SeatList → SeatList → Event → ℕ → Type 0
+IsListedUnless (Some why) before after event number = (after ≡ before) × (number ≡ number_of (Refused why))
+IsListedUnless None before after event number =
+    ((after ≡ with_call before (done event)) × (number ≡ number_of Quiet)) ⊎ ((after ≡ before) × (number ≡ number_of (Refused OutOfMemory)))
+
+-- a seat follows one event, and lists it
+abbrev pub IsListed : SeatList → SeatList → Event → ℕ → Type 0
+IsListed before after event number = IsListedUnless (refused_by (holdings_of before) event) before after event number
+
+-- so does the thread or the seat of a handle
 abbrev pub IsChanged : Option Value → Option Value → Event → ℕ → Type 0
 IsChanged None after event number = (after ≡ None) × (number ≡ number_of EmptyHandle)
 IsChanged (Some (Shard calls)) after event number = (after ≡ Some (Shard calls)) × (number ≡ number_of WrongHandle)
+IsChanged (Some (Journal shard)) after event number = (after ≡ Some (Journal shard)) × (number ≡ number_of WrongHandle)
+IsChanged (Some (Seat before)) after event number = (s : SeatList) × ((after ≡ Some (Seat s)) × IsListed before s event number)
 IsChanged (Some (thread_of before)) after event number =
     (t : Thread) × ((after ≡ Some (thread_of t)) × IsFollowed before t event number)
 
--- the locks that the thread of a handle holds, as far as there is room, and how many they are; without a thread both are as they were
+-- these locks, as far as there is room, and how many they are
+abbrev pub AreCopied : List ℕ → List ℕ → ℕ → ℕ → Type 0
+AreCopied held locks count number =
+    ((n : ℕ) → n ≤ length held → n ≤ length locks → take n locks ≡ take n held) × ((count ≡ length held) × (number ≡ number_of Quiet))
+
+-- the locks that the thread of a handle holds; without a thread nothing is written
 abbrev pub IsHeld : Option Value → List ℕ → List ℕ → ℕ → ℕ → ℕ → Type 0
 IsHeld None was locks counted count number = (locks ≡ was) × ((count ≡ counted) × (number ≡ number_of EmptyHandle))
 IsHeld (Some (Shard calls)) was locks counted count number = (locks ≡ was) × ((count ≡ counted) × (number ≡ number_of WrongHandle))
-IsHeld (Some (thread_of t)) was locks counted count number =
-    ((n : ℕ) → n ≤ length t.held.held → n ≤ length locks → take n locks ≡ take n t.held.held) × ((count ≡ length t.held.held) × (number ≡ number_of Quiet))
+IsHeld (Some (Journal shard)) was locks counted count number = (locks ≡ was) × ((count ≡ counted) × (number ≡ number_of WrongHandle))
+IsHeld (Some (thread_of t)) was locks counted count number = AreCopied t.held.held locks count number
+IsHeld (Some (Seat s)) was locks counted count number = AreCopied (holdings_of s).held locks count number
 
 -- race or quiet
 abbrev pub race_if : Bool → Status
@@ -128,6 +158,8 @@ pub record IsSettled (before after : Option Value) (number : ℕ) : Type 0 where
 abbrev pub OfShard : (Calls → Calls → ℕ → Type 0) → Option Value → Option Value → ℕ → Type 0
 OfShard P None after number = (after ≡ None) × (number ≡ number_of EmptyHandle)
 OfShard P (Some (thread_of t)) after number = (after ≡ Some (thread_of t)) × (number ≡ number_of WrongHandle)
+OfShard P (Some (Journal shard)) after number = (after ≡ Some (Journal shard)) × (number ≡ number_of WrongHandle)
+OfShard P (Some (Seat s)) after number = (after ≡ Some (Seat s)) × (number ≡ number_of WrongHandle)
 OfShard P (Some (Shard before)) after number = (calls : Calls) × ((after ≡ Some (Shard calls)) × P before calls number)
 
 -- accesses of a thread that ignores them change nothing
@@ -146,7 +178,20 @@ status_of (words.Exclusive t) = Exclusive
 status_of (words.Shared candidates) = Shared
 status_of (words.SharedModified candidates) = SharedModified
 
+-- this state, or there is no memory
+abbrev pub IsStatus : WordState → ℕ → Type 0
+IsStatus state number = (number ≡ number_of (status_of state)) ⊎ (number ≡ number_of (Refused OutOfMemory))
+
 -- the state that the definitions give of the list, or there is no memory; the list is as it was, and each of its answers is the definitions'
 abbrev pub IsState : ℕ → Calls → Calls → ℕ → Type 0
 IsState word before after number =
-    (after ≡ before) × (IsLegal (notes_of before) × ((number ≡ number_of (status_of (state_now before word))) ⊎ (number ≡ number_of (Refused OutOfMemory))))
+    (after ≡ before) × (IsLegal (notes_of before) × IsStatus (state_now before word) number)
+
+-- the same of a shard, with a journal or without
+abbrev pub IsStateOf : ℕ → Option Value → Option Value → ℕ → Type 0
+IsStateOf word (Some (Journal shard)) after number =
+    (after ≡ Some (Journal shard)) × (IsLegalJournal shard.journal × IsStatus (journal_state shard.journal word) number)
+IsStateOf word (Some (Shard calls)) after number = OfShard (λ before after number. IsState word before after number) (Some (Shard calls)) after number
+IsStateOf word (Some (thread_of t)) after number = (after ≡ Some (thread_of t)) × (number ≡ number_of WrongHandle)
+IsStateOf word (Some (Seat s)) after number = (after ≡ Some (Seat s)) × (number ≡ number_of WrongHandle)
+IsStateOf word None after number = (after ≡ None) × (number ≡ number_of EmptyHandle)

@@ -3,7 +3,7 @@ ghost use Rattle.std.specs.Prelude.{◌≡◌, ◌<◌, ◌≤◌, ◌^◌, ◌/
 ghost use Rattle.er_event.specs.Span.{IsOutsideMemory, most_bytes, span_of_bytes};
 ghost use Rattle.er_held.specs.Held.{nothing_held};
 ghost use Rattle.eraser_c.specs.Accesses.{IsAccess, IsSpanAccess};
-ghost use Rattle.eraser_c.specs.Answers.{IsChanged, IsHeld, IsMade, IsReset, IsSettled, IsState, NamesRace, OfShard, kind_of, mode_of};
+ghost use Rattle.eraser_c.specs.Answers.{IsChanged, IsHeld, IsMade, IsReset, IsSettled, IsStateOf, NamesRace, OfShard, kind_of, mode_of};
 ghost use Rattle.eraser_c.specs.Statuses.{number_of};
 
 use crate::handle::Handle;
@@ -203,7 +203,7 @@ pub extern "C" fn eraser_reset(alloc: Global, shard: &mut Handle, address: u64, 
 /// What is known of the word at an address. Refused (`AddressOutOfRange`) from 2^48 on.
 #[unsafe(no_mangle)]
 pub extern "C" fn eraser_state(alloc: Global, shard: &mut Handle, address: u64) -> u32
-    ensures state { address < 2 ^ 48 → OfShard (λ before after number. IsState (address / 4) before after number) shard.old.kept_box.kept shard.new.kept_box.kept result }
+    ensures state { address < 2 ^ 48 → IsStateOf (address / 4) shard.old.kept_box.kept shard.new.kept_box.kept result }
     ensures refused { 2 ^ 48 ≤ address → result ≡ number_of (Status.Refused Refusal.AddressOutOfRange) }
     ensures unchanged { 2 ^ 48 ≤ address → shard.new.kept_box.kept ≡ shard.old.kept_box.kept }
 {
@@ -213,8 +213,8 @@ pub extern "C" fn eraser_state(alloc: Global, shard: &mut Handle, address: u64) 
     }
 }
 
-// Makes the handle lead to this, if there is memory.
-fn fill(alloc: Global, handle: &mut Handle, kept: Kept) -> Status
+/// Makes the handle lead to this, if there is memory.
+pub(crate) fn fill(alloc: Global, handle: &mut Handle, kept: Kept) -> Status
     ensures { IsMade handle.old.kept_box.kept handle.new.kept_box.kept kept (number_of result) }
 {
     let Ok(made) = Box::new(alloc, kept) else {
@@ -224,7 +224,7 @@ fn fill(alloc: Global, handle: &mut Handle, kept: Kept) -> Status
     Status::Quiet
 }
 
-fn kind_of(writes: bool) -> Kind
+pub(crate) fn kind_of(writes: bool) -> Kind
     ensures { result ≡ kind_of writes }
 {
     if writes { Kind::Write } else { Kind::Read }

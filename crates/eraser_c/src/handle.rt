@@ -7,7 +7,7 @@ use crate::kept_box::KeptBox;
 use crate::raw::Raw;
 use std::alloc::Global;
 
-/// 16 bytes of C's. Zeroed it is empty. `kind` is 0 if it is empty, 1 if it leads to a shard and 2 if it leads to a thread.
+/// 16 bytes of C's. Zeroed it is empty. `kind` is 0 if it is empty, and else says what it leads to, in the order of [`Kept`].
 #[repr(C)]
 pub struct Handle {
     kind: u64,
@@ -34,6 +34,8 @@ impl Handle {
             kind: match &*kept {
                 Kept::Shard(_) => 1,
                 Kept::Thread(_) => 2,
+                Kept::Journal(_) => 3,
+                Kept::Seat(_) => 4,
             },
             kept_box: KeptBox::of(Raw::of(kept)),
         }

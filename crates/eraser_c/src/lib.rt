@@ -9,11 +9,14 @@
 //! - no call is made in a signal handler that interrupted another call or `malloc`, nor in the child of a `fork` if another thread was inside a call.
 #![tactic(auto)]
 
+mod audit;
 mod exports;
 mod handle;
+mod journals;
 mod kept;
 mod kept_box;
 mod raw;
+mod settlement;
 mod shards;
 mod status;
 mod threads;

@@ -1,8 +1,9 @@
 //! What a call does to the shard that a handle leads to.
 ghost use Rattle.std.specs.Prelude.{◌≡◌, ◌<◌, ◌≤◌, ◌^◌, true, false, None, Err, IfOk, IsOk};
 ghost use Rattle.er_event.specs.Span.{IsOutsideMemory, most_bytes, span_of_bytes};
+ghost use Rattle.er_journal.specs.Journals.{IsLegalJournal, journal_state};
 ghost use Rattle.eraser_c.specs.Accesses.{IsAccess, IsSpanAccess};
-ghost use Rattle.eraser_c.specs.Answers.{IsAccessed, IsReset, IsSettled, IsSpanFound, IsState, NamesRace, OfShard, UnlessIgnoring, address_of, race_if, race_of};
+ghost use Rattle.eraser_c.specs.Answers.{IsAccessed, IsReset, IsSettled, IsSpanFound, IsState, IsStateOf, IsStatus, NamesRace, OfShard, UnlessIgnoring, address_of, race_if, race_of, status_of};
 ghost use Rattle.eraser_c.specs.Statuses.{number_of};
 ghost use Rattle.er_online.specs.Taken.{HasSameStates};
 
@@ -12,6 +13,7 @@ use crate::status::Status;
 use crate::threads::Thread;
 use er_event::{Kind, Refusal, Word, WordRange, WordState};
 use er_online::Shard;
+use er_shard::OwnShard;
 use std::alloc::Global;
 use std::mem::replace;
 
@@ -32,6 +34,8 @@ pub(crate) fn access(
     let status = match &*kept {
         Kept::Thread(thread) => access_by(alloc, shard, thread, kind, word),
         Kept::Shard(_) => Status::WrongHandle,
+        Kept::Journal(_) => Status::WrongHandle,
+        Kept::Seat(_) => Status::WrongHandle,
     };
     *thread = Handle::of(kept);
     status
@@ -49,7 +53,7 @@ fn access_by(alloc: Global, shard: &mut Handle, thread: &Thread, kind: Kind, wor
     };
     let status = match &mut *kept {
         Kept::Shard(shard) => take(shard, thread, kind, word),
-        Kept::Thread(_) => Status::WrongHandle,
+        Kept::Thread(_) | Kept::Journal(_) | Kept::Seat(_) => Status::WrongHandle,
     };
     *shard = Handle::of(kept);
     status
@@ -116,6 +120,8 @@ pub(crate) fn access_span(
     let answer = match &*kept {
         Kept::Thread(thread) => span_by(alloc, shard, thread, kind, words),
         Kept::Shard(_) => SpanAnswer::without_race(Status::WrongHandle),
+        Kept::Journal(_) => SpanAnswer::without_race(Status::WrongHandle),
+        Kept::Seat(_) => SpanAnswer::without_race(Status::WrongHandle),
     };
     *thread = Handle::of(kept);
     answer
@@ -140,7 +146,7 @@ fn span_by(
     };
     let answer = match &mut *kept {
         Kept::Shard(shard) => take_span(shard, thread, kind, words),
-        Kept::Thread(_) => SpanAnswer::without_race(Status::WrongHandle),
+        Kept::Thread(_) | Kept::Journal(_) | Kept::Seat(_) => SpanAnswer::without_race(Status::WrongHandle),
     };
     *shard = Handle::of(kept);
     answer
@@ -195,7 +201,7 @@ pub(crate) fn reset(alloc: Global, shard: &mut Handle, words: WordRange) -> Stat
             shard.reset_span(words);
             Status::Quiet
         }
-        Kept::Thread(_) => Status::WrongHandle,
+        Kept::Thread(_) | Kept::Journal(_) | Kept::Seat(_) => Status::WrongHandle,
     };
     *shard = Handle::of(kept);
     status
@@ -203,14 +209,15 @@ pub(crate) fn reset(alloc: Global, shard: &mut Handle, words: WordRange) -> Stat
 
 /// What is known of a word.
 pub(crate) fn state(alloc: Global, shard: &mut Handle, word: Word) -> Status
-    ensures { OfShard (λ before after number. IsState word before after number) shard.old.kept_box.kept shard.new.kept_box.kept (number_of result) }
+    ensures { IsStateOf word shard.old.kept_box.kept shard.new.kept_box.kept (number_of result) }
 {
     let Some(kept) = replace(shard, Handle::empty(alloc)).into_box() else {
         return Status::EmptyHandle;
     };
     let status = match &*kept {
         Kept::Shard(shard) => state_of(shard, word),
-        Kept::Thread(_) => Status::WrongHandle,
+        Kept::Journal(shard) => journal_state_of(shard, word),
+        Kept::Thread(_) | Kept::Seat(_) => Status::WrongHandle,
     };
     *shard = Handle::of(kept);
     status
@@ -220,11 +227,30 @@ fn state_of(shard: &Shard, word: Word) -> Status
     ensures { IsState word shard.now shard.now (number_of result) }
 {
     match shard.state_of(word) {
-        Ok(WordState::Virgin) => Status::Virgin,
-        Ok(WordState::Exclusive(_)) => Status::Exclusive,
-        Ok(WordState::Shared(_)) => Status::Shared,
-        Ok(WordState::SharedModified(_)) => Status::SharedModified,
+        Ok(state) => state_status(&state),
         Err(_) => Status::Refused(Refusal::OutOfMemory),
+    }
+}
+
+fn journal_state_of(shard: &OwnShard, word: Word) -> Status
+    ensures legal { IsLegalJournal shard.now.journal }
+    ensures state { IsStatus (journal_state shard.now.journal word) (number_of result) }
+{
+    let _journal = shard.journal();
+    match shard.state_of(word) {
+        Ok(state) => state_status(&state),
+        Err(_) => Status::Refused(Refusal::OutOfMemory),
+    }
+}
+
+fn state_status(state: &WordState) -> Status
+    ensures { result ≡ status_of state.now }
+{
+    match state {
+        WordState::Virgin => Status::Virgin,
+        WordState::Exclusive(_) => Status::Exclusive,
+        WordState::Shared(_) => Status::Shared,
+        WordState::SharedModified(_) => Status::SharedModified,
     }
 }
 

@@ -17,7 +17,7 @@ pub enum Status {
     Refused(Refusal),
     /// The handle is empty.
     EmptyHandle,
-    /// A shard's handle was given for a thread's, or a thread's for a shard's.
+    /// A handle of another sort than the call takes.
     WrongHandle,
     /// No access of the word counts yet.
     Virgin,
@@ -27,6 +27,18 @@ pub enum Status {
     Shared,
     /// Several threads have accessed the word, and one has written it since the second came.
     SharedModified,
+    /// Two seats of one thread.
+    SeatTwice,
+    /// A seat that was opened isn't there.
+    SeatMissing,
+    /// The tickets of a seat or of a shard don't rise, or two entries share one.
+    Order,
+    /// A call of a seat has no entry in the shard of its words, or an entry has no call.
+    Entries,
+    /// A call and its entry don't have the same answer and the same locks.
+    Answer,
+    /// A shard is of another detector.
+    ForeignShard,
 }
 
 impl Status {
@@ -45,6 +57,12 @@ impl Status {
             Status::Exclusive => 21,
             Status::Shared => 22,
             Status::SharedModified => 23,
+            Status::SeatTwice => 24,
+            Status::SeatMissing => 25,
+            Status::Order => 26,
+            Status::Entries => 27,
+            Status::Answer => 28,
+            Status::ForeignShard => 29,
         }
     }
 }

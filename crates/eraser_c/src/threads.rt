@@ -1,14 +1,17 @@
 //! A thread, and what changes what it holds.
-ghost use Rattle.std.specs.Prelude.{◌≡◌, ◌≤◌, ℕ, length, take};
+ghost use Rattle.std.specs.Prelude.{◌≡◌, ◌≤◌, ℕ, length, take, IsTrue, IsOkUnless, OnOk, OnErr, None, Some};
 ghost use Rattle.er_model.specs.Following.{locks_for};
-ghost use Rattle.eraser_c.specs.Answers.{IsChanged, IsFollowed, IsHeld};
+ghost use Rattle.er_model.specs.Holdings.{refused_by};
+ghost use Rattle.er_seat.specs.Seats.{done, holdings_of, with_call};
+ghost use Rattle.eraser_c.specs.Answers.{IsChanged, IsFollowed, IsHeld, IsListed, changes_thread};
 ghost use Rattle.eraser_c.specs.Statuses.{number_of};
 
 use crate::handle::Handle;
 use crate::kept::Kept;
 use crate::status::Status;
-use er_event::{Event, Kind, LockId, Lockset, ThreadId};
+use er_event::{Event, Kind, LockId, Lockset, Refusal, ThreadId};
 use er_held::Held;
+use er_seat::Seat;
 use std::alloc::Global;
 use std::mem::replace;
 
@@ -41,8 +44,9 @@ impl Thread {
     }
 }
 
-/// Makes the change of one event to the thread that a handle leads to.
+/// Makes the change of one event, which is of its thread alone, to the thread or the seat that a handle leads to.
 pub(crate) fn change(alloc: Global, thread: &mut Handle, event: Event) -> Status
+    requires { IsTrue (changes_thread event) }
     ensures { IsChanged thread.old.kept_box.kept thread.new.kept_box.kept event (number_of result) }
 {
     let Some(mut kept) = replace(thread, Handle::empty(alloc)).into_box() else {
@@ -50,10 +54,41 @@ pub(crate) fn change(alloc: Global, thread: &mut Handle, event: Event) -> Status
     };
     let status = match &mut *kept {
         Kept::Thread(thread) => thread.follow(event),
-        Kept::Shard(_) => Status::WrongHandle,
+        Kept::Seat(seat) => follow_seat(seat, event),
+        Kept::Shard(_) | Kept::Journal(_) => Status::WrongHandle,
     };
     *thread = Handle::of(kept);
     status
+}
+
+// Lists the change of one event.
+fn follow_seat(seat: &mut Seat, event: Event) -> Status
+    requires { IsTrue (changes_thread event) }
+    ensures { IsListed seat.old seat.new event (number_of result) }
+{
+    match list(seat, event) {
+        Ok(()) => Status::Quiet,
+        Err(why) => Status::Refused(why),
+    }
+}
+
+// Split for the prover.
+fn list(seat: &mut Seat, event: Event) -> Result<(), Refusal>
+    requires { IsTrue (changes_thread event) }
+    ensures refused { (why : Refusal) → refused_by (holdings_of seat.old) event ≡ Some why → result ≡ Err why }
+    ensures accepted { OnOk result (refused_by (holdings_of seat.old) event ≡ None) }
+    ensures ok { OnOk result (seat.new ≡ with_call seat.old (done event)) }
+    ensures err { OnErr result (seat.new ≡ seat.old) }
+    ensures memory { refused_by (holdings_of seat.old) event ≡ None → IsOkUnless result Refusal.OutOfMemory }
+{
+    match event {
+        Event::Acquire(lock, mode) => seat.acquire(lock, mode),
+        Event::Release(lock, mode) => seat.release(lock, mode),
+        Event::IgnoreOn => seat.ignore_on(),
+        Event::IgnoreOff => seat.ignore_off(),
+        Event::Level(level) => seat.set_level(level),
+        Event::Access(..) | Event::Reuse(_) | Event::Show(_) | Event::Sync(_) => Ok(()),
+    }
 }
 
 /// Copies the numbers of the locks that the thread holds in any mode, rising, as far as there is room. `count` becomes how many it holds.
@@ -70,19 +105,20 @@ pub(crate) fn held(
         return Status::EmptyHandle;
     };
     let status = match &*kept {
-        Kept::Thread(thread) => copy_held(thread, locks, count),
-        Kept::Shard(_) => Status::WrongHandle,
+        Kept::Thread(thread) => copy_held(thread.held.held(), locks, count),
+        Kept::Seat(seat) => copy_held(seat.held(), locks, count),
+        Kept::Shard(_) | Kept::Journal(_) => Status::WrongHandle,
     };
     *thread = Handle::of(kept);
     status
 }
 
-fn copy_held(thread: &Thread, locks: &mut [u32], count: &mut usize) -> Status
-    ensures count { count.new ≡ length thread.now.held.held }
-    ensures locks { (n : ℕ) → n ≤ length thread.now.held.held → n ≤ length locks.new → take n locks.new ≡ take n thread.now.held.held }
+fn copy_held(held: &Lockset, locks: &mut [u32], count: &mut usize) -> Status
+    ensures count { count.new ≡ length held.now }
+    ensures locks { (n : ℕ) → n ≤ length held.now → n ≤ length locks.new → take n locks.new ≡ take n held.now }
     ensures quiet { result ≡ Status.Quiet }
 {
-    let held = thread.held.held().as_slice();
+    let held = held.as_slice();
     copy_locks(held, locks);
     *count = held.len();
     Status::Quiet
