@@ -1,10 +1,214 @@
 /* The memory that the proved calls ask for, over malloc. Their names and arguments are those that the compiler of the proved archive calls.
  *
  * A size is never above 2^63, an alignment divides 16. */
+#ifndef _GNU_SOURCE
+#define _GNU_SOURCE
+#endif
 #include <errno.h>
 #include <stdbool.h>
 #include <stddef.h>
 #include <stdlib.h>
+
+#ifdef ERASER_OWN_PAGES
+#include <pthread.h>
+#include <sched.h>
+#include <stdatomic.h>
+#include <stdint.h>
+#include <string.h>
+#include <sys/mman.h>
+#include <sys/syscall.h>
+#include <unistd.h>
+
+/* ---- Pages of its own ----
+ *
+ * No call of the C library that a program may have put its own in place of: mappings are made by the system's calls. A block has its class in front of it.
+ * There are four classes for each doubling. A block that is given back waits in the list of its class. One of LARGE bytes or more has a mapping of its own. */
+
+enum { HEAD = 16, LARGE = 131072, CHUNK = 1048576, CLASSES = 64, OWN_MAPPING = CLASSES, IN_ANOTHER };
+
+struct block {
+    uint64_t size; /* of a mapping of its own */
+    uint64_t class;
+    struct block *next; /* in its list: where the bytes of the block begin */
+};
+_Static_assert(offsetof(struct block, next) == HEAD, "a block's bytes begin behind its class");
+
+static struct block *spare[CLASSES];
+static char *chunk, *chunk_end;
+static uint64_t pages;
+static _Atomic uint64_t *told;
+
+/* Who holds the lock, by an address of that thread alone: whoever forks inside a call may hold it already. */
+static _Atomic(const char *) holder;
+static _Thread_local const char myself __attribute__((tls_model("initial-exec")));
+
+static void take_pages(void)
+{
+    for (const char *nobody = NULL; !atomic_compare_exchange_weak_explicit(&holder, &nobody, &myself, memory_order_acquire, memory_order_relaxed); nobody = NULL)
+        sched_yield();
+}
+
+static void leave_pages(void)
+{
+    atomic_store_explicit(&holder, NULL, memory_order_release);
+}
+
+static _Thread_local int pages_are_taken __attribute__((tls_model("initial-exec")));
+
+static void before_fork_of_pages(void)
+{
+    if (atomic_load(&holder) == &myself)
+        return;
+    take_pages();
+    pages_are_taken = 1;
+}
+
+static void after_fork_of_pages(void)
+{
+    if (pages_are_taken)
+        leave_pages();
+    pages_are_taken = 0;
+}
+
+static void watch(void)
+{
+    pthread_atfork(before_fork_of_pages, after_fork_of_pages, after_fork_of_pages);
+}
+
+void eraser_count_pages(_Atomic uint64_t *bytes)
+{
+    static pthread_once_t once = PTHREAD_ONCE_INIT;
+    pthread_once(&once, watch);
+    told = bytes;
+    atomic_store(told, pages);
+}
+
+static void count(uint64_t bytes)
+{
+    pages += bytes;
+    if (told)
+        atomic_store(told, pages);
+}
+
+static void *map(size_t bytes)
+{
+    long at = syscall(SYS_mmap, NULL, bytes, PROT_READ | PROT_WRITE, MAP_PRIVATE | MAP_ANONYMOUS, -1, 0);
+    if (at == -1)
+        return NULL;
+    count(bytes);
+    return (void *)at;
+}
+
+/* How many bytes a block of a class has, with its head. */
+static size_t size_of(unsigned class)
+{
+    size_t size = 32;
+    for (unsigned before = 0; before < class; before++)
+        size += (size_t)16 << (before < 4 ? 0 : before / 4 - 1);
+    return size;
+}
+
+static struct block *take_small(size_t bytes)
+{
+    unsigned class = 0;
+    while (size_of(class) < bytes)
+        class++;
+    size_t size = size_of(class);
+    struct block *block = spare[class];
+    if (block) {
+        spare[class] = block->next;
+        return block;
+    }
+    if ((size_t)(chunk_end - chunk) < size) {
+        char *got = map(CHUNK);
+        if (!got)
+            return NULL;
+        chunk = got;
+        chunk_end = got + CHUNK;
+    }
+    block = (struct block *)chunk;
+    chunk += size;
+    block->class = class;
+    return block;
+}
+
+static size_t whole_pages(size_t bytes)
+{
+    return (bytes + HEAD + 4095) & ~(size_t)4095;
+}
+
+static struct block *take_large(size_t bytes)
+{
+    struct block *block = map(bytes);
+    if (block) {
+        block->class = OWN_MAPPING;
+        block->size = bytes;
+    }
+    return block;
+}
+
+void *eraser_take(size_t size)
+{
+    int error = errno;
+    if (size > SIZE_MAX / 4)
+        return NULL;
+    take_pages();
+    struct block *block = size + HEAD < LARGE ? take_small(size + HEAD) : take_large(whole_pages(size));
+    leave_pages();
+    errno = error;
+    return block ? (char *)block + HEAD : NULL;
+}
+
+/* Only the detector itself asks for it, and keeps it: what is given back stays. */
+void *eraser_take_aligned(size_t alignment, size_t size)
+{
+    char *block = eraser_take(size + alignment + HEAD);
+    if (!block)
+        return NULL;
+    block += HEAD;
+    block += (alignment - (uintptr_t)block % alignment) % alignment;
+    ((struct block *)(block - HEAD))->class = IN_ANOTHER;
+    return block;
+}
+
+void eraser_give(void *given)
+{
+    int error = errno;
+    struct block *block = given ? (struct block *)((char *)given - HEAD) : NULL;
+    if (!block || block->class == IN_ANOTHER)
+        return;
+    take_pages();
+    if (block->class == OWN_MAPPING) {
+        count(-block->size);
+        syscall(SYS_munmap, block, block->size);
+    } else {
+        block->next = spare[block->class];
+        spare[block->class] = block;
+    }
+    leave_pages();
+    errno = error;
+}
+
+static size_t room_of(const struct block *block)
+{
+    return (block->class == OWN_MAPPING ? block->size : size_of((unsigned)block->class)) - HEAD;
+}
+
+void *eraser_resize(void *given, size_t size)
+{
+    struct block *block = given ? (struct block *)((char *)given - HEAD) : NULL;
+    size_t room = block ? room_of(block) : 0;
+    if (block && size <= room && size > room / 4)
+        return given;
+    void *now = eraser_take(size);
+    if (now && block) {
+        memcpy(now, given, size < room ? size : room);
+        eraser_give(given);
+    }
+    return now;
+}
+
+#endif
 
 _Static_assert(_Alignof(max_align_t) % 16 == 0, "malloc aligns to 16 bytes");
 

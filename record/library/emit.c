@@ -171,7 +171,7 @@ bool emit_wait(struct ring *ring, struct self *me, struct course *course, void *
 {
     int error = errno;
     if (me->number == 0)
-        begin_self(ring, atomic_fetch_add_explicit(&ring->threads, 1, memory_order_relaxed) + 1);
+        begin_self(ring, IS_ONLINE ? online_number() : atomic_fetch_add_explicit(&ring->threads, 1, memory_order_relaxed) + 1);
     bool has_room = course->slots ? wait_for_room(ring, me, course) : take_lane(ring, me, course);
     if (!has_room) {
         set_depth(me, me->depth - 1);
@@ -392,6 +392,8 @@ static bool own(struct ring *ring, struct attachment *page)
     char path[4096];
     long length = syscall(SYS_readlinkat, AT_FDCWD, "/proc/self/exe", path, sizeof path);
     if (!atomic_compare_exchange_strong(&ring->owner, &nobody, (uint32_t)syscall(SYS_getpid)))
+        return false;
+    if (IS_ONLINE && !online_begin(ring))
         return false;
     long begin = length;
     while (begin > 0 && path[begin - 1] != '/')

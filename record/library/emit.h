@@ -16,6 +16,13 @@
 #define HOOK __attribute__((visibility("default")))
 #define LIKELY(condition) __builtin_expect(!!(condition), 1)
 #define UNLIKELY(condition) __builtin_expect(!!(condition), 0)
+
+/* The library of --online is compiled apart, as that of --stacks is. */
+#ifndef IS_ONLINE
+#define IS_ONLINE 0
+#endif
+/* Blocks that the program gets are recorded: a detector has no use for them. */
+#define KEEPS_BLOCKS (KEEPS_STACKS && !IS_ONLINE)
 #define CALLER ((uint64_t)(uintptr_t)__builtin_return_address(0))
 
 /* Where this process records. It stands in a page that the kernel clears in a forked child, which so records nothing, however it was
@@ -127,6 +134,13 @@ static inline void set_ticket(struct course *course, uint64_t ticket)
     __atomic_signal_fence(__ATOMIC_SEQ_CST);
 }
 
+/* Online: tells the detector of an event that a hook with this stack pointer was called for. */
+void online_take(enum event_kind kind, uint32_t size, uint64_t first, uint64_t second, uintptr_t pointer);
+/* Starts the detector of a ring. False if there is no memory for it. */
+bool online_begin(struct ring *ring);
+/* The number of this thread, as the detector has it. 0 if it can't have one. */
+uint32_t online_number(void);
+
 /* An event that has its ticket and is not published yet. */
 struct draft {
     struct self *me;
@@ -135,11 +149,11 @@ struct draft {
     void *outer_frame; /* what the course had before */
 };
 
-/* Draws a ticket for one event. There is room for it before, since no thread may wait once it has its ticket. A signal handler may come in between
+/* Draws a ticket in the ring for one event. There is room for it before, since no thread may wait once it has its ticket. A signal handler may come in between
  * anywhere and record events of its own: once this one is begun, they take another lane, and later tickets if this one has its ticket. Before that they
  * leave all but the position as they found it. False if the event can't be recorded. The caller must still run when it publishes the event, since its
  * frame says that the event was not left. */
-static inline __attribute__((always_inline)) bool emit_draw(struct draft *draft)
+static inline __attribute__((always_inline)) bool ring_draw(struct draft *draft)
 {
     struct ring *ring = attached->ring;
     if (LIKELY(!ring))
@@ -180,12 +194,13 @@ static inline __attribute__((always_inline)) uint32_t emit_stack(enum event_kind
     return stack_look(pointer);
 }
 
-static inline __attribute__((always_inline)) void emit_publish(const struct draft *draft, enum event_kind kind, uint32_t size, uint64_t first, uint64_t second)
+static inline __attribute__((always_inline)) void ring_publish(const struct draft *draft, enum event_kind kind, uint32_t stack, uint32_t size, uint64_t first,
+                                                                uint64_t second)
 {
     struct course *course = draft->course;
     struct slot *slot = &course->slots[course->next & course->mask];
     slot->ticket = (uint32_t)draft->ticket;
-    slot->kind_and_stack = (uint32_t)kind | emit_stack(kind, second) << KIND_BITS;
+    slot->kind_and_stack = (uint32_t)kind | stack << KIND_BITS;
     slot->size = size;
     slot->first = first;
     slot->second = second;
@@ -197,12 +212,29 @@ static inline __attribute__((always_inline)) void emit_publish(const struct draf
     course->frame = draft->outer_frame;
 }
 
-/* Records one event. */
+/* Begins an event of which it is not known yet what it is. What is told to a detector has no ticket: it is in time when it is told. */
+static inline __attribute__((always_inline)) bool emit_draw(struct draft *draft)
+{
+    return IS_ONLINE ? is_recording() : ring_draw(draft);
+}
+
+static inline __attribute__((always_inline)) void emit_publish(const struct draft *draft, enum event_kind kind, uint32_t size, uint64_t first, uint64_t second)
+{
+    if (IS_ONLINE)
+        online_take(kind, size, first, second, (uintptr_t)__builtin_dwarf_cfa());
+    else
+        ring_publish(draft, kind, emit_stack(kind, second), size, first, second);
+}
+
+/* Records one event, or tells the detector of it. */
 static inline __attribute__((always_inline)) void emit(enum event_kind kind, uint32_t size, uint64_t first, uint64_t second)
 {
     struct draft draft;
-    if (emit_draw(&draft))
-        emit_publish(&draft, kind, size, first, second);
+    if (IS_ONLINE && IS_FOR_DETECTOR(kind)) {
+        if (UNLIKELY(is_recording()))
+            online_take(kind, size, first, second, (uintptr_t)__builtin_dwarf_cfa());
+    } else if (ring_draw(&draft))
+        ring_publish(&draft, kind, emit_stack(kind, second), size, first, second);
 }
 
 static inline __attribute__((always_inline)) void emit_read(const volatile void *address, uint32_t size, uint64_t site)

@@ -87,7 +87,7 @@ static __attribute__((noinline)) void note_foreign(void *block)
 /* If no free is seen, the memory of a block may be part of another one later, and nobody would know of that. */
 static inline void note_block(const void *block, size_t size, uint64_t place)
 {
-    if (KEEPS_STACKS && is_free_seen())
+    if (KEEPS_BLOCKS && is_free_seen())
         emit_taken(block, size, place);
 }
 
@@ -210,7 +210,7 @@ HOOK void *reallocarray(void *block, size_t count, size_t size)
 
 /* ---- Pages ---- */
 
-#if KEEPS_STACKS
+#if KEEPS_BLOCKS
 /* Only that of the program's own calls: what an allocator gets here it gives out in blocks. Memory that a mapping takes the place of is the program's
  * already. */
 HOOK void *mmap(void *wanted, size_t size, int protection, int how, int file, off_t begin)

@@ -31,7 +31,7 @@ void give_back(void *block, uint64_t site);
 /* Records that a call at this place has got a block, if it has and calls are recorded or the allocator isn't the C library's, and returns it. */
 void *note_taken(void *block, size_t size, uint64_t place);
 /* Whether blocks that are given out need no note. */
-#define NOTES_NONE (!KEEPS_STACKS && allocator.is_plain)
+#define NOTES_NONE (!KEEPS_BLOCKS && allocator.is_plain)
 /* Whether a function is in the allocator's file. */
 bool is_of_allocator(const void *function);
 /* Whether calls of `free` are recorded. They are not if the program has one itself. */

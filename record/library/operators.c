@@ -60,7 +60,7 @@ static void *need(void *block)
         if (!next)                                           \
             return otherwise;                                \
         void *block = next arguments;                        \
-        return (KEEPS_STACKS || allocator.is_foreign) && is_of_allocator(next) ? note_taken(block, size, CALLER) : block; \
+        return (KEEPS_BLOCKS || allocator.is_foreign) && is_of_allocator(next) ? note_taken(block, size, CALLER) : block; \
     }
 
 /* Nearly always it is `malloc`, and succeeds. What is behind may be a call of `malloc` that is noted there. */
@@ -71,7 +71,7 @@ static void *need(void *block)
         void *block = is_known_as_ours(&new_base) && LIKELY(allocator.is_plain) ? allocator.malloc(size + !size) : NULL; \
         if (UNLIKELY(block == NULL))                         \
             return name##_behind arguments;                  \
-        return KEEPS_STACKS ? note_taken(block, size, CALLER) : block; \
+        return KEEPS_BLOCKS ? note_taken(block, size, CALLER) : block; \
     }
 
 #define NEW_ALIGNED(name, parameters, arguments, otherwise)  \

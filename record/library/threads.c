@@ -33,10 +33,13 @@ static int reuse_local(struct dl_phdr_info *file, size_t size, void *nothing)
     return 0;
 }
 
+/* In which round a thread counts as ended. Online it has to be before the detector gives back what it has of the thread, in the last round but one. */
+#define LAST_ROUND (IS_ONLINE ? PTHREAD_DESTRUCTOR_ITERATIONS - 2 : PTHREAD_DESTRUCTOR_ITERATIONS)
+
 /* The C library calls this up to four times, among the destructors of the program's own keys. The last time is the thread's end. */
 static void end_thread(void *again)
 {
-    if (++stack.rounds < PTHREAD_DESTRUCTOR_ITERATIONS) {
+    if (++stack.rounds < LAST_ROUND) {
         pthread_setspecific(ends, again);
         return;
     }
@@ -78,7 +81,7 @@ static void begin_thread(uint32_t calls, uint64_t place)
         if (KEEPS_STACKS)
             stack_begin(stack.begin, stack.size);
         emit_reuse(stack.begin, stack.size);
-        if (KEEPS_STACKS)
+        if (KEEPS_BLOCKS)
             emit_taken(stack.begin, stack.size, 0);
     }
     pthread_attr_destroy(&found);

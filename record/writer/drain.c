@@ -11,6 +11,7 @@
 #include "locks.h"
 #include "nodes.h"
 #include "objects.h"
+#include "online.h"
 #include "options.h"
 #include "pages.h"
 #include "sites.h"
@@ -320,6 +321,10 @@ static void take_rare(const struct slot *slot)
     case EVENT_FENCE: fences_pass(slot->thread, slot->size); break;
     case EVENT_STORED: store_atomic(slot); break;
     case EVENT_LOADED: load_atomic(slot); break;
+    case EVENT_RACE_WORD:
+    case EVENT_RACE_LOCK:
+    case EVENT_RACE_READ:
+    case EVENT_RACE_WRITE: online_take(slot); break;
     default: break;
     }
 }

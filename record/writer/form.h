@@ -1,4 +1,4 @@
-/* The forms that a trace may have: text 3, and the binary form (docs/FORMATS.md). */
+/* The forms that a trace may have: text 3, the binary form (docs/FORMATS.md), and none at all. */
 #ifndef ERASER_FORM_H
 #define ERASER_FORM_H
 
@@ -56,6 +56,8 @@ struct form {
     void (*end_part)(void);
 };
 extern const struct form text_form, binary_form;
+/* Of --online, which writes no trace. */
+extern const struct form no_form;
 
 /* The most bytes of a comment. */
 #define COMMENT_BYTES 252

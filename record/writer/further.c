@@ -20,6 +20,7 @@
 #include "drain.h"
 #include "kept.h"
 #include "merge.h"
+#include "online.h"
 #include "options.h"
 #include "output.h"
 #include "recording.h"
@@ -294,6 +295,8 @@ void further_fill(struct outcome *outcome)
     outcome->cut = stacks_cut;
     outcome->unseen = ring->unseen & (drain_has_frees || !outcome->events ? ~UNSEEN_FREES : ~0u);
     outcome->error = output.file_error;
+    if (options.is_online)
+        online_fill(outcome);
 }
 
 /* Nothing of it is kept. */
@@ -334,7 +337,8 @@ static void record_further(struct asker *asker, unsigned number)
         kept_replay();
     replay_end();
     further_fill(outcome);
-    outcome->replay_status = replay.has_ended ? exit_status(replay.status) : -1;
+    if (!options.is_online)
+        outcome->replay_status = replay.has_ended ? exit_status(replay.status) : -1;
     if (!outcome->events && !outcome->lost)
         drop_outcome(outcome, trace);
     else if (options.replays && !outcome->error)

@@ -13,6 +13,7 @@
 
 #include "further.h"
 #include "kept.h"
+#include "online.h"
 #include "options.h"
 #include "output.h"
 #include "recording.h"
@@ -89,7 +90,7 @@ static void set_libraries(void)
     unsetenv("ERASER_RECORD_PREPARE");
     if (!folder)
         return;
-    if (asprintf(&ours, "%s%s", folder, options.has_stacks ? "/stacks" : "") < 0)
+    if (asprintf(&ours, "%s%s", folder, library_folder()) < 0)
         _exit(STATUS_FAILED);
     if (asprintf(&place, "/proc/%ld/fd/%d", (long)getppid(), recording.file) < 0)
         _exit(STATUS_FAILED);
@@ -126,7 +127,9 @@ static struct outcome *first(void)
 static void say_what_was_recorded(void)
 {
     uint64_t lost = first()->lost, events = first()->events;
-    if (!atomic_load(&recording.ring->owner))
+    if (options.is_online && (events || lost))
+        online_say_watched(events, lost);
+    else if (!atomic_load(&recording.ring->owner))
         fprintf(stderr, "record: nothing was recorded: the program does not use ThreadSanitizer's library, libtsan.so.2.\n"
                         "record: build it with -g -fsanitize=thread, and without -static-libtsan; docs/RECORDING.md says how with clang\n");
     else if (!events && !lost)
@@ -180,7 +183,7 @@ static struct sums add_up(unsigned run)
 /* The files that programs have in folders, and not one report. */
 static bool has_files(void)
 {
-    return further_count() > 1 || options.has_report_folder || options.runs > 1;
+    return !options.is_online && (further_count() > 1 || options.has_report_folder || options.runs > 1);
 }
 
 /* `3 programs`, or with --runs `2 runs of 1 program`, or `2 runs with 6 programs`. */
@@ -226,6 +229,8 @@ static void say_end(struct sums sums, const char *name)
         fprintf(stderr, "record: cannot start %s: %s\n", name, strerror(start_error));
     else if (has_files())
         say_what_programs_were_recorded(sums);
+    else if (sums.recorded > 1)
+        fprintf(stderr, "record: %u programs watched, %u with races\n", sums.recorded, sums.racing);
     else
         say_what_was_recorded();
     if (output.is_full)
@@ -252,7 +257,7 @@ static void say_end(struct sums sums, const char *name)
 /* How the program failed, if it did. Its exit status alone is worth a line only if another one is expected in its place. */
 static void say_end_of_program(void)
 {
-    const char *whole = options.replays && first()->events ? "; the report is of the run up to there" : "";
+    const char *whole = (options.replays || options.is_online) && first()->events ? "; the report is of the run up to there" : "";
     int status = exit_status(worst_status);
     if (start_error || !status || (options.is_quiet && !options.ends_as_report))
         return;
@@ -336,7 +341,8 @@ static void end_trace(void)
     replay_end();
     struct outcome *outcome = further_outcome(1);
     further_fill(outcome);
-    outcome->replay_status = replay.has_ended ? exit_status(replay.status) : options.replays ? STATUS_FAILED : -1;
+    if (!options.is_online)
+        outcome->replay_status = replay.has_ended ? exit_status(replay.status) : options.replays ? STATUS_FAILED : -1;
 }
 
 /* After this many pauses it says what it waits for. */
@@ -392,6 +398,10 @@ static void name_files(void)
 
 static void pass_reports(void)
 {
+    if (options.is_online) {
+        replay_close_report();
+        return;
+    }
     if (options.replays)
         replay_begin_report();
     name_files();
@@ -416,7 +426,7 @@ int main(int count, char **words)
         replay_prepare();
     recording_make_ring(1);
     open_trace();
-    if (options.replays)
+    if (options.replays || options.is_online)
         replay_open_report();
     if (!has_room_for_one())
         further_begin();

@@ -11,6 +11,7 @@
 #include <unistd.h>
 
 #include "output.h"
+#include "rules.h"
 #include "sites.h"
 #include "trace.h"
 
@@ -47,6 +48,8 @@ static const char usage[] =
     "      --strict            end the replay with 2 if the trace is damaged, and write no report\n"
     "      --until-fault       report the steps before the first faulty line of the trace, and then its fault\n"
     "      --exit-status WHOSE end with the status of the `program` (the default) or of the `report`\n"
+    "      --online            watch the program while it runs, without a trace: a race is reported when it happens, and the memory stays what it is\n"
+    "      --stop-at-race      with --online: a thread that races gets SIGTRAP, once for each place, for a debugger\n"
     "      --shake             let threads wait for short random times before they acquire, signal or start, so that more of them meet; --shake=SEED repeats them\n"
     "      --runs N            run the program N times, and report of each site in how many of the runs it was reported\n"
     "      --order             record what orders threads as well: starts and joins, semaphores, atomic operations ..\n"
@@ -184,7 +187,7 @@ static void keep_stacks(void)
 /* Somebody who looks at a terminal gets what explains most. A trace that is kept for that alone has what a text can't have, unless --trace says otherwise. */
 static void report_for_people(void)
 {
-    if (!options.replays || options.report || says_how_to_report() || !isatty(STDERR_FILENO))
+    if (options.is_online || !options.replays || options.report || says_how_to_report() || !isatty(STDERR_FILENO))
         return;
     options.is_for_people = options.by_site = options.explains = true;
     options.analysis = "both";
@@ -241,6 +244,48 @@ static void choose_form(void)
         trace_form = &FORM_OF_PIPE;
 }
 
+const char *library_folder(void)
+{
+    return options.is_online ? "/online" : options.has_stacks ? "/stacks" : "";
+}
+
+/* Where there is no proved archive the library of --online is not built. */
+static void check_library(void)
+{
+    const char *folder = getenv("ERASER_RECORD_LIBRARIES");
+    char *path;
+    if (folder && asprintf(&path, "%s%s/libtsan.so.2", folder, library_folder()) >= 0 && access(path, R_OK) != 0)
+        refuse("--online needs the proved library for C, and there is none for this tree: tools/program eraser_c says why");
+}
+
+/* There is no trace, and nothing is replayed: the detector is in the program, and its report is written as it comes. */
+static void go_online(void)
+{
+    if (options.analysis && strcmp(options.analysis, "lockset") != 0)
+        refuse("--online knows the locks alone: --analysis happens-before and both are of a recording");
+    if (options.explains)
+        refuse("--explain is of a recording: --online keeps no access that came before the race");
+    if (options.format && strcmp(options.format, "text") != 0)
+        refuse("--online writes each race when it comes, as text: --format json, sarif and html are of a recording");
+    if (options.is_strict || options.until_fault || options.workers)
+        refuse("--strict, --until-fault and --workers are of a replay: --online replays nothing");
+    if (options.replays || options.has_form || options.has_flow || options.orders || options.has_limit)
+        refuse("--replay, --trace, --order, --flow and --limit are of a trace: --online writes none");
+    if (options.runs > 1)
+        refuse("--runs merges the reports of replays: it does not go with --online");
+    if (options.trace && options.report)
+        refuse("with --online -o and --report both name the file of the report");
+    options.report = options.trace ? options.trace : options.report;
+    options.trace = NULL;
+    if (is_folder(options.report))
+        refuse("with --online all programs report into one file: a folder is for a recording");
+    check_library();
+    trace_form = &no_form;
+    sites_have_callers = true;
+    if (options.rules)
+        rules_read(options.rules);
+}
+
 /* Options that don't go together. */
 static void check_together(void)
 {
@@ -254,7 +299,7 @@ static void check_together(void)
 
 void read_options(int count, char **words)
 {
-    enum { REPLAY = 256, REPORT, SUPPRESS, EXPLAIN, BY_SITE, STRICT, UNTIL_FAULT, FORMAT, ANALYSIS, EXIT_STATUS, ORDER, TRACE, STACKS, FLOW, LIMIT, ROOT, PATHS, SHAKE, REPEAT, REPLAYERS };
+    enum { ONLINE = 256, STOP_AT_RACE, REPLAY, REPORT, SUPPRESS, EXPLAIN, BY_SITE, STRICT, UNTIL_FAULT, FORMAT, ANALYSIS, EXIT_STATUS, ORDER, TRACE, STACKS, FLOW, LIMIT, ROOT, PATHS, SHAKE, REPEAT, REPLAYERS };
     static const struct option names[] = {
         {"output", 1, NULL, 'o'},         {"replay", 0, NULL, REPLAY}, {"report", 1, NULL, REPORT}, {"suppress", 1, NULL, SUPPRESS},
         {"exit-status", 1, NULL, EXIT_STATUS}, {"limit", 1, NULL, LIMIT},   {"paths", 0, NULL, PATHS},   {"quiet", 0, NULL, 'q'},
@@ -262,12 +307,14 @@ void read_options(int count, char **words)
         {"explain", 0, NULL, EXPLAIN},    {"by-site", 0, NULL, BY_SITE}, {"format", 1, NULL, FORMAT}, {"help", 0, NULL, 'h'},
         {"order", 0, NULL, ORDER},        {"analysis", 1, NULL, ANALYSIS}, {"strict", 0, NULL, STRICT},
         {"until-fault", 0, NULL, UNTIL_FAULT}, {"version", 0, NULL, 'V'}, {"trace", 1, NULL, TRACE}, {"stacks", 0, NULL, STACKS},
-        {"flow", 0, NULL, FLOW},          {"workers", 1, NULL, REPLAYERS},
+        {"flow", 0, NULL, FLOW},          {"workers", 1, NULL, REPLAYERS}, {"online", 0, NULL, ONLINE}, {"stop-at-race", 0, NULL, STOP_AT_RACE},
         {NULL, 0, NULL, 0},
     };
     for (int got; (got = getopt_long(count, words, "+o:qhV", names, NULL)) != -1;)
         switch (got) {
         case 'o': options.trace = optarg; break;
+        case ONLINE: options.is_online = true; break;
+        case STOP_AT_RACE: options.stops_at_race = true; break;
         case REPLAY: options.replays = true; break;
         case REPORT: options.report = optarg; break;
         case REPLAYERS: options.workers = (unsigned)read_number(optarg, 1, MOST_WORKERS, "--workers wants a number from 1 to 16"); break;
@@ -293,13 +340,18 @@ void read_options(int count, char **words)
         case 'V': fputs(version, stdout); end_printed(); break;
         default: fputs("record: --help says what there is\n", stderr); exit(STATUS_FAILED);
         }
-    choose_form();
+    if (options.is_online)
+        go_online();
+    else if (options.stops_at_race)
+        refuse("--stop-at-race goes with --online: a replay finds a race when the program has gone on");
+    else
+        choose_form();
     check_together();
     if (optind == count) {
         print_usage(words[0], stderr);
         exit(STATUS_FAILED);
     }
-    options.replays |= !options.trace || options.report || options.rules || says_how_to_report() || options.ends_as_report;
+    options.replays |= !options.is_online && (!options.trace || options.report || options.rules || says_how_to_report() || options.ends_as_report);
     options.workers = options.workers ? options.workers : usual_workers();
     options.has_report_folder = is_folder(options.report);
     options.has_trace_folder = is_folder(options.trace);

@@ -26,6 +26,8 @@ struct options {
     bool orders; /* what orders threads is recorded as well */
     bool has_form;   /* --trace says which form the trace has */
     bool has_stacks; /* events are recorded with the calls in which they are made */
+    bool is_online;  /* the program's own detector says at once what races, and there is no trace */
+    bool stops_at_race;
     bool has_flow;   /* what threads tell each other without an order is recorded as well */
     bool is_quiet;
     unsigned runs; /* how often the command is run */
@@ -41,6 +43,8 @@ extern struct options options;
 
 /* Reads the words in front of the program. Ends the recorder if they are wrong, or if nothing but a text was wanted. */
 void read_options(int count, char **words);
+/* The folder of the library that the program gets, below that of all. */
+const char *library_folder(void);
 /* Ends the recorder: what it cannot do, to what, and errno's reason. */
 void fail(const char *what, const char *name);
 

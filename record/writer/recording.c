@@ -66,6 +66,7 @@ void recording_make_ring(unsigned number)
     recording.ring->writer = (uint32_t)getpid();
     recording.ring->orders = options.orders;
     recording.ring->flows = options.has_flow;
+    recording.ring->stops = options.stops_at_race;
     recording.ring->head = recording.ring->tail = FIRST_TICKET;
     recording.ring->magic = RING_MAGIC;
 }
@@ -141,7 +142,7 @@ static void wait_for_event(double *since)
 /* Nobody takes the text any more, or nobody waits for the program: it goes on without being recorded. */
 static void check_outputs(void)
 {
-    if (!output_is_open() || recording.is_to_end)
+    if ((!options.is_online && !output_is_open()) || recording.is_to_end)
         atomic_store(&recording.ring->stop, 1);
 }
 

@@ -85,9 +85,11 @@ static uint32_t look_behind(uint32_t node)
     return node_of(CALLS_LEFT_OUT, node);
 }
 
-/* Each event that is cut is counted here. */
+/* Each event that is cut is counted here. Without a trace there are no nodes of it. */
 void stacks_look_up(uint32_t stack)
 {
+    if (!trace_form->creator)
+        return;
     uint32_t node = look_up(stack & ~STACK_CUT);
     caller_of_event = stack & STACK_CUT ? look_behind(node) : node;
     stack_of_event = stack & STACK_CUT ? NO_STACK : stack;

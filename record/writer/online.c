@@ -1,0 +1,376 @@
+#define _GNU_SOURCE
+#include "online.h"
+
+#include <inttypes.h>
+#include <stdarg.h>
+#include <stdio.h>
+#include <stdlib.h>
+#include <string.h>
+
+#include "options.h"
+#include "recording.h"
+#include "replay.h"
+#include "rules.h"
+#include "sites.h"
+#include "trace.h"
+#include "variables.h"
+
+/* The most locks that a thread holds. */
+#define MOST_HELD 64
+
+/* A race that comes in parts from one thread, with other threads' events in between. */
+struct lock {
+    uint64_t address, place;
+    bool writes;
+};
+struct race {
+    struct race *next;
+    uint32_t thread, other;
+    uint64_t word;
+    unsigned count;
+    struct lock locks[MOST_HELD];
+};
+static struct race *begun;
+
+/* How many races a line of source has, by their kind. */
+struct counted {
+    struct counted *next; /* in its bucket */
+    const char *site;
+    bool writes;
+    uint64_t races;
+};
+#define BUCKETS 1024u
+static struct counted *counted[BUCKETS];
+static uint64_t race_count, suppressed_count;
+static unsigned counted_count;
+
+/* ---- Text ---- */
+
+static char *text;
+static size_t text_bytes;
+static FILE *text_file;
+
+static void begin_text(void)
+{
+    text_file = open_memstream(&text, &text_bytes);
+    if (!text_file)
+        fail("cannot make a text", NULL);
+}
+
+/* It is written at once, so that no other text comes into it. */
+static void write_text(void)
+{
+    fclose(text_file);
+    replay_write(text, text_bytes);
+    free(text);
+}
+
+static void say(const char *format, ...) __attribute__((format(printf, 1, 2)));
+static void say(const char *format, ...)
+{
+    va_list rest;
+    va_start(rest, format);
+    vfprintf(text_file, format, rest);
+    va_end(rest);
+}
+
+static void say_thread(uint32_t number)
+{
+    const char *name = trace_has_thread(number) ? trace_thread(number)->name : "";
+    say(*name ? "t%u (%s)" : "t%u", number, name);
+}
+
+/* ---- Sites ---- */
+
+/* A site in a header of the system stands for the line that its function was inlined into. */
+static const struct site *outside_headers(const struct site *site)
+{
+    while (site->is_in_header && site->caller)
+        site = site->caller;
+    return site;
+}
+
+static const struct stack_node *node_of(uint32_t node)
+{
+    return node && node < STACK_NODES ? &recording.ring->stacks.nodes[node] : NULL;
+}
+
+/* A caller is a node that was there before: the program may have written anything into the ring. */
+static uint32_t caller_of(uint32_t node)
+{
+    uint32_t caller = node_of(node)->caller;
+    return caller < node ? caller : 0;
+}
+
+/* The nearest line of the program's own: an access in a header of the system is its caller's. `rest` are the calls around it. */
+static const struct site *site_of_access(uint64_t place, uint32_t node, uint32_t *rest)
+{
+    const struct site *site = outside_headers(site_of(place));
+    while (site->is_in_header && node_of(node)) {
+        site = outside_headers(site_of(node_of(node)->call));
+        node = caller_of(node);
+    }
+    *rest = node;
+    return site;
+}
+
+static const char *text_of(const struct site *site)
+{
+    return site->text + 1;
+}
+
+static void say_site(const struct site *site)
+{
+    say("%.*s", (int)site->bytes - 1, text_of(site));
+}
+
+static void say_called(const struct site *site)
+{
+    if (site->is_in_header)
+        return;
+    say("  called at ");
+    say_site(site);
+    if (*site->function)
+        say(" in %s", site->function);
+    say("\n");
+}
+
+/* The calls that led to a line: what it was inlined into, and the calls around that, if their code is the program's. */
+static void say_calls(const struct site *site, uint32_t node)
+{
+    if (*site->function)
+        say("  in %s\n", site->function);
+    for (const struct site *around = site->caller; around; around = around->caller)
+        say_called(around);
+    for (; node_of(node); node = caller_of(node))
+        if (sites_has_instrumented(node_of(node)->call))
+            for (const struct site *call = site_of(node_of(node)->call); call; call = call->caller)
+                say_called(call);
+    if (node & STACK_CUT)
+        say("  called by more than that\n");
+}
+
+/* ---- One race ---- */
+
+static struct race *find_race(uint32_t thread)
+{
+    for (struct race *race = begun; race; race = race->next)
+        if (race->thread == thread)
+            return race;
+    struct race *race = get_memory(NULL, sizeof *race);
+    race->thread = thread;
+    race->next = begun;
+    return begun = race;
+}
+
+static void end_race(struct race *race)
+{
+    struct race **place = &begun;
+    while (*place != race)
+        place = &(*place)->next;
+    *place = race->next;
+    free(race);
+}
+
+static struct counted *count_race(const char *site, size_t bytes, bool writes)
+{
+    uint32_t hash = writes;
+    for (size_t nth = 0; nth < bytes; nth++)
+        hash = hash * 31 + (unsigned char)site[nth];
+    struct counted **bucket = &counted[hash % BUCKETS], *one = *bucket;
+    while (one && (one->writes != writes || strlen(one->site) != bytes || memcmp(one->site, site, bytes) != 0))
+        one = one->next;
+    if (!one) {
+        one = get_memory(NULL, sizeof *one);
+        *one = (struct counted){*bucket, strndup(site, bytes), writes, 0};
+        *bucket = one;
+        counted_count++;
+    }
+    one->races++;
+    race_count++;
+    return one;
+}
+
+/* A further program says which one it is. */
+static void say_program(void)
+{
+    if (recording.number > 1)
+        say(" in %.*s, process %u", RING_NAME_BYTES, recording.ring->program, atomic_load(&recording.ring->owner));
+}
+
+static void say_memory(uint64_t address, uint32_t bytes)
+{
+    char name[PLAIN_BYTES];
+    if (symbol_of(address, name))
+        say("%s, ", name);
+    say("%" PRIu32 " byte%s at 0x%" PRIx64, bytes, bytes == 1 ? "" : "s", address);
+}
+
+static void say_lock(const struct lock *lock)
+{
+    char name[PLAIN_BYTES];
+    uint32_t rest;
+    if (symbol_of(lock->address, name))
+        say("%s", name);
+    else
+        say("the lock at 0x%" PRIx64, lock->address);
+    say("%s", lock->writes ? "" : ", to read");
+    if (!lock->place)
+        return;
+    say(", taken at ");
+    say_site(site_of_access(lock->place, 0, &rest));
+}
+
+static void say_locks(const struct race *race)
+{
+    say("  ");
+    say_thread(race->thread);
+    say(race->count ? " holds " : " holds no lock\n");
+    for (unsigned nth = 0; nth < race->count; nth++) {
+        say(nth ? "    and " : "");
+        say_lock(&race->locks[nth]);
+        say("\n");
+    }
+}
+
+static void report(const struct race *race, const struct slot *slot)
+{
+    bool writes = slot_kind(slot) == EVENT_RACE_WRITE;
+    uint32_t rest;
+    const struct site *site = site_of_access(slot->second, slot_stack(slot) & ~STACK_CUT, &rest);
+    if (rules_take(text_of(site), site->bytes - 1, race->word / 4)) {
+        suppressed_count++;
+        return;
+    }
+    if (count_race(text_of(site), site->bytes - 1, writes)->races > 1)
+        return;
+    begin_text();
+    say("race");
+    say_program();
+    say(": ");
+    say_site(site);
+    say(": ");
+    say_thread(race->thread);
+    say(" %s ", writes ? "writes" : "reads");
+    say_memory(slot->first, slot->size);
+    if (race->other) {
+        say(", which ");
+        say_thread(race->other);
+        say(" has used");
+    }
+    say("\n");
+    say_calls(site, rest | (slot_stack(slot) & STACK_CUT));
+    say_locks(race);
+    write_text();
+}
+
+void online_take(const struct slot *slot)
+{
+    struct race *race = find_race(slot->thread);
+    switch (slot_kind(slot)) {
+    case EVENT_RACE_WORD:
+        race->word = slot->first;
+        race->other = slot->size;
+        race->count = 0;
+        break;
+    case EVENT_RACE_LOCK:
+        if (race->count < MOST_HELD)
+            race->locks[race->count++] = (struct lock){slot->first, slot->second, slot->size};
+        break;
+    default:
+        report(race, slot);
+        end_race(race);
+        break;
+    }
+}
+
+/* ---- The end ---- */
+
+static int by_races(const void *one, const void *other)
+{
+    const struct counted *first = *(const struct counted *const *)one, *second = *(const struct counted *const *)other;
+    if (first->races != second->races)
+        return first->races > second->races ? -1 : 1;
+    int order = strcmp(first->site, second->site);
+    return order ? order : first->writes - second->writes;
+}
+
+static void say_sites(void)
+{
+    struct counted **all = get_memory(NULL, (counted_count + 1) * sizeof *all);
+    size_t count = 0;
+    for (unsigned bucket = 0; bucket < BUCKETS; bucket++)
+        for (struct counted *one = counted[bucket]; one; one = one->next)
+            all[count++] = one;
+    qsort(all, count, sizeof *all, by_races);
+    if (count)
+        say("races     kind      site\n");
+    for (size_t nth = 0; nth < count; nth++)
+        say("%-9" PRIu64 " %-9s %s\n", all[nth]->races, all[nth]->writes ? "write" : "read", all[nth]->site);
+    free(all);
+}
+
+static uint64_t sum_watched(unsigned kind)
+{
+    uint64_t sum = 0;
+    for (unsigned lane = 0; lane < LANES; lane++)
+        sum += __atomic_load_n(&recording.ring->lanes[lane].watched[kind], __ATOMIC_RELAXED);
+    return sum;
+}
+
+static uint32_t thread_count;
+
+static void count_thread(const struct thread *thread)
+{
+    (void)thread;
+    thread_count++;
+}
+
+/* The trace's end. What the program did until it was killed is in the ring. */
+static void end(uint64_t lost)
+{
+    uint64_t accesses = sum_watched(0), bytes = atomic_load(&recording.ring->detector_bytes);
+    trace_events = accesses + sum_watched(1);
+    if (!trace_events && !lost)
+        return;
+    trace_each_thread(count_thread);
+    begin_text();
+    say_sites();
+    say("races");
+    say_program();
+    say(" %" PRIu64 ", suppressed %" PRIu64 ", accesses %" PRIu64 ", threads %" PRIu32 ", memory %" PRIu64 " KiB", race_count, suppressed_count, accesses, thread_count,
+        bytes / 1024);
+    if (lost)
+        say(", lost %" PRIu64, lost);
+    say("\n");
+    write_text();
+}
+
+void online_fill(struct outcome *outcome)
+{
+    outcome->replay_status = race_count != 0;
+}
+
+void online_say_watched(uint64_t events, uint64_t lost)
+{
+    if (!options.is_quiet || lost)
+        fprintf(stderr, "record: %" PRIu64 " events watched, %" PRIu64 " lost%s\n", events, lost, lost ? ": what they were is missing, so there may be races more, or less" : "");
+}
+
+/* ---- No trace ---- */
+
+static void nothing(void) {}
+static void no_access(struct thread *thread, bool is_write, uint64_t address, uint64_t bytes, uint64_t place)
+{
+    (void)thread, (void)is_write, (void)address, (void)bytes, (void)place;
+}
+static void no_reuse(struct thread *thread, uint64_t address, uint64_t bytes, uint64_t place) { (void)thread, (void)address, (void)bytes, (void)place; }
+static void no_lock(struct thread *thread, enum verb verb, struct label *lock, uint64_t place) { (void)thread, (void)verb, (void)lock, (void)place; }
+static void no_thread(struct thread *thread, enum verb verb, struct thread *other, uint64_t place) { (void)thread, (void)verb, (void)other, (void)place; }
+static void no_verb(struct thread *thread, enum verb verb) { (void)thread, (void)verb; }
+static void no_comment(const char *said, size_t bytes) { (void)said, (void)bytes; }
+
+const struct form no_form = {
+    .begin = nothing, .access = no_access, .reuse = no_reuse, .of_lock = no_lock, .of_thread = no_thread, .alone = no_verb, .comment = no_comment, .end = end,
+    .end_part = nothing,
+};
