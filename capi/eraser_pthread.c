@@ -273,9 +273,10 @@ uint32_t eraser_self(eraser_detector *e)
 
 /* ---- Accesses ---- */
 
+/* All bits of the page's number count: an allocator may give each thread memory that begins at a multiple of many pages. */
 static struct place *place_of(eraser_detector *e, uint64_t address)
 {
-    return &e->places[address / PAGE & (e->shards - 1)];
+    return &e->places[(address / PAGE * UINT64_C(0x9e3779b97f4a7c15)) >> 40 & (e->shards - 1)];
 }
 
 /* Where the part of the bytes that is on the first byte's page ends. */

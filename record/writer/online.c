@@ -195,7 +195,7 @@ static struct counted *count_race(const char *site, size_t bytes, bool writes)
 static void say_program(void)
 {
     if (recording.number > 1)
-        say(" in %.*s, process %u", RING_NAME_BYTES, recording.ring->program, atomic_load(&recording.ring->owner));
+        say("%.*s, process %u: ", RING_NAME_BYTES, recording.ring->program, atomic_load(&recording.ring->owner));
 }
 
 static void say_memory(uint64_t address, uint32_t bytes)
@@ -245,9 +245,8 @@ static void report(const struct race *race, const struct slot *slot)
     if (count_race(text_of(site), site->bytes - 1, writes)->races > 1)
         return;
     begin_text();
-    say("race");
     say_program();
-    say(": ");
+    say("race: ");
     say_site(site);
     say(": ");
     say_thread(race->thread);
@@ -336,9 +335,8 @@ static void end(uint64_t lost)
     trace_each_thread(count_thread);
     begin_text();
     say_sites();
-    say("races");
     say_program();
-    say(" %" PRIu64 ", suppressed %" PRIu64 ", accesses %" PRIu64 ", threads %" PRIu32 ", memory %" PRIu64 " KiB", race_count, suppressed_count, accesses, thread_count,
+    say("races %" PRIu64 ", suppressed %" PRIu64 ", accesses %" PRIu64 ", threads %" PRIu32 ", memory %" PRIu64 " KiB", race_count, suppressed_count, accesses, thread_count,
         bytes / 1024);
     if (lost)
         say(", lost %" PRIu64, lost);
