@@ -8,12 +8,12 @@
 #include <string.h>
 
 #include "options.h"
+#include "plain.h"
 #include "recording.h"
 #include "replay.h"
 #include "rules.h"
 #include "sites.h"
 #include "trace.h"
-#include "variables.h"
 
 /* The most locks that a thread holds. */
 #define MOST_HELD 64
@@ -198,21 +198,31 @@ static void say_program(void)
         say("%.*s, process %u: ", RING_NAME_BYTES, recording.ring->program, atomic_load(&recording.ring->owner));
 }
 
-static void say_memory(uint64_t address, uint32_t bytes)
+/* What a file's symbols call an address. False if nothing. */
+static bool say_variable(uint64_t address)
 {
     char name[PLAIN_BYTES];
-    if (symbol_of(address, name))
-        say("%s, ", name);
+    const struct symbol *found = sites_variable(address);
+    if (!found)
+        return false;
+    plain_symbol(found->name, name);
+    say("%s", name);
+    if (address > found->begin)
+        say("+%" PRIu64, address - found->begin);
+    return true;
+}
+
+static void say_memory(uint64_t address, uint32_t bytes)
+{
+    if (say_variable(address))
+        say(", ");
     say("%" PRIu32 " byte%s at 0x%" PRIx64, bytes, bytes == 1 ? "" : "s", address);
 }
 
 static void say_lock(const struct lock *lock)
 {
-    char name[PLAIN_BYTES];
     uint32_t rest;
-    if (symbol_of(lock->address, name))
-        say("%s", name);
-    else
+    if (!say_variable(lock->address))
         say("the lock at 0x%" PRIx64, lock->address);
     say("%s", lock->writes ? "" : ", to read");
     if (!lock->place)
