@@ -25,8 +25,8 @@ from record_tests import ENDS, PRINTED, RUN, SOURCES, STATUS, TOP, WORKERS, Find
 PROGRAMS = SOURCES / "online"
 # Those of tests/record whose lines race in each run, or never.
 CLEAN = ("cancelled.c", "lives.c", "handover.cpp", "operators.cpp", "recursive.cpp", "gives.cpp", "clocks.c")
-RACING = ("annotations.c", "counter.c", "double_checked.cpp", "forks.c", "jumps.c", "queue.cpp", "recycle.cpp", "signals.c", "spin.c", "table.cpp", "thread_pool.cpp",
-    "trylock.c", "two_locks.c")
+RACING = ("annotations.c", "counter.c", "double_checked.cpp", "forks.c", "jumps.c", "queue.cpp", "recycle.cpp", "signals.c", "spin.c", "table.cpp",
+    "thread_pool.cpp", "trylock.c", "two_locks.c")
 # Each built program is run so often.
 RUNS = int(os.environ.get("ONLINE_RUNS", 3))
 WAYS = (("gcc", "-O0"), ("gcc", "-O2"), ("clang", "-O0"), ("clang", "-O2"))
@@ -222,8 +222,14 @@ def rules(folder, findings):
         numbers = totals(watched.report)
         is_right = fault is None and (numbers["races"], numbers["suppressed"]) == (10 * len(left), 20 - 10 * len(left))
         findings.check(f"a rule of {name} online", is_right, fault or watched.report)
-    for text, says in (("site\n", "1: missing operand"), ("# x\nsite a b\n", "2: extra operand"), ("words 1 z\n", "1: bad number"), ("words 0x1000000000000 1\n", "1: address out of range"),
-                       (f"site {'x' * 129}\n", "1: bad name"), ("eraser suppressions 2\nfunction work\n", "2: --online takes rules of `site` and `words` alone")):
+    for text, says in (
+        ("site\n", "1: missing operand"),
+        ("# x\nsite a b\n", "2: extra operand"),
+        ("words 1 z\n", "1: bad number"),
+        ("words 0x1000000000000 1\n", "1: address out of range"),
+        (f"site {'x' * 129}\n", "1: bad name"),
+        ("eraser suppressions 2\nfunction work\n", "2: --online takes rules of `site` and `words` alone"),
+    ):
         path = folder / "bad.rules"
         path.write_text(text)
         done = command([RUN, "--online", "--suppress", path, program])
