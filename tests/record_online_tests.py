@@ -102,6 +102,9 @@ def hosts(folder, findings):
     watched = Watched(folder, "host", host, plugin)
     fault = watched.fault(marked(SOURCES / "late/plugin.c", "RACE"))
     findings.check("a plugin online", fault is None, fault)
+    watched = Watched(folder, "late", "env", "-u", "LD_PRELOAD", host, plugin)
+    is_told = "record: LD_PRELOAD was taken from a program that isn't instrumented and loads what is: " in watched.done.stderr
+    findings.check("a plugin online, and no LD_PRELOAD", watched.done.returncode == 0 and is_told and totals(watched.report), f"{watched.done} {watched.report}")
 
 
 def standard_library(folder, findings):
@@ -140,6 +143,18 @@ def at_once(folder, findings):
     site = "".join(marked(SOURCES / "ends.c", "RACE"))
     is_right = first.startswith(f"race: {site}: ") and is_running and totals(rest) and child.returncode == 128 + signal.SIGTERM
     findings.check("a race is written when it happens", is_right, f"{first!r} {is_running} {rest!r} {errors!r} {child.returncode}")
+
+
+# ---- What ends in the middle ----
+
+
+def cut(folder, findings):
+    """A thread that is cancelled at any instruction, or a handler that leaves by longjmp, leaves no part of the detector locked, and no event is lost."""
+    for compiler, level in WAYS:
+        program = made(folder, findings, PROGRAMS / "cut.c", compiler, level)
+        watched = Watched(folder, program.name, program)
+        is_right = (watched.done.returncode, watched.done.stdout) == (0, "200\n") and totals(watched.report).get("threads") == 201
+        findings.check(f"{program.name} online", is_right and " events watched, 0 lost" in watched.done.stderr, f"{watched.done} {watched.report}")
 
 
 # ---- What goes on for long ----
@@ -284,7 +299,7 @@ def tests(record):
     with tempfile.TemporaryDirectory() as name, concurrent.futures.ThreadPoolExecutor(WORKERS) as pool:
         folder = pathlib.Path(name)
         parts = []
-        for number, part in enumerate((ends, hosts, standard_library, told, at_once, rounds, crowd, handed, children, stops, rules, refused, statuses)):
+        for number, part in enumerate((ends, hosts, standard_library, told, at_once, cut, rounds, crowd, handed, children, stops, rules, refused, statuses)):
             (folder / str(number)).mkdir()
             parts.append(pool.submit(part, folder / str(number), findings))
         for program in (*CLEAN, *RACING):

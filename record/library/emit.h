@@ -140,6 +140,8 @@ void online_take(enum event_kind kind, uint32_t size, uint64_t first, uint64_t s
 bool online_begin(struct ring *ring);
 /* The number of this thread, as the detector has it. 0 if it can't have one. */
 uint32_t online_number(void);
+/* This thread counts as ended. */
+void online_end_of_thread(void);
 
 /* An event that has its ticket and is not published yet. */
 struct draft {

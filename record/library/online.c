@@ -6,6 +6,7 @@
 #if IS_ONLINE
 
 #include <errno.h>
+#include <pthread.h>
 #include <signal.h>
 #include <string.h>
 #include <sys/syscall.h>
@@ -26,16 +27,29 @@ struct held {
     uint32_t stack, rounds;
 };
 
-/* What a thread knows of itself beside its `self`. */
-static __thread struct {
+/* What a thread knows of itself beside its `self`, in memory of the detector. */
+struct own {
     struct held held[MOST_HELD];
     unsigned count;
-    unsigned ignoring;    /* depth of its ignore brackets */
-    uint32_t released;    /* how many of `releases` it has looked at */
-    uint64_t site;        /* of the access that is told, and the stack pointer of its hook */
+    unsigned ignoring;  /* depth of its ignore brackets */
+    uint32_t released;  /* how many of `releases` it has looked at */
+    uint32_t refusal;   /* of a part of memory that changes hands, or ERASER_QUIET */
+    uint64_t site;      /* of the access that is told, and the stack pointer of its hook */
     uintptr_t pointer;
-    uint64_t ticket;      /* of the last race */
-    bool is_inside;       /* the detector is being told of an event */
+    uint64_t ticket;    /* of the last race */
+    struct {
+        volatile int number;
+        siginfo_t info;
+        sigset_t mask;  /* what was blocked before */
+    } deferred;
+};
+
+/* Small, since a program that isn't started with this library may have little room for it. */
+static __thread struct {
+    struct own *own;
+    bool is_inside;  /* the detector is being told of an event */
+    bool has_ended;  /* the thread counts as ended, and what it still does is not watched */
+    bool may_be_cancelled; /* at any instruction */
 } mine __attribute__((tls_model("initial-exec")));
 
 static eraser_detector *detector;
@@ -60,7 +74,8 @@ static void note_release(uint64_t lock)
 
 static struct held *find_held(uint64_t lock)
 {
-    for (struct held *held = mine.held; held < mine.held + mine.count; held++)
+    struct own *own = mine.own;
+    for (struct held *held = own->held; held < own->held + own->count; held++)
         if (held->lock == lock)
             return held;
     return NULL;
@@ -71,18 +86,18 @@ static const volatile void *at(uint64_t address)
     return (const volatile void *)(uintptr_t)address;
 }
 
-/* The thread holds the lock no more, however often it took it. */
+/* The thread holds the lock no more, however often it took it. The detector was told once. */
 static void drop_held(struct held *held)
 {
-    while (eraser_unlocking(detector, at(held->lock)) == ERASER_QUIET)
-        ;
-    memmove(held, held + 1, (size_t)(mine.held + --mine.count - held) * sizeof *held);
+    struct own *own = mine.own;
+    eraser_unlocking(detector, at(held->lock));
+    memmove(held, held + 1, (size_t)(own->held + --own->count - held) * sizeof *held);
 }
 
 static __attribute__((noinline)) void look_at_releases(uint32_t count)
 {
-    uint32_t first = count - mine.released > RELEASES ? count - RELEASES : mine.released;
-    mine.released = count;
+    uint32_t first = count - mine.own->released > RELEASES ? count - RELEASES : mine.own->released;
+    mine.own->released = count;
     for (uint32_t nth = first; nth != count; nth++) {
         struct held *held = find_held(atomic_load_explicit(&releases[nth % RELEASES], memory_order_relaxed));
         if (held)
@@ -100,11 +115,12 @@ static uint32_t take_lock(uint64_t lock, uint64_t place, bool writes)
         held->rounds++;
         return ERASER_QUIET;
     }
-    uint32_t status = mine.count < MOST_HELD ? eraser_locked(detector, at(lock), writes) : ERASER_HELD_FULL;
+    struct own *own = mine.own;
+    uint32_t status = own->count < MOST_HELD ? eraser_locked(detector, at(lock), writes) : ERASER_HELD_FULL;
     if (status != ERASER_QUIET)
         return status;
     mark_lock(lock);
-    mine.held[mine.count++] = (struct held){lock, place, place ? stack_look_from(mine.pointer, place) : 0, 1};
+    own->held[own->count++] = (struct held){lock, place, place ? stack_look_from(own->pointer, place) : 0, 1};
     return ERASER_QUIET;
 }
 
@@ -137,20 +153,18 @@ static void end_locks(uint64_t begin, uint64_t end)
 
 /* ---- Memory ---- */
 
-static __thread uint32_t status_of_reuse __attribute__((tls_model("initial-exec")));
-
 static void reuse(uint64_t begin, uint64_t end)
 {
     uint32_t status = eraser_freeing(detector, at(begin), end - begin);
     if (status != ERASER_QUIET)
-        status_of_reuse = status;
+        mine.own->refusal = status;
 }
 
 static uint32_t take_reuse(uint64_t address, uint64_t size)
 {
-    status_of_reuse = ERASER_QUIET;
+    mine.own->refusal = ERASER_QUIET;
     marks_visit(address, size, reuse, end_locks);
-    return status_of_reuse;
+    return mine.own->refusal;
 }
 
 /* ---- Ignore brackets ---- */
@@ -158,9 +172,9 @@ static uint32_t take_reuse(uint64_t address, uint64_t size)
 static uint32_t change_ignoring(bool begins)
 {
     uint32_t status = ERASER_QUIET;
-    if (begins && !mine.ignoring++)
+    if (begins && !mine.own->ignoring++)
         status = eraser_ignore_begin(detector);
-    else if (!begins && mine.ignoring && !--mine.ignoring)
+    else if (!begins && mine.own->ignoring && !--mine.own->ignoring)
         status = eraser_ignore_end(detector);
     return status;
 }
@@ -172,7 +186,7 @@ static void send(enum event_kind kind, uint32_t stack, uint32_t size, uint64_t f
     struct draft draft;
     if (!ring_draw(&draft))
         return;
-    mine.ticket = draft.ticket;
+    mine.own->ticket = draft.ticket;
     ring_publish(&draft, kind, stack, size, first, second);
 }
 
@@ -186,7 +200,7 @@ static void on_race(void *nothing, const struct eraser_race *race)
         const struct held *held = find_held((uintptr_t)race->locks[nth]);
         send(EVENT_RACE_LOCK, held ? held->stack : 0, race->lock_writes[nth], (uintptr_t)race->locks[nth], held ? held->place : 0);
     }
-    send(race->writes ? EVENT_RACE_WRITE : EVENT_RACE_READ, stack_look(mine.pointer), (uint32_t)race->size, (uintptr_t)race->address, mine.site);
+    send(race->writes ? EVENT_RACE_WRITE : EVENT_RACE_READ, stack_look(mine.own->pointer), (uint32_t)race->size, (uintptr_t)race->address, mine.own->site);
 }
 
 /* Places at which a thread was stopped, by hashes of them. If it is full, nobody is stopped. */
@@ -213,20 +227,15 @@ static __attribute__((noinline)) void stop(uint64_t site, bool writes)
     if (!ring || !ring->stops || !is_new_stop(site << 1 | writes))
         return;
     struct timespec pause = {0, 1000000};
-    while (!atomic_load(&ring->stop) && atomic_load(&ring->head) <= mine.ticket && syscall(SYS_kill, ring->writer, 0) == 0)
+    while (!atomic_load(&ring->stop) && atomic_load(&ring->head) <= mine.own->ticket && syscall(SYS_kill, ring->writer, 0) == 0)
         syscall(SYS_nanosleep, &pause, NULL);
     syscall(SYS_tgkill, syscall(SYS_getpid), syscall(SYS_gettid), SIGTRAP);
 }
 
-/* ---- Signals ---- */
-
-/* A handler may leave by longjmp what it has interrupted, which would leave a shard of the detector locked. So a signal that comes while the detector is told
+/* ---- Signals ----
+ *
+ * A handler may leave by longjmp what it has interrupted, which would leave a shard of the detector locked. So a signal that comes while the detector is told
  * of an event is sent again when it has been told, and none comes in between. */
-static __thread struct {
-    volatile int number;
-    siginfo_t info;
-    sigset_t mask; /* what was blocked before */
-} deferred __attribute__((tls_model("initial-exec")));
 
 /* What the program has asked for. */
 static struct { _Atomic uintptr_t handler; _Atomic int flags; sigset_t mask; } actions[NSIG];
@@ -246,10 +255,10 @@ static void set_mask(const sigset_t *mask)
 static __attribute__((noinline)) void deliver(void)
 {
     int error = errno;
-    sigset_t mask = deferred.mask;
-    siginfo_t info = deferred.info;
-    int number = deferred.number;
-    deferred.number = 0;
+    sigset_t mask = mine.own->deferred.mask;
+    siginfo_t info = mine.own->deferred.info;
+    int number = mine.own->deferred.number;
+    mine.own->deferred.number = 0;
     syscall(SYS_rt_tgsigqueueinfo, syscall(SYS_getpid), syscall(SYS_gettid), number, &info);
     set_mask(&mask);
     errno = error;
@@ -266,9 +275,9 @@ static void handle(int number, siginfo_t *info, void *context)
 {
     ucontext_t *interrupted = context;
     if (mine.is_inside && !is_fault(number, info)) {
-        deferred.info = *info;
-        deferred.mask = interrupted->uc_sigmask;
-        deferred.number = number;
+        mine.own->deferred.info = *info;
+        mine.own->deferred.mask = interrupted->uc_sigmask;
+        mine.own->deferred.number = number;
         sigfillset(&interrupted->uc_sigmask);
         return;
     }
@@ -364,32 +373,76 @@ static inline void count(struct ring *ring, bool is_access)
         ring->lanes[course->lane].watched[!is_access]++;
 }
 
+/* At a thread's first event. No signal comes meanwhile, since it couldn't be kept. */
+static __attribute__((noinline)) bool has_own(void)
+{
+    if (mine.own || mine.has_ended)
+        return mine.own != NULL;
+    sigset_t all, before;
+    sigfillset(&all);
+    syscall(SYS_rt_sigprocmask, SIG_SETMASK, &all, &before, NSIG / 8);
+    mine.own = eraser_take(sizeof *mine.own);
+    if (mine.own)
+        memset(mine.own, 0, sizeof *mine.own);
+    if (mine.own)
+        mine.own->released = atomic_load(&release_count);
+    set_mask(&before);
+    return mine.own != NULL;
+}
+
+static void tell(struct ring *ring, enum event_kind kind, uint32_t size, uint64_t first, uint64_t second)
+{
+    int error = errno;
+    uint32_t released = atomic_load_explicit(&release_count, memory_order_acquire);
+    if (UNLIKELY(released != mine.own->released))
+        look_at_releases(released);
+    count(ring, kind <= EVENT_WRITE);
+    mine.own->site = second;
+    uint32_t status = take(kind, size, first, second);
+    errno = error;
+    set_inside(false);
+    if (UNLIKELY(mine.own->deferred.number))
+        deliver();
+    if (UNLIKELY(status > ERASER_IGNORED))
+        count_lost(ring);
+    if (UNLIKELY(status == ERASER_RACE))
+        stop(second, kind == EVENT_WRITE);
+}
+
 void online_take(enum event_kind kind, uint32_t size, uint64_t first, uint64_t second, uintptr_t pointer)
 {
     struct ring *ring = attached->ring;
-    if (kind == EVENT_VOID)
+    int type;
+    if (kind == EVENT_VOID || !ring || mine.has_ended)
         return;
-    if (UNLIKELY(mine.is_inside)) {
+    if (UNLIKELY(mine.is_inside || (!mine.own && !has_own()))) {
         count_lost(ring);
         return;
     }
+    if (UNLIKELY(mine.may_be_cancelled))
+        REAL(pthread_setcanceltype)(PTHREAD_CANCEL_DEFERRED, &type);
     set_inside(true);
-    int error = errno;
-    uint32_t released = atomic_load_explicit(&release_count, memory_order_acquire);
-    if (UNLIKELY(released != mine.released))
-        look_at_releases(released);
-    mine.site = second;
-    mine.pointer = pointer;
-    count(ring, kind <= EVENT_WRITE);
-    uint32_t status = take(kind, size, first, second);
-    if (UNLIKELY(status > ERASER_IGNORED))
-        count_lost(ring);
-    errno = error;
-    set_inside(false);
-    if (UNLIKELY(deferred.number))
-        deliver();
-    if (UNLIKELY(status == ERASER_RACE))
-        stop(second, kind == EVENT_WRITE);
+    mine.own->pointer = pointer;
+    tell(ring, kind, size, first, second);
+    if (UNLIKELY(mine.may_be_cancelled))
+        REAL(pthread_setcanceltype)(PTHREAD_CANCEL_ASYNCHRONOUS, &type);
+}
+
+/* A thread that is cancelled while the detector is told of an event would leave it locked. So it is at none of these instructions. (That its state says that
+ * it is not to be cancelled is not enough: the C library looks at that before it sends the signal, and not when it comes.) */
+HOOK int pthread_setcanceltype(int type, int *before)
+{
+    int result = REAL(pthread_setcanceltype)(type, before);
+    if (result == 0)
+        mine.may_be_cancelled = type == PTHREAD_CANCEL_ASYNCHRONOUS;
+    return result;
+}
+
+void online_end_of_thread(void)
+{
+    mine.has_ended = true;
+    eraser_give(mine.own);
+    mine.own = NULL;
 }
 
 uint32_t online_number(void)
@@ -400,7 +453,8 @@ uint32_t online_number(void)
 bool online_begin(struct ring *ring)
 {
     marks_forget();
-    memset(&mine, 0, sizeof mine);
+    eraser_give(mine.own);
+    mine.own = NULL;
     atomic_store(&release_count, 0);
     atomic_flag_clear(&releases_change);
     detector = eraser_start(&(struct eraser_options){.on_race = on_race});

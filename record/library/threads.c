@@ -49,6 +49,8 @@ static void end_thread(void *again)
         dl_iterate_phdr(reuse_local, NULL);
     emit_reuse(stack.begin, stack.size);
     emit_leave_lanes();
+    if (IS_ONLINE)
+        online_end_of_thread();
     if (KEEPS_STACKS)
         stack_end();
 }

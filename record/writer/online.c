@@ -21,6 +21,7 @@
 /* A race that comes in parts from one thread, with other threads' events in between. */
 struct lock {
     uint64_t address, place;
+    uint32_t stack;
     bool writes;
 };
 struct race {
@@ -228,7 +229,7 @@ static void say_lock(const struct lock *lock)
     if (!lock->place)
         return;
     say(", taken at ");
-    say_site(site_of_access(lock->place, 0, &rest));
+    say_site(site_of_access(lock->place, lock->stack, &rest));
 }
 
 static void say_locks(const struct race *race)
@@ -284,7 +285,7 @@ void online_take(const struct slot *slot)
         break;
     case EVENT_RACE_LOCK:
         if (race->count < MOST_HELD)
-            race->locks[race->count++] = (struct lock){slot->first, slot->second, slot->size};
+            race->locks[race->count++] = (struct lock){slot->first, slot->second, slot_stack(slot) & ~STACK_CUT, slot->size};
         break;
     default:
         report(race, slot);
