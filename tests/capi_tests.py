@@ -134,12 +134,15 @@ class Expected:
             return None
         return of.accesses[0][0] if of.joining() is None else (of.written(), frozenset(of.candidates()))
 
+    def slot(self, word):
+        return (word // 1024 * 0x9E3779B97F4A7C15 % 2**64 >> 40) % 4, word % 128
+
     def others(self, thread, word):
         """Which other threads may be told to have used the word before: 4 if that may be unknown."""
         users = self.users.setdefault(word, set())
         known = users - {thread}
         users.add(thread)
-        slot = self.slots.setdefault((word // 1024 % 4, word % 128), set())
+        slot = self.slots.setdefault(self.slot(word), set())
         slot.add(word)
         return sorted(known | ({4} if len(slot) > 1 or not known else set()))
 
