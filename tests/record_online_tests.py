@@ -43,7 +43,7 @@ def sites(report):
 
 def totals(report):
     """The numbers of the last line."""
-    found = re.search(r"^races (\d+), suppressed (\d+), accesses (\d+), threads (\d+), memory (\d+) KiB$", report, re.M)
+    found = re.search(r"^(?:.*, process \d+: )?races (\d+), suppressed (\d+), accesses (\d+), threads (\d+), memory (\d+) KiB$", report, re.M)
     return dict(zip(("races", "suppressed", "accesses", "threads", "memory"), map(int, found.groups()))) if found else {}
 
 

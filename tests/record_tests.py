@@ -784,6 +784,10 @@ def allocators(record):
                     sites = set(re.findall(r": (?:race|unordered): .* at (\S+), holds", found.stdout))
                     is_right = (found.returncode, found.stderr, sites) == (0, "", marked(source, "RACE")) and found.stdout.startswith("7200\n")
                     findings.check(f"{way} with {compiler} by {analysis}", is_right, f"{sites} {found.returncode} {found.stderr}")
+                found = command([RUN, "-q", "--online", "--report", "-", made], env={**os.environ, **preloaded})
+                sites = set(re.findall(r"^race: (\S+): t", found.stdout, re.M))
+                is_right = (found.returncode, found.stderr, sites) == (0, "", marked(source, "RACE")) and "7200\n" in found.stdout
+                findings.check(f"{way} with {compiler} online", is_right, f"{sites} {found.returncode} {found.stderr} {found.stdout}")
                 trace = pathlib.Path(name) / "recycle.trace"
                 found = command([RUN, "-q", "--order", "-o", trace, made], env={**os.environ, **preloaded})
                 brackets = trace.read_text().count(" ignore-on\n")

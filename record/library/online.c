@@ -373,19 +373,24 @@ static inline void count(struct ring *ring, bool is_access)
         ring->lanes[course->lane].watched[!is_access]++;
 }
 
-/* At a thread's first event. No signal comes meanwhile, since it couldn't be kept. */
-static __attribute__((noinline)) bool has_own(void)
+/* Signals couldn't be kept for later. What was blocked before. */
+static sigset_t block_signals(void)
 {
-    if (mine.own || mine.has_ended)
-        return mine.own != NULL;
     sigset_t all, before;
     sigfillset(&all);
     syscall(SYS_rt_sigprocmask, SIG_SETMASK, &all, &before, NSIG / 8);
+    return before;
+}
+
+/* At a thread's first event. */
+static __attribute__((noinline)) bool has_own(void)
+{
+    sigset_t before = block_signals();
     mine.own = eraser_take(sizeof *mine.own);
-    if (mine.own)
+    if (mine.own) {
         memset(mine.own, 0, sizeof *mine.own);
-    if (mine.own)
         mine.own->released = atomic_load(&release_count);
+    }
     set_mask(&before);
     return mine.own != NULL;
 }
@@ -440,9 +445,11 @@ HOOK int pthread_setcanceltype(int type, int *before)
 
 void online_end_of_thread(void)
 {
+    sigset_t before = block_signals();
     mine.has_ended = true;
     eraser_give(mine.own);
     mine.own = NULL;
+    set_mask(&before);
 }
 
 uint32_t online_number(void)

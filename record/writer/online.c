@@ -192,10 +192,10 @@ static struct counted *count_race(const char *site, size_t bytes, bool writes)
     return one;
 }
 
-/* A further program says which one it is. */
+/* Of several programs each one says which it is. */
 static void say_program(void)
 {
-    if (recording.number > 1)
+    if (further_count() > 1)
         say("%.*s, process %u: ", RING_NAME_BYTES, recording.ring->program, atomic_load(&recording.ring->owner));
 }
 
@@ -276,6 +276,9 @@ static void report(const struct race *race, const struct slot *slot)
 
 void online_take(const struct slot *slot)
 {
+    /* The program may have written anything into the ring. */
+    if (!options.is_online)
+        return;
     struct race *race = find_race(slot->thread);
     switch (slot_kind(slot)) {
     case EVENT_RACE_WORD:
