@@ -50,6 +50,6 @@ int main(void)
         use_all();
     setitimer(ITIMER_REAL, &(struct itimerval){{0, 0}, {0, 0}}, NULL);
     use_all();
-    printf("%d\n", rounds);
+    printf("%d\n", rounds >= 200);
     return 0;
 }
