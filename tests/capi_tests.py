@@ -51,7 +51,7 @@ def command(words, **more):
 
 def build(folder, name, *flags, layer=CAPI / "eraser_pthread.c"):
     """A program of tests/capi with the layer's sources, by gcc with these flags."""
-    target = folder / f"{name}{''.join(flags).replace('=', '-')}"
+    target = folder / f"{name}{''.join(flags).replace('=', '-').replace('/', '-')}"
     flags = [*WARNINGS, *flags, *LINKED.get(name, [])]
     sources = [SOURCES / f"{name}.c", layer, CAPI / "eraser_memory.c"]
     done = command(["gcc", "-std=c11", "-D_GNU_SOURCE", "-g", "-O1", *flags, f"-I{CAPI}", *sources, archive(), "-o", target, "-pthread"])
@@ -241,8 +241,8 @@ def differing(found, wanted):
     return next((f"line {at}: {a!r}, not {b!r}" for at, (a, b) in enumerate(pairs, 1) if a != b), f"{len(found.splitlines())} lines")
 
 
-def random_lists(record, driver, of_layer):
-    name = "layer" if of_layer else "proved calls"
+def random_lists(record, driver, of_layer, name=None):
+    name = name or ("layer" if of_layer else "proved calls")
     races = 0
 
     def run(text):
@@ -256,6 +256,14 @@ def random_lists(record, driver, of_layer):
             is_right = (found.returncode, answered, found.stderr) == (0, wanted, "")
             record(f"capi: random list {seed} by the {name}", is_right, f"{found.returncode} {found.stderr} {differing(answered, wanted)}")
     record(f"capi: the random lists by the {name} have races", races > LISTS, f"{races}")
+
+
+def own_pages(record, folder):
+    """The same over pages of its own, as record/run --online has it."""
+    driver, built = build(folder, "layer", "-O1", "-DERASER_OWN_PAGES", f"-include{CAPI}/eraser_memory.h")
+    record("capi: the layer over pages of its own is built", built.returncode == 0 and built.stderr == "", f"{built}")
+    if built.returncode == 0:
+        random_lists(record, driver, True, "layer over pages of its own")
 
 
 def refused_lists(record, folder, driver, of_layer):
@@ -458,6 +466,7 @@ def tests(record):
             if built.returncode == 0:
                 random_lists(record, driver, of_layer)
                 refused_lists(record, folder, driver, of_layer)
+        own_pages(record, folder)
         programs(record, folder)
         planted(record, folder)
         printed_place(record, folder)
