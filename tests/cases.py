@@ -287,6 +287,8 @@ SUPPRESSED = [
     told("pattern_takes_no_missing_site", "t1 write x S; t2 write x", f"line 3: {RACE}; suppression 1: 0", (2, 1, 0, 0), 1, rules="eraser suppressions 2; site *"),
     told("stars_without_a_header", "t1 write x a*b; t2 write x a*b; t1 write 0x2000 a++b; t2 write 0x2000 a++b; end",
          "line 5: race: t2 write 0x000000002000 at a++b, holds none; suppression 1: 1", (4, 1, 1, 0), 1, header=ORDERED, rules="site a*b"),
+    told("facts_of_a_text", "t1 write x a.c:1; t2 write x a.c:1", "line 3: race: t2 write x at a.c:1, holds none; suppression 1: 0; suppression 2: 0; suppression 3: 0",
+         (2, 1, 0, 0), 1, rules="eraser suppressions 2; frame a.c:1; function *; variable *"),
     told("header_alone", "t1 write x; t2 write x", f"line 3: {RACE}", (2, 1, 0, 0), 1, rules="\teraser  suppressions 2 ; # c"),
     told("suppressions_of_all_words", "t1 write 0xffffffffffff; t2 write 0xffffffffffff", "suppression 1: 1", (2, 0, 1, 0), rules="words 0 281474976710656"),
 ]
@@ -356,7 +358,12 @@ FAULTY_RULES = [
     faulty_rules("second_header", b"eraser suppressions 2\neraser suppressions 2\n", 2, "bad verb"),
     faulty_rules("header_of_a_later_edition", b"eraser suppressions 3\n", 1, "bad verb"),
     faulty_rules("header_of_four_words", b"eraser suppressions 2 2\n", 1, "bad verb"),
-    faulty_rules("rule_of_a_later_kind", b"eraser suppressions 2\nframe main\n", 2, "bad verb"),
+    faulty_rules("rule_of_a_later_kind", b"eraser suppressions 2\nthread main\n", 2, "bad verb"),
+    faulty_rules("frame_in_the_first_edition", b"# frame a\nframe a\n", 2, "bad verb"),
+    faulty_rules("function_in_the_first_edition", b"site a\nfunction a\n", 2, "bad verb"),
+    faulty_rules("frame_without_a_pattern", b"eraser suppressions 2\nframe\n", 2, "missing operand"),
+    faulty_rules("function_of_two_patterns", b"eraser suppressions 2\nsite a\nfunction a b\n", 3, "extra operand"),
+    faulty_rules("variable_of_a_long_name", b"eraser suppressions 2\nvariable " + b"x" * 129 + b"\n", 2, "bad name"),
     faulty_rules("bad_pattern", b"eraser suppressions 2\nsite " + b"*" * 129 + b"\n", 2, "bad name"),
     faulty_rules("rule_too_long", b"#" + b"a" * 1024 + b"\n", 1, "line too long"),
 ]

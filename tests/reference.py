@@ -182,18 +182,30 @@ class Pattern(collections.namedtuple("Pattern", "text")):
         return site != b"-" and re.fullmatch(b".*".join(pieces), site, re.DOTALL) is not None
 
 
+class FactPattern(Pattern):
+    """A pattern of what a trace 4 may say of a race: no site tells it."""
+
+    def takes(self, site):
+        return False
+
+
+FACTS = (b"frame", b"function", b"variable")
+
+
 def rule_of(line, words, is_second):
-    """A site, or in the second edition a pattern of sites, or the first and the last word of a run of bytes, which are the wrong way round where
-    it is of no byte."""
-    wanted = {b"site": 1, b"words": 2}.get(words[0])
+    """A site, or in the second edition a pattern of sites or of what a trace says, or the first and the last word of a run of bytes, which are the
+    wrong way round where it is of no byte."""
+    wanted = {b"site": 1, b"words": 2, **dict.fromkeys(FACTS if is_second else (), 1)}.get(words[0])
     if wanted is None:
         raise Fault(line, "bad verb")
     operands = words[1:]
     if len(operands) != wanted:
         raise Fault(line, "missing operand" if len(operands) < wanted else "extra operand")
-    if words[0] == b"site":
+    if wanted == 1:
         if not is_site(operands[0], b"3"):
             raise Fault(line, "bad name")
+        if words[0] in FACTS:
+            return FactPattern(operands[0])
         return Pattern(operands[0]) if is_second and b"*" in operands[0] else operands[0]
     address, size = number(operands[0]), number(operands[1])
     if address is None or size is None:
@@ -442,6 +454,7 @@ def random_rules(seed):
         lines.append(dice.choice([f"site {site}", f"words {address} {size}", "", "# a comment"]))
     if dice.randrange(2):
         lines.insert(dice.choice([0, 0, 0, dice.randrange(len(lines) + 1)]), dice.choice(["eraser suppressions 2", " eraser\tsuppressions 2 ", "eraser suppressions 1"]))
+        lines += [f"{kind.decode()} {dice.choice(['a.c:7', '*', 'main'])}" for kind in FACTS if dice.randrange(3) == 0]
     text = "\n".join(lines).encode() + dice.choice([b"", b"\n"])
     if dice.randrange(5) == 0:
         at = dice.randrange(len(text) + 1)

@@ -277,7 +277,7 @@ def unused_rules(record, folder):
             plain = run(["replay", *options, *analysis, "--suppress", path, "-"], text)
             found = run(["replay", *options, *analysis, "--suppress", path, "--unused-rules", "-"], text)
             numbers = [place for place, count in enumerate(counts_in(plain[0]), 1) if count == 0]
-            told = [int(number) for number in re.findall(rb"unused suppression (\d+): (?:site \S+|words 0x[0-9a-f]{12} \d+|words 0 0)\n", found[1])]
+            told = [int(number) for number in re.findall(rb"unused suppression (\d+): (?:(?:site|frame|function|variable) \S+|words 0x[0-9a-f]{12} \d+|words 0 0)\n", found[1])]
             notes = notes_behind(text, plain[0])
             is_right = (found[0], found[2]) == (plain[0], plain[2]) and told == numbers and found[1].endswith(notes) and found[1].count(b"\n") == len(numbers) + notes.count(b"\n")
             record(f"{name} {' '.join(analysis)}: unused rules", is_right, f"{found}, {numbers}")

@@ -22,7 +22,7 @@ use Rattle.er_report.specs.declared.report.Line.{Line}
 use Rattle.er_report.specs.declared.report.Line.TheVariants.{Race, Reused, Refused, Shown}
 use Rattle.er_report.specs.declared.report.Report.{Report}
 use Rattle.er_report.specs.declared.reports.Reports.{Reports}
-use Rattle.er_rules.specs.Rules.{Target, AtSite, AtSites, AtWords}
+use Rattle.er_rules.specs.Rules.{Target, AtSite, AtSites, AtWords, AtFact}
 use Rattle.er_json.specs.Places.{file_end}
 use Rattle.er_json.specs.Uris.{uri_byte}
 use Rattle.er_print.specs.declared.lines.ReportKind.{ReportKind}
@@ -210,6 +210,7 @@ abbrev pub target_location : Target → List ℕ
 target_location (AtSite (Some name)) = location_member name
 target_location (AtSite None) = []
 target_location (AtSites pattern) = []
+target_location (AtFact kind pattern) = []
 target_location (AtWords words) = []
 
 -- that they count as suppressed, by the rule of this text and number; the fingerprint is the same in each run

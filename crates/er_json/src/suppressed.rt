@@ -85,7 +85,7 @@ fn put_place(out: &mut Vec<u8>, rule: &Rule) -> Put
 {
     match rule {
         Rule::Site(Some(name)) => put_location(out, name.as_bytes()),
-        Rule::Site(None) | Rule::Sites(_) | Rule::Words(_) => Ok(()),
+        Rule::Site(None) | Rule::Sites(_) | Rule::Words(_) | Rule::Fact(..) => Ok(()),
     }
 }
 

@@ -91,7 +91,7 @@ pub struct Birth {
 pub struct Facts {
     alloc: Global,
     // Whether memory was refused. Then what was noted may lack something, and isn't told.
-    failed: bool,
+    pub(crate) failed: bool,
     // The wanted lines and words, rising. Of the lines `met` are among the first `lines` of the text.
     wanted: Vec<u64>,
     words: Vec<u64>,
@@ -378,13 +378,11 @@ impl<R: Drop> Noting<R> {
 impl<R: Read> Noting<R> {
     /// Reads the rest of a binary trace, which may have facts.
     pub fn read_on(&mut self) {
-        if !self.decoded.is_binary() {
-            return;
-        }
         let mut buffer = [0; 4096];
         for _ in 0..u64::MAX {
             match self.read(&mut buffer) {
                 Ok(0) | Err(_) => return,
+                Ok(_) if !self.decoded.is_binary() => return,
                 Ok(_) => {}
             }
         }

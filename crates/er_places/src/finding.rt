@@ -1,20 +1,22 @@
 //! A second look at a trace text, batch by batch.
-ghost use Rattle.std.specs.Prelude.{IsSorted, ◌≡◌, ◌<◌, ◌≤◌, ◌+◌, ◌^◌, ◌++◌, ◌||◌, ℕ, List, Option, All, false, true, length, IfSome, IfOk, IfErr, OnOk};
+ghost use Rattle.std.specs.Prelude.{IsSorted, ◌≡◌, ◌<◌, ◌≤◌, ◌+◌, ◌^◌, ◌++◌, ◌||◌, ℕ, List, Option, All, false, true, None, length, nat_eq, IfSome, IfOk, IfErr, OnOk};
 ghost use Rattle.std.specs.Ordering.{nat_cmp};
 ghost use Rattle.er_places.specs.Facts.{IsFresh, lines_asked, words_asked};
 ghost use Rattle.er_device.specs.Device.{inner_of, has_failed, taken_of};
 ghost use Rattle.er_places.specs.Inner.Following.{HasCome, HasEnded, are_asked, is_wanted};
-ghost use Rattle.er_places.specs.Places.{ArePlaces, IsFaultOf};
+ghost use Rattle.er_places.specs.Places.{ArePlaces, IsFaultOf, place_at};
+ghost use Rattle.er_places.specs.Races.{is_raced};
 ghost use Rattle.er_lines.specs.Lines.{bytes_past_limit};
 ghost use Rattle.er_lines.specs.Faults.{HasFailedBy};
 ghost use Rattle.er_lines.specs.Lending.{taken_by};
 
 use crate::follower::Follower;
-use crate::wanted::{Numbers, Wanted, to_rising};
-use crate::{Facts, Places};
+use crate::wanted::{Numbers, Put, Wanted, to_rising};
+use crate::{Facts, Noting, Places};
+use er_binary::Decoded;
 use er_device::Device;
 use er_lines::ByText;
-use er_report::Reports;
+use er_report::{Deed, Race, Report, Reports};
 use er_text::{Batch, ReadFault, TraceReader};
 use er_trace::{NameKeys, Trace};
 use std::alloc::{AllocError, Global};
@@ -134,4 +136,51 @@ pub fn places_of_reports<D: Read>(
         Ok(()) => Ok(Places::of(alloc, finder.follower.into_places(), finder.trace)),
         Err(why) => Err(why),
     }
+}
+
+/// What a binary trace says of each race of these reports: the places and functions that led to it, and the variable that it touched. A text says nothing.
+/// No place of an access is known. A trace that can't be read to its end has said what it said before.
+pub fn facts_of_races<D: Read + Drop>(
+    alloc: Global,
+    decoded: Decoded<D>,
+    reports: &Reports,
+) -> Result<Places, AllocError>
+    ensures { IfOk result (λ places. (line : ℕ) → place_at places line ≡ None) }
+{
+    let (mut lines, mut words) = (Vec::new(alloc), Vec::new(alloc));
+    add_races(&mut lines, &mut words, &reports.lockset)?;
+    add_races(&mut lines, &mut words, &reports.unordered)?;
+    lines.sort_unstable();
+    words.sort_unstable();
+    let facts = Facts::asked(alloc, lines, words);
+    let mut noting = Noting { decoded, facts };
+    noting.read_on();
+    if noting.facts.failed {
+        return Err(AllocError);
+    }
+    Ok(Places::new(alloc).with_facts(noting.into_facts()))
+}
+
+// Adds the lines of a report's races, and the numbers of their words.
+fn add_races(lines: &mut Vec<u64>, words: &mut Vec<u64>, report: &Option<Report>) -> Put
+    ensures { OnOk result ((line : ℕ) → is_wanted lines.new.items line ≡ (is_wanted lines.old.items line || is_raced report.now line)) }
+{
+    let Some(report) = report else {
+        return Ok(());
+    };
+    for line in &report.lines {
+        if let Some(race) = line.race() {
+            add_race(lines, words, &race)?;
+        }
+    }
+    Ok(())
+}
+
+fn add_race(lines: &mut Vec<u64>, words: &mut Vec<u64>, race: &Race<'_>) -> Put
+    ensures { OnOk result ((line : ℕ) → is_wanted lines.new.items line ≡ (is_wanted lines.old.items line || nat_eq line race.now.line)) }
+{
+    if let Deed::Access(_, word) = race.deed {
+        words.push(word.number())?;
+    }
+    Ok(lines.push(race.line)?)
 }

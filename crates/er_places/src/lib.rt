@@ -3,7 +3,8 @@
 //! Begin with [`places_of_reports`]. It reads a trace text once more and gives the [`Places`] of the accesses that the reasons of the reports'
 //! first races name. [`Places::of_reason`] is the place of the access that a reason names, and [`Places::of_race`] that of a race's own access.
 //! What a binary trace says beside its text comes by [`Places::with_facts`]: [`Places::calls_of`] gives the calls that led to a place, and
-//! [`Places::function_of`], [`Places::variable_of`], [`Places::block_of`], [`Places::start_of`] and [`Places::birth_of`] name what raced.
+//! [`Places::function_of`], [`Places::variable_of`], [`Places::block_of`], [`Places::start_of`] and [`Places::birth_of`] name what raced. [`facts_of_races`]
+//! asks for that of each race alone.
 //!
 //! What it promises, by the names of clauses: of a text that is a trace, the places are those of the accesses on the wanted lines, and
 //! each is what the definitions give of the steps before it (`found`); a fault of the text is the text's first fault (`fault`). A place
@@ -24,7 +25,7 @@
 #![tactic(auto)]
 
 pub use facts::{Birth, Block, Extent, Facts, Noting, Start, Variable};
-pub use finding::{facts_of_reports, places_of_reports};
+pub use finding::{facts_of_races, facts_of_reports, places_of_reports};
 pub use places::{Legend, Place, Places};
 
 mod facts;

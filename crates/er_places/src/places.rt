@@ -1,7 +1,7 @@
 //! Where accesses stood: `Place`, and `Places` by line.
 ghost use Rattle.std.specs.Prelude.{◌≡◌, ℕ, None, Some, true, option_copied, IfSome};
 ghost use Rattle.er_places.specs.Inner.Following.{AreNamed};
-ghost use Rattle.er_places.specs.Facts.{table_of};
+ghost use Rattle.er_places.specs.Facts.{table_of, way_on};
 ghost use Rattle.er_places.specs.Names.{birth_of, block_of, call_function, function_of, has_word, start_of, variable_of, way_of};
 ghost use Rattle.er_places.specs.Places.{HasPlaceNames, call_name, calls_of, no_names, place_at};
 ghost use Rattle.er_report.specs.Names.{HasLockName};
@@ -113,10 +113,17 @@ impl Places {
     fn way_of(&self, place: Option<&Place>) -> &[u32]
         ensures { result.now ≡ way_of self.now (option_copied place.entry) }
     {
-        let Some(place) = place else {
-            return &[];
-        };
-        match self.facts.ways.get(&place.line) {
+        match place {
+            Some(place) => self.way_on(place.line),
+            None => &[],
+        }
+    }
+
+    /// The place of the event on a line and those of the calls that led there, innermost first, as numbers. There is none if they aren't known.
+    pub fn way_on(&self, line: u64) -> &[u32]
+        ensures { result.now ≡ way_on self.now.facts line }
+    {
+        match self.facts.ways.get(&line) {
             Some(way) => way.as_slice(),
             None => &[],
         }

@@ -1,6 +1,6 @@
 -- The first rule that takes a race, while rules are added one by one.
 use Rattle.std.proofs.Common.{◌≡◌, ◌∙◌, ◌≤◌, ◌+◌, ℕ, suc, min, Bool, true, false, not, ◌&&◌, ◌||◌, cond, option_map, nat_eq, nat_lt, List, [], ◌∷◌, ◌++◌, map, length, position, Option, Some, None, refl, sym, subst, ap, ap₂, arith}
-use Rattle.std.specs.List.{position_or_len}
+use Rattle.std.specs.List.{list_any, position_or_len}
 use Rattle.std.specs.Option.{option_or}
 use Rattle.std.proofs.lemmas.List.{length_push, map_push, length-map}
 use Rattle.std.proofs.lemmas.List.Folds.{position_or_len_push}
@@ -9,7 +9,7 @@ use borrow.Author.Tests.{eqb-true, eqb-false, lt-ltb, le-ltb}
 use Rattle.er_rules.specs.declared.rules.Rule.{Rule}
 use Rattle.std.proofs.lemmas.Bool.Decides.{nat_tests}
 use Rattle.std.specs.Str.{bytes_eq}
-use Rattle.er_rules.specs.Targets.{Target, AtSite, AtSites, AtWords, target_of, same_site, takes_name, is_among, takes, takes_reuse, matching_rule, matching_reuse_rule}
+use Rattle.er_rules.specs.Targets.{Target, AtSite, AtSites, AtWords, AtFact, ask_facts, asks_facts, target_of, same_site, takes_name, is_among, takes, takes_reuse, matching_rule, matching_reuse_rule}
 use Rattle.er_rules.specs.Patterns.{pattern_takes}
 use Rattle.er_rules.specs.Inner.Index.{least_of, is_of_pattern, is_of_site, is_of_words}
 
@@ -78,18 +78,21 @@ takes_is : (t : Target) (site : Option (List ℕ)) (word : ℕ) → takes t site
 takes_is (AtSite name) site word = or-false (same_site name site) ∙ or-false (same_site name site || false)
 takes_is (AtSites pattern) site word = or-false (takes_name pattern site)
 takes_is (AtWords words) site word = and-same (is_among words word)
+takes_is (AtFact kind pattern) site word = refl
 
 reuse_is : (t : Target) (site : List ℕ) (lo hi : ℕ) → takes_reuse t (Some site) lo hi ≡ ((is_of_site t (Some site) || is_of_pattern t (Some site)) || is_of_words t lo hi)
 reuse_is (AtSite None) site lo hi = refl
 reuse_is (AtSite (Some name)) site lo hi = or-false (bytes_eq name site) ∙ or-false (bytes_eq name site || false)
 reuse_is (AtSites pattern) site lo hi = or-false (pattern_takes pattern site)
 reuse_is (AtWords words) site lo hi = refl
+reuse_is (AtFact kind pattern) site lo hi = refl
 
 nowhere_is : (t : Target) (lo hi : ℕ) → takes_reuse t None lo hi ≡ is_of_words t lo hi
 nowhere_is (AtSite None) lo hi = refl
 nowhere_is (AtSite (Some name)) lo hi = refl
 nowhere_is (AtSites pattern) lo hi = refl
 nowhere_is (AtWords words) lo hi = refl
+nowhere_is (AtFact kind pattern) lo hi = refl
 
 abbrev pub first_by_site : List Target → Option (List ℕ) → Option ℕ
 first_by_site targets site = position (λ target. is_of_site target site) targets
@@ -122,3 +125,7 @@ matching_nowhere_is targets lo hi = sym (λ k. position (λ t. nowhere_is t lo h
 pub matching_reuse_at : (targets : List Target) (site : Option (List ℕ)) (name : List ℕ) (lo hi : ℕ) → site ≡ Some name → first_by_any targets site lo hi ≡ matching_reuse_rule targets site lo hi
 matching_reuse_at targets site name lo hi is =
     subst (λ (s : Option (List ℕ)). first_by_any targets s lo hi ≡ matching_reuse_rule targets s lo hi) (sym is) (matching_reuse_is targets name lo hi)
+
+pub asking_is : (rules : List Rule) → list_any (λ rule. asks_facts (target_of rule)) rules ≡ ask_facts (map target_of rules)
+asking_is [] = refl
+asking_is (rule ∷ rules) = ap (λ b. asks_facts (target_of rule) || b) (asking_is rules)

@@ -9,7 +9,7 @@ use Rattle.er_lines.specs.declared.faults.ReadFault.{ReadFault}
 use Rattle.er_lines.specs.declared.faults.ReadFault.TheVariants as fault
 use Rattle.er_lines.specs.Lines.{Placed, placed, has_content, words, lines_of}
 use Rattle.er_lines.specs.FirstFault.{first_kind}
-use Rattle.er_rules.specs.Texts.{AllRule, AreRules, is_header, rule_kinds, rule_content_kinds, begins_at, IsRulesFault, IsRules, TellsRules}
+use Rattle.er_rules.specs.Texts.{AllRule, AreRules, is_header, rule_kinds, rule_content_kinds, edition_at, IsRulesFault, IsRules, TellsRules}
 use Rattle.er_lines.specs.Words.{and_then, map_ok}
 use Rattle.er_lines.specs.Reading.{read_contents}
 use Rattle.er_rules.specs.Inner.RuleLines.{ReadSoFar, has_some, has_begun, rule_of, with_rule, add_line, rules_in, IsRulesOutcome}
@@ -17,16 +17,43 @@ use Rattle.er_lines.proofs.SaidLemmas.{fault_of, fault_of-map}
 use Rattle.er_lines.proofs.ReadingLaws.{Agrees, whole_words, size_of, all_passed, all_again, first_found, first_stops}
 use Rattle.er_rules.proofs.RuleLaws.{rule_faults, rule_says, rule_again}
 
--- what was read says whether a line with content was
-abbrev Begins : ReadSoFar → Bool → Type 0
-Begins read begun = has_begun read ≡ begun
+-- what was read says whether a line with content was, and of which edition the text is then
+abbrev Begins : ReadSoFar → Option Bool → Type 0
+Begins read None = has_begun read ≡ false
+Begins read (Some is_second) = (has_begun read ≡ true) × (read.0 ≡ is_second)
 
-content_faults : {T : Type 0} (some begun header : Bool) (kinds : List (Bool × TextKind)) (t u : T) (r : Result T TextKind) → first_kind kinds ≡ fault_of r
-    → first_kind (cond (some && (begun || not header)) kinds []) ≡ fault_of (cond some (cond (not begun && header) (Ok u) r) (Ok t))
-content_faults true true header kinds t u r e = e
-content_faults true false true kinds t u r e = refl
-content_faults true false false kinds t u r e = e
-content_faults false begun header kinds t u r e = refl
+opening_faults : {T : Type 0} (some header : Bool) (kinds : List (Bool × TextKind)) (t u : T) (r : Result T TextKind) → first_kind kinds ≡ fault_of r
+    → first_kind (cond (some && not header) kinds []) ≡ fault_of (cond some (cond header (Ok u) r) (Ok t))
+opening_faults true true kinds t u r e = refl
+opening_faults true false kinds t u r e = e
+opening_faults false header kinds t u r e = refl
+
+later_faults : {T : Type 0} (some : Bool) (kinds : List (Bool × TextKind)) (t : T) (r : Result T TextKind) → first_kind kinds ≡ fault_of r
+    → first_kind (cond some kinds []) ≡ fault_of (cond some r (Ok t))
+later_faults true kinds t r e = e
+later_faults false kinds t r e = refl
+
+words_faults : (read : ReadSoFar) (second : Bool) (p : Placed) → read.0 ≡ second
+    → first_kind (rule_kinds second (words p.line.bytes)) ≡ fault_of (map_ok (with_rule read) (rule_of read.0 (words p.line.bytes)))
+words_faults read second p same =
+    subst (λ (b : Bool). first_kind (rule_kinds b (words p.line.bytes)) ≡ fault_of (map_ok (with_rule read) (rule_of read.0 (words p.line.bytes)))) same
+    (rule_faults read.0 (words p.line.bytes) (whole_words p.line.bytes) ∙ sym (fault_of-map (with_rule read) (rule_of read.0 (words p.line.bytes))))
+
+first_false : (a b : Bool) → (a || b) ≡ false → a ≡ false
+first_false true b e = e
+first_false false b e = refl
+
+content_faults : (read : ReadSoFar) (known : Option Bool) (p : Placed) → Begins read known → first_kind (rule_content_kinds known p) ≡ fault_of (add_line read p)
+content_faults read None p stands =
+    let ws = words p.line.bytes in
+    let rule = map_ok (with_rule read) (rule_of read.0 ws) in
+    opening_faults (has_content p) (is_header ws) (rule_kinds false ws) read (true, read.1) rule (words_faults read false p (first_false read.0 (has_some read.1) stands))
+    ∙ sym (ap (λ (b : Bool). fault_of (cond (has_content p) (cond (not b && is_header ws) (Ok (true, read.1)) rule) (Ok read))) stands)
+content_faults read (Some second) p stands =
+    let ws = words p.line.bytes in
+    let rule = map_ok (with_rule read) (rule_of read.0 ws) in
+    later_faults (has_content p) (rule_kinds second ws) read rule (words_faults read second p stands.1)
+    ∙ sym (ap (λ (b : Bool). fault_of (cond (has_content p) (cond (not b && is_header ws) (Ok (true, read.1)) rule) (Ok read))) stands.0)
 
 or-true : (b : Bool) → (b || true) ≡ true
 or-true true = refl
@@ -56,16 +83,36 @@ begun_on true header read next r e = by (not (has_begun read) && header) e ∙ s
     by true f = let same : (true, read.1) ≡ next = cc in sym (ap has_begun same)
     by false f = begun_by read next r f
 
-rules_agree : Agrees add_line rule_content_kinds begins_at Begins
-rules_agree = record {
-  faults = λ read begun p stands.
-      let ws = words p.line.bytes in
-      subst (λ (b : Bool). first_kind (rule_content_kinds b p) ≡ fault_of (add_line read p)) stands
-      (content_faults (has_content p) (has_begun read) (is_header ws) (rule_kinds ws) read (true, read.1) (map_ok (with_rule read) (rule_of read.0 ws))
-      (rule_faults read.0 ws (whole_words p.line.bytes) ∙ sym (fault_of-map (with_rule read) (rule_of read.0 ws))));
-  moves = λ read next begun p stands e.
-      begun_on (has_content p) (is_header (words p.line.bytes)) read next (rule_of read.0 (words p.line.bytes)) e ∙ ap (λ b. b || has_content p) stands;
-}
+same_edition : (read next : ReadSoFar) (r : Result Target TextKind) → map_ok (with_rule read) r ≡ Ok next → next.0 ≡ read.0
+same_edition read next (Err k) e = absurd (cc)
+same_edition read next (Ok t) e = let same : with_rule read t ≡ next = cc in sym (ap (λ (x : ReadSoFar). x.0) same)
+
+-- a first line with content, and one behind it
+opens_by : (some header : Bool) (read next : ReadSoFar) (r : Result Target TextKind) → has_begun read ≡ false → read.0 ≡ false
+    → cond some (cond header (Ok (true, read.1)) (map_ok (with_rule read) r)) (Ok read) ≡ Ok next → Begins next (cond some (Some header) None)
+opens_by false header read next r none first e = let same : read ≡ next = cc in sym (ap has_begun same) ∙ none
+opens_by true true read next r none first e = let same : (true, read.1) ≡ next = cc in (sym (ap has_begun same), sym (ap (λ (x : ReadSoFar). x.0) same))
+opens_by true false read next r none first e = (begun_by read next r e, same_edition read next r e ∙ first)
+
+goes_by : (some : Bool) (read next : ReadSoFar) (r : Result Target TextKind) → has_begun read ≡ true
+    → cond some (map_ok (with_rule read) r) (Ok read) ≡ Ok next → (has_begun next ≡ true) × (next.0 ≡ read.0)
+goes_by false read next r begun e = let same : read ≡ next = cc in (sym (ap has_begun same) ∙ begun, sym (ap (λ (x : ReadSoFar). x.0) same))
+goes_by true read next r begun e = (begun_by read next r e, same_edition read next r e)
+
+moves_on : (read next : ReadSoFar) (known : Option Bool) (p : Placed) → Begins read known → add_line read p ≡ Ok next → Begins next (edition_at known p)
+moves_on read next None p stands e =
+    let ws = words p.line.bytes in
+    let rule = map_ok (with_rule read) (rule_of read.0 ws) in
+    opens_by (has_content p) (is_header ws) read next (rule_of read.0 ws) stands (first_false read.0 (has_some read.1) stands)
+    (sym (ap (λ (b : Bool). cond (has_content p) (cond (not b && is_header ws) (Ok (true, read.1)) rule) (Ok read)) stands) ∙ e)
+moves_on read next (Some second) p stands e =
+    let ws = words p.line.bytes in
+    let rule = map_ok (with_rule read) (rule_of read.0 ws) in
+    let on = goes_by (has_content p) read next (rule_of read.0 ws) stands.0 (sym (ap (λ (b : Bool). cond (has_content p) (cond (not b && is_header ws) (Ok (true, read.1)) rule) (Ok read)) stands.0) ∙ e) in
+    (on.0, on.1 ∙ stands.1)
+
+rules_agree : Agrees add_line rule_content_kinds edition_at Begins
+rules_agree = record { faults = content_faults; moves = λ read next known p stands e. moves_on read next known p stands e }
 
 -- a line behind the first one with content is no header
 abbrev add_rule : ReadSoFar → Placed → Result ReadSoFar TextKind
@@ -218,10 +265,10 @@ rules_read limit text rules is =
     )
 
 fault_is : (limit : ℕ) (text : List ℕ) (f : TextFault) → rules_in limit text ≡ Err f → IsRulesFault text limit f
-fault_is limit text f e = first_found limit add_line rule_content_kinds begins_at Begins 1 0 (lines_of text) (false, []) false f rules_agree refl (omega arith) e
+fault_is limit text f e = first_found limit add_line rule_content_kinds edition_at Begins 1 0 (lines_of text) (false, []) None f rules_agree refl (omega arith) e
 
 fault_read : (limit : ℕ) (text : List ℕ) (f : TextFault) → IsRulesFault text limit f → rules_in limit text ≡ Err f
-fault_read limit text f h = first_stops limit add_line rule_content_kinds begins_at Begins 1 0 (lines_of text) (false, []) false f rules_agree refl (omega arith) h
+fault_read limit text f h = first_stops limit add_line rule_content_kinds edition_at Begins 1 0 (lines_of text) (false, []) None f rules_agree refl (omega arith) h
 
 -- of a text and a limit: rules or a fault, and no two of them
 outcome : (text : List ℕ) (limit : ℕ) (r : Result ReadSoFar TextFault) → rules_in limit text ≡ r

@@ -2,7 +2,9 @@
 use Rattle.std.specs.Prelude.{◌≡◌, ◌⊎◌, ℕ, ◌+◌, ◌^◌, ◌<◌, ◌≤◌, ◌&&◌, ◌||◌, ◌==◌, Bool, true, false, not, List, [], ◌∷◌, Option, Some, None, Result, Ok, Err, length, drop, filter, nat_lt, nat_le, codes, if◌then◌else◌}
 use Rattle.std.specs.List.{AllByRecursion}
 use Rattle.std.specs.Str.{bytes_eq}
-use Rattle.er_rules.specs.Rules.{Target, AtSite, AtSites, AtWords, targets_of}
+use Rattle.er_rules.specs.Rules.{Target, AtSite, AtSites, AtWords, AtFact, targets_of}
+use Rattle.er_rules.specs.declared.rules.FactKind.{FactKind}
+use Rattle.er_rules.specs.declared.rules.FactKind.TheVariants.{Frame, Function, Variable}
 use Rattle.er_rules.specs.declared.rules.Suppressions.{Suppressions}
 use Rattle.er_lines.specs.declared.faults.TextKind.{TextKind}
 use Rattle.er_lines.specs.declared.faults.TextKind.TheVariants.{BadName, MissingOperand, BadVerb, ExtraOperand, BadNumber, AddressOutOfRange}
@@ -37,9 +39,23 @@ IsRunRule words target =
     (address size : List ℕ) × (a n : ℕ) × (words ≡ codes "words" ∷ address ∷ size ∷ [])
     × (number_of address ≡ Some a) × (number_of size ≡ Some n) × (a < 2 ^ 48) × (a + n ≤ 2 ^ 48) × (target ≡ AtWords (run_of a n))
 
+-- what a word of the second edition asks of a trace
+abbrev pub kind_of : List ℕ → Option FactKind
+kind_of word =
+    if bytes_eq word (codes "frame") then Some Frame else if bytes_eq word (codes "function") then Some Function else if bytes_eq word (codes "variable") then Some Variable
+    else None
+
+abbrev pub kind_in : Bool → List ℕ → Option FactKind
+kind_in is_second word = if is_second then kind_of word else None
+
+-- those that write a rule of what a trace says of the program: such a word and a pattern, in the second edition
+abbrev pub IsFactRule : Bool → List (List ℕ) → Target → Type 0
+IsFactRule is_second words target =
+    (word name : List ℕ) × (kind : FactKind) × (words ≡ word ∷ name ∷ []) × (kind_in is_second word ≡ Some kind) × (is_site_name name ≡ true) × (target ≡ AtFact kind name)
+
 -- the words that write a rule
 abbrev pub IsRule : Bool → List (List ℕ) → Target → Type 0
-IsRule is_second words target = IsSiteRule is_second words target ⊎ IsRunRule words target
+IsRule is_second words target = IsSiteRule is_second words target ⊎ (IsRunRule words target ⊎ IsFactRule is_second words target)
 
 -- lines and the rules that they write, one for one
 abbrev pub AllRule : Bool → List Placed → List Target → Type 0
@@ -77,24 +93,29 @@ run_kinds operands =
     ∷ (not (is_number_at 0 operands), BadNumber) ∷ (not (is_number_at 1 operands), BadNumber)
     ∷ (nat_le (2 ^ 48) (number_at 0 operands) || nat_lt (2 ^ 48) (number_at 0 operands + number_at 1 operands), AddressOutOfRange) ∷ []
 
+abbrev pub fact_kinds : Option FactKind → List (List ℕ) → List (Bool × TextKind)
+fact_kinds None operands = (true, BadVerb) ∷ []
+fact_kinds (Some kind) operands = site_kinds operands
+
 -- the faults of the words of a rule, in their order
-abbrev pub rule_kinds : List (List ℕ) → List (Bool × TextKind)
-rule_kinds words =
+abbrev pub rule_kinds : Bool → List (List ℕ) → List (Bool × TextKind)
+rule_kinds is_second words =
     if bytes_eq (word_at 0 words) (codes "site") then site_kinds (drop 1 words)
     else if bytes_eq (word_at 0 words) (codes "words") then run_kinds (drop 1 words)
-    else (true, BadVerb) ∷ []
+    else fact_kinds (kind_in is_second (word_at 0 words)) (drop 1 words)
 
--- the faults of what a line says, where a line in front of it has content or none has: the first one may be the header
-abbrev pub rule_content_kinds : Bool → Placed → List (Bool × TextKind)
-rule_content_kinds has_begun p =
-    if has_content p && (has_begun || not (is_header (words p.line.bytes))) then rule_kinds (words p.line.bytes) else []
+-- the faults of what a line says, in an edition that a line in front of it has shown to be the second or not; the first line with content may be the header
+abbrev pub rule_content_kinds : Option Bool → Placed → List (Bool × TextKind)
+rule_content_kinds None p = if has_content p && not (is_header (words p.line.bytes)) then rule_kinds false (words p.line.bytes) else []
+rule_content_kinds (Some is_second) p = if has_content p then rule_kinds is_second (words p.line.bytes) else []
 
-abbrev pub begins_at : Bool → Placed → Bool
-begins_at has_begun p = has_begun || has_content p
+abbrev pub edition_at : Option Bool → Placed → Option Bool
+edition_at None p = if has_content p then Some (is_header (words p.line.bytes)) else None
+edition_at (Some is_second) p = Some is_second
 
 -- the fault of a text
 abbrev pub IsRulesFault : List ℕ → ℕ → TextFault → Type 0
-IsRulesFault text limit f = IsFirstFaulty limit rule_content_kinds begins_at false (placed text) f
+IsRulesFault text limit f = IsFirstFaulty limit rule_content_kinds edition_at None (placed text) f
 
 -- a text writes these rules: it is in its limits, and its lines with content are the rules in order, behind the header of the second edition if it has one
 pub record IsRules (text : List ℕ) (limit : ℕ) (targets : List Target) : Type 0 where

@@ -190,7 +190,7 @@ impl RuleIndex {
                 Ok(())
             }
             Rule::Words(Some(words)) => self.words.push(self.alloc, *words, number),
-            Rule::Words(None) => Ok(()),
+            Rule::Words(None) | Rule::Fact(..) => Ok(()),
         }
     }
 

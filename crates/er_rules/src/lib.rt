@@ -6,7 +6,8 @@
 //!
 //! What it promises, by the names of clauses: the rule that is found is the first that takes the race, as the definitions say
 //! (`matching_rule`), and a push that found no memory changed nothing (`err`). Sites are looked up in a map, and words in a binary indexed tree
-//! of how far the words of rules reach, so that many rules cost little more than a few. Patterns are tried one after another. A text is its rules or has a fault, by its grammar
+//! of how far the words of rules reach, so that many rules cost little more than a few. Patterns are tried one after another.
+//! What a trace says of the program is not known here: rules that ask for it take no race by `matching_rule`. A text is its rules or has a fault, by its grammar
 //! (`told`, `rules_or_fault`).
 //!
 //! ```
@@ -20,7 +21,8 @@
 #![tactic(auto)]
 
 pub use laws::rules_or_fault;
-pub use rules::{Rule, Suppressions, WordSpan};
+pub use patterns::pattern_takes;
+pub use rules::{FactKind, Rule, Suppressions, WordSpan};
 pub use texts::read_suppressions;
 
 mod index;

@@ -10,7 +10,7 @@ ghost use Rattle.er_rules.specs.Patterns.{has_star, pattern_takes, star, takes_e
 pub(crate) const STAR: u8 = b'*';
 
 /// Whether the pattern takes the name.
-pub(crate) fn pattern_takes(pattern: &[u8], name: &[u8]) -> bool
+pub fn pattern_takes(pattern: &[u8], name: &[u8]) -> bool
     ensures { result ≡ pattern_takes pattern.now name.now }
 {
     let (piece, more) = split_star(pattern);

@@ -1,7 +1,8 @@
 //! Rules, and which of them takes a race.
 ghost use Rattle.std.specs.Prelude.{◌≡◌, ◌<◌, ◌++◌, ◌↔◌, ℕ, List, Option, map, IsTrue, ◌∷◌, [], option_copied, length, position, IfSome, Some, OnOk, OnErr};
+ghost use Rattle.std.specs.List.{list_any};
 ghost use Rattle.std.proofs.Props.{props};
-ghost use Rattle.er_rules.specs.Targets.{matching_rule, matching_reuse_rule, target_of, span_of, is_among};
+ghost use Rattle.er_rules.specs.Targets.{ask_facts, asks_facts, matching_rule, matching_reuse_rule, target_of, span_of, is_among};
 ghost use Rattle.er_rules.specs.Inner.Index.{is_of_pattern, is_of_site, is_of_words};
 ghost use Rattle.er_rules.specs.Inner.Rules.{rule_of_pattern, rule_of_site, rule_of_words};
 
@@ -26,6 +27,17 @@ impl WordSpan {
     }
 }
 
+/// What a binary trace says of the program that made it.
+#[derive(Clone, Copy, Debug, PartialEq, Eq, Drop)]
+pub enum FactKind {
+    /// The place of an event, or of a call that led to it.
+    Frame,
+    /// The function that such a place is in.
+    Function,
+    /// The variable that has an accessed word.
+    Variable,
+}
+
 /// What races a rule takes.
 #[derive(Debug, PartialEq, Eq, Drop)]
 pub enum Rule {
@@ -35,6 +47,15 @@ pub enum Rule {
     Sites(String),
     /// Those at one of these words. There are none in a run of no bytes.
     Words(Option<WordSpan>),
+    /// Those of which a trace says something of this kind by a name that this pattern takes. [`Suppressions::matching_rule`] knows nothing of it.
+    Fact(FactKind, String),
+}
+
+// Whether a rule asks what a trace says of the program.
+fn ask_facts(rules: &[Rule]) -> bool
+    ensures { result ≡ list_any (λ rule. asks_facts (target_of rule)) rules.now }
+{
+    rules.iter().any(|rule| matches!(rule, Rule::Fact(..)))
 }
 
 /// Rules in order. The first that takes a race takes it alone. They are indexed as they come in, so that a look-up compares few of them.
@@ -74,6 +95,13 @@ impl Suppressions {
         ensures { IsTrue result ↔ (targets_of self.now ≡ []) }
     {
         self.rules.is_empty()
+    }
+
+    /// Whether a rule asks what a trace says of the program.
+    pub fn ask_facts(&self) -> bool
+        ensures { result ≡ ask_facts (targets_of self.now) }
+    {
+        ask_facts(&self.rules)
     }
 
     /// Adds a rule after the others.

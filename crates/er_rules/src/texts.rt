@@ -5,13 +5,13 @@ ghost use Rattle.er_lines.specs.Faults.{HasFailedBy};
 ghost use Rattle.er_lines.specs.Lending.{taken_by, lines_left};
 ghost use Rattle.er_lines.specs.Lines.{bytes_past_limit};
 ghost use Rattle.er_lines.specs.Reading.{Reads, Turns};
-ghost use Rattle.er_rules.specs.Inner.RuleLines.{GivesRun, GivesRule, has_begun, header_in, site_rule_in, long_run_in, run_rule_in, rule_in, add_line, plain_rule_at, rule_view};
+ghost use Rattle.er_rules.specs.Inner.RuleLines.{GivesName, GivesRun, GivesRule, fact_rule_in, has_begun, header_in, name_in, site_rule_in, long_run_in, run_rule_in, rule_in, add_line, plain_rule_at, rule_view};
 ghost use Rattle.er_rules.specs.Rules.{target_of, targets_of};
-ghost use Rattle.er_rules.specs.Texts.{TellsRules};
+ghost use Rattle.er_rules.specs.Texts.{kind_in, TellsRules};
 
 use crate::Done;
 use crate::patterns::STAR;
-use crate::rules::{Rule, Suppressions, WordSpan};
+use crate::rules::{FactKind, Rule, Suppressions, WordSpan};
 use er_device::Device;
 use er_event::Word;
 use er_lines::{
@@ -28,7 +28,7 @@ const WINDOW_BYTES: usize = 65_536;
 ///
 /// Each line that isn't blank or a comment is a rule: `site NAME`, of which `-` is the missing site, or `words ADDRESS SIZE`, the
 /// size in bytes. A line of a race in the report names its site and its address as they are written here. The first of these lines may be
-/// `eraser suppressions 2`. Then a site with a star is a pattern of names.
+/// `eraser suppressions 2`. Then a site with a star is a pattern of names, and `frame PATTERN`, `function PATTERN` and `variable PATTERN` are rules too.
 ///
 /// The text has at most `byte_limit` bytes, and the limit is at most 2^62. What follows a faulty line may or may not have been taken
 /// from the reader. No memory is kept but that of the rules and a window of 65,536 bytes.
@@ -59,11 +59,12 @@ enum LineRule<'a> {
     Site(Option<&'a str>),
     Sites(&'a str),
     Words(Option<WordSpan>),
+    Fact(FactKind, &'a str),
 }
 
-/// The rule of a site, which may be one of any trace, or of a pattern in a text of the second edition. `-` names no site.
-fn site_rule<'a>(is_second: bool, first: &'a [u8], second: &[u8]) -> Result<LineRule<'a>, TextKind>
-    ensures { GivesRule result (site_rule_in is_second first.now second.now) }
+/// The only operand of a rule, if it is one and could be a site.
+fn name_of<'a>(first: &'a [u8], second: &[u8]) -> Result<&'a str, TextKind>
+    ensures { GivesName result (name_in first.now second.now) }
 {
     if first.is_empty() {
         return Err(TextKind::MissingOperand);
@@ -74,11 +75,18 @@ fn site_rule<'a>(is_second: bool, first: &'a [u8], second: &[u8]) -> Result<Line
     if !is_site_name(first) {
         return Err(TextKind::BadName);
     }
-    if first == b"-".as_slice() {
+    Ok(site_text(first))
+}
+
+/// The rule of a site, which may be one of any trace, or of a pattern in a text of the second edition. `-` names no site.
+fn site_rule<'a>(is_second: bool, first: &'a [u8], second: &[u8]) -> Result<LineRule<'a>, TextKind>
+    ensures { GivesRule result (site_rule_in is_second first.now second.now) }
+{
+    let name = name_of(first, second)?;
+    if name == "-" {
         return Ok(LineRule::Site(None));
     }
-    let name = site_text(first);
-    if is_second && first.contains(&STAR) {
+    if is_second && name.as_bytes().contains(&STAR) {
         return Ok(LineRule::Sites(name));
     }
     Ok(LineRule::Site(Some(name)))
@@ -123,7 +131,37 @@ fn rule_of<'a>(is_second: bool, words: &Words<'a>) -> Result<LineRule<'a>, TextK
     } else if words.first == b"words".as_slice() {
         run_rule(words.second, words.third, words.fourth)
     } else {
-        Err(TextKind::BadVerb)
+        fact_rule(kind_in(is_second, words.first), words.second, words.third)
+    }
+}
+
+/// What this word asks of a trace, in a text of the second edition.
+fn kind_in(is_second: bool, word: &[u8]) -> Option<FactKind>
+    ensures { result ≡ kind_in is_second word.now }
+{
+    if !is_second {
+        None
+    } else if word == b"frame".as_slice() {
+        Some(FactKind::Frame)
+    } else if word == b"function".as_slice() {
+        Some(FactKind::Function)
+    } else if word == b"variable".as_slice() {
+        Some(FactKind::Variable)
+    } else {
+        None
+    }
+}
+
+fn fact_rule<'a>(
+    kind: Option<FactKind>,
+    first: &'a [u8],
+    second: &[u8],
+) -> Result<LineRule<'a>, TextKind>
+    ensures { GivesRule result (fact_rule_in kind first.now second.now) }
+{
+    match kind {
+        Some(kind) => Ok(LineRule::Fact(kind, name_of(first, second)?)),
+        None => Err(TextKind::BadVerb),
     }
 }
 
@@ -136,6 +174,7 @@ fn owned(alloc: Global, rule: &LineRule<'_>) -> Result<Rule, AllocError>
         LineRule::Site(None) => Ok(Rule::Site(None)),
         LineRule::Sites(pattern) => Ok(Rule::Sites(String::from_str(alloc, pattern)?)),
         LineRule::Words(words) => Ok(Rule::Words(words)),
+        LineRule::Fact(kind, pattern) => Ok(Rule::Fact(kind, String::from_str(alloc, pattern)?)),
     }
 }
 

@@ -4,3 +4,4 @@ pub mod CountLemmas
 pub mod ReadBackLemmas
 pub mod TraceNameLemmas
 pub mod UnusedLemmas
+pub mod FactLemmas

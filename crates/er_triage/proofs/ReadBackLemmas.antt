@@ -19,7 +19,7 @@ use Rattle.er_event.specs.declared.steps.Kind.{Kind}
 use Rattle.er_event.specs.declared.steps.Kind.TheVariants.{Read, Write}
 use Rattle.er_print.specs.Printed.{address_text, bytes_between, kind_text, name_at}
 use Rattle.er_report.specs.Report.{site_name}
-use Rattle.er_rules.specs.Rules.{Target, AtSite, AtSites, AtWords}
+use Rattle.er_rules.specs.Rules.{Target, AtSite, AtSites, AtWords, AtFact}
 use Rattle.er_text.specs.Events.{run_of}
 use Rattle.er_lines.specs.FirstFault.{IsPlain}
 use Rattle.er_lines.specs.Lines.{Line, Placed, placed_from, lines_of, is_end, is_gap, is_ascii, is_comment, has_bytes, has_content, onto_line, says_something, word_at, words, width}
@@ -298,13 +298,14 @@ run_target run is =
     let ordered : run.first ≤ run.last = is.ordered in
     let memory : run.last < 2 ^ 46 = is.memory in
     let few : size_of run < 2 ^ 64 = omega (arith, memory) in
-    inr (address_text run.first, decimal (size_of run), 4 * run.first, size_of run, run_words run (omega arith) few, address_number run.first (omega arith), (decimal_size (size_of run) few).value, omega arith, omega arith, ap (λ (r : Option Span). AtWords r) (run_again run ordered))
+    inr (inl (address_text run.first, decimal (size_of run), 4 * run.first, size_of run, run_words run (omega arith) few, address_number run.first (omega arith), (decimal_size (size_of run) few).value, omega arith, omega arith, ap (λ (r : Option Span). AtWords r) (run_again run ordered)))
 
 -- the rule of a race: its site has a name that names a site, or its words are words of memory
 abbrev IsSoundTarget : Target → Type 0
 IsSoundTarget (AtSite None) = ⊥
 IsSoundTarget (AtSite (Some name)) = NamesSite name
 IsSoundTarget (AtSites pattern) = ⊥
+IsSoundTarget (AtFact kind pattern) = ⊥
 IsSoundTarget (AtWords None) = ⊥
 IsSoundTarget (AtWords (Some run)) = IsRun run
 
@@ -317,6 +318,7 @@ wider m n bytes less piece = let few : length bytes ≤ m = piece.few in record 
 target_read : (target : Target) (rest : List ℕ) (targets : List Target) → IsSoundTarget target → AreRead (lines_of rest) targets → AreRead (lines_of (target_text target ++ 10 ∷ rest)) (target ∷ targets)
 target_read (AtSite None) rest targets sound more = absurd sound
 target_read (AtSites pattern) rest targets sound more = absurd sound
+target_read (AtFact kind pattern) rest targets sound more = absurd sound
 target_read (AtWords None) rest targets sound more = absurd sound
 target_read (AtWords (Some run)) rest targets sound more =
     let ordered : run.first ≤ run.last = sound.ordered in
@@ -348,6 +350,7 @@ hidden_in name rest targets sound more =
 hidden_read : (target : Target) (rest : List ℕ) (targets : List Target) → IsSoundTarget target → AreRead (lines_of rest) targets → AreRead (lines_of (hidden_text target ++ rest)) targets
 hidden_read (AtSite None) rest targets sound more = more
 hidden_read (AtSites pattern) rest targets sound more = more
+hidden_read (AtFact kind pattern) rest targets sound more = more
 hidden_read (AtWords words) rest targets sound more = more
 hidden_read (AtSite (Some name)) rest targets sound more = by (is_system_name name)
   where

@@ -1,3 +1,4 @@
+pub mod Facts
 pub mod First
 pub mod Known
 pub mod Notes

@@ -6,7 +6,8 @@ use Rattle.er_report.specs.declared.report.Deed.TheVariants.{Access, Reuse}
 use Rattle.er_report.specs.declared.report.Line.{Line}
 use Rattle.er_report.specs.declared.report.Report.{Report}
 use Rattle.er_report.specs.declared.reports.Reports.{Reports}
-use Rattle.er_rules.specs.Rules.{Target, AtSite, AtSites, AtWords}
+use Rattle.er_rules.specs.Rules.{Target, AtSite, AtSites, AtWords, AtFact}
+use Rattle.er_rules.specs.declared.rules.FactKind.TheVariants.{Frame, Function, Variable}
 use Rattle.er_sites.specs.System.{is_system_name}
 use Rattle.er_trace.specs.Names.{NameTable}
 use Rattle.er_triage.specs.Known.{known_target, rules_of, AreCounts}
@@ -18,6 +19,9 @@ abbrev pub target_text : Target → List ℕ
 target_text (AtSite None) = codes "site -"
 target_text (AtSite (Some name)) = codes "site " ++ name
 target_text (AtSites pattern) = codes "site " ++ pattern
+target_text (AtFact Frame pattern) = codes "frame " ++ pattern
+target_text (AtFact Function pattern) = codes "function " ++ pattern
+target_text (AtFact Variable pattern) = codes "variable " ++ pattern
 target_text (AtWords None) = codes "words 0 0"
 target_text (AtWords (Some run)) = codes "words " ++ address_text run.first ++ codes " " ++ decimal (4 * (run.last + 1 - run.first))
 
@@ -43,6 +47,7 @@ hidden_text (AtSite None) = []
 hidden_text (AtSite (Some name)) = cond (is_system_name name) (comment_text name) []
 hidden_text (AtSites pattern) = []
 hidden_text (AtWords words) = []
+hidden_text (AtFact kind pattern) = []
 
 -- a rule, below comments that say what it takes and hides
 abbrev pub known_text : NameTable → KnownRace → List ℕ

@@ -175,5 +175,6 @@ fn copy_of(rule: &Rule) -> Result<Rule, AllocError>
         Rule::Site(None) => Ok(Rule::Site(None)),
         Rule::Sites(pattern) => Ok(Rule::Sites(pattern.clone()?)),
         Rule::Words(words) => Ok(Rule::Words(*words)),
+        Rule::Fact(kind, pattern) => Ok(Rule::Fact(*kind, pattern.clone()?)),
     }
 }

@@ -3,7 +3,7 @@
 //! Begin with [`triage`]. It does with the reports of a trace what [`Wishes`] ask for. [`known_races`] goes over the lines of the reports and
 //! makes a rule for each race that no rule before it takes: by the site of an access, or by its word if it has no site, and by the words of
 //! a reuse. [`known_races_text`] is a suppression text of these rules. [`unused_rules_text`] names the rules that took no race of any report,
-//! [`keep_first_races`] leaves the lines of the other races out, and [`append_rules`] puts the rules of several files together.
+//! [`take_by_facts`] takes races by what a trace says of the program, [`keep_first_races`] leaves the lines of the other races out, and [`append_rules`] puts the rules of several files together.
 //!
 //! What it promises, by the names of clauses: each race of each report is taken by one of the rules (`taken`), and there is no rule but
 //! those that the races ask for (`rules`). A rule's comment says how many races of all reports it takes, and the first of them (`counted`). If
@@ -18,6 +18,7 @@
 //! ```
 #![tactic(auto)]
 
+pub use facts::take_by_facts;
 pub use known::{KnownRace, append_rules, known_races};
 pub use texts::{
     known_races_text, left_out_text, names_of_a_trace_are_sound, put_rule, unused_rules_text,
@@ -25,6 +26,7 @@ pub use texts::{
 };
 pub use wishes::{Triaged, Wishes, keep_first_races, triage};
 
+mod facts;
 mod known;
 mod texts;
 mod wishes;

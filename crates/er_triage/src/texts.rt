@@ -13,7 +13,7 @@ use er_event::Word;
 use er_print::Piece::{Address, Number, Text, Thread, Verb};
 use er_print::{Built, Put, Style, bytes_of, put, put_address, put_number};
 use er_report::{Deed, Report, Reports};
-use er_rules::{Rule, Suppressions, WordSpan};
+use er_rules::{FactKind, Rule, Suppressions, WordSpan};
 use er_sites::is_system_name;
 use er_trace::Names;
 use std::alloc::Global;
@@ -161,12 +161,19 @@ pub fn put_rule(out: &mut Vec<u8>, rule: &Rule) -> Put
     ensures { OnOk result (out.new.items ≡ out.old.items ++ target_text (target_of rule.now)) }
 {
     match rule {
-        Rule::Site(Some(name)) | Rule::Sites(name) => {
-            out.extend_from_slice(b"site ")?;
-            out.extend_from_slice(name.as_bytes())
-        }
+        Rule::Site(Some(name)) | Rule::Sites(name) => put_named(out, b"site ", name),
         Rule::Site(None) => out.extend_from_slice(b"site -"),
         Rule::Words(Some(WordSpan { first, last })) => put_run(out, *first, *last),
         Rule::Words(None) => out.extend_from_slice(b"words 0 0"),
+        Rule::Fact(FactKind::Frame, pattern) => put_named(out, b"frame ", pattern),
+        Rule::Fact(FactKind::Function, pattern) => put_named(out, b"function ", pattern),
+        Rule::Fact(FactKind::Variable, pattern) => put_named(out, b"variable ", pattern),
     }
+}
+
+fn put_named(out: &mut Vec<u8>, front: &[u8], name: &str) -> Put
+    ensures { OnOk result (out.new.items ≡ out.old.items ++ (front.now ++ name.now)) }
+{
+    out.extend_from_slice(front)?;
+    out.extend_from_slice(name.as_bytes())
 }

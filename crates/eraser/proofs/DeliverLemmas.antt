@@ -1,5 +1,5 @@
 -- What was delivered is what was asked for.
-use Rattle.std.proofs.Common.{◌≡◌, ◌≢◌, ◌≤◌, ◌-◌, ◌∙◌, ℕ, Bool, true, false, cond, is_some, List, [], length, Option, Some, None, IsSome, IfOk, IfErr, Result, Ok, Err, refl, sym, subst, arith}
+use Rattle.std.proofs.Common.{◌≡◌, ◌≢◌, ◌≤◌, ◌-◌, ◌∙◌, ℕ, Bool, true, false, cond, is_some, List, [], length, Option, Some, None, IsSome, IfOk, IfErr, Result, Ok, Err, inl, inr, refl, sym, subst, ap, arith}
 use Rattle.std.specs.Io.KnownBytes.{Appends, Keeps}
 use Rattle.er_batch.specs.declared.verdict.Verdict.{Verdict}
 use Rattle.er_batch.specs.declared.verdict.Verdict.TheVariants.{Clean, Races, Stopped}
@@ -25,25 +25,40 @@ use Rattle.er_text.specs.Ending.{IsEndingOf}
 use Rattle.er_text.specs.declared.endings.Ending.{Ending}
 use Rattle.er_lines.specs.declared.faults.ReadFault.TheVariants as reading
 use Rattle.er_trace.specs.Names.{NameTable}
+use Rattle.er_triage.specs.Facts.{IsLeftOf}
 use Rattle.er_triage.specs.First.{KeepFirst}
 use Rattle.er_triage.specs.Known.{lines_of}
 use Rattle.er_triage.specs.Notes.{AreNotes, notes_text}
 use Rattle.eraser.specs.Faults.{replay_fault}
 use Rattle.eraser.specs.Inner.Writes.{WritesSome}
-use Rattle.eraser.specs.Replays.{AreShown, EndsAs, FailsAs, FailsBy, FailsFor, IsEndOf, IsOutput, MayHavePlaces, races_in, unordered_of, verdict_status}
+use Rattle.eraser.specs.Replays.{AreShown, EndsAs, FailsAs, FailsBy, FailsFor, IsEndOf, IsOutput, MayHavePlaces, MayLack, races_in, unordered_of, verdict_status}
 use Rattle.eraser.specs.declared.replaying.Ended.{Ended}
 
--- what is known of reports of a text, and of those of them that are left
+-- what is known of reports of a text without the races that rules take, and of those of them that are left
 pub record AreTriaged (replay : Replay) (text : List ℕ) (rules : List Target) (names : NameTable) (found left : Reports) : Type 0 where
-  pub reports : AreReportsOfText replay.analysis text replay.byte_limit rules replay.explain names found
+  pub raced : Reports
+  pub reports : AreReportsOfText replay.analysis text replay.byte_limit rules replay.explain names raced
+  pub facts : MayLack replay rules raced found
   pub locks : is_some found.lockset ≡ asks_locks replay.analysis
   pub order : is_some found.unordered ≡ asks_order replay.analysis
   pub first : KeepFirst replay.max_races found left
 
+-- there are as many reports as there were
+left_some : (table : PlaceTable) (rules : List Target) (report left : Option Report) → IsLeftOf table rules report left → is_some left ≡ is_some report
+left_some table rules None left is = ap is_some is
+left_some table rules (Some report) None is = absurd is
+left_some table rules (Some report) (Some left) is = refl
+
+pub still-asked : (replay : Replay) (rules : List Target) (raced found : Reports) → MayLack replay rules raced found
+    → (is_some found.lockset ≡ is_some raced.lockset) × (is_some found.unordered ≡ is_some raced.unordered)
+still-asked replay rules raced found (inl same) = (sym (ap (λ (r : Reports). is_some r.lockset) same), sym (ap (λ (r : Reports). is_some r.unordered) same))
+still-asked replay rules raced found (inr (asks, again, (table, left))) =
+    (left_some table rules raced.lockset found.lockset left.lockset, left_some table rules raced.unordered found.unordered left.unordered)
+
 abbrev output : {F : Type 0} (remaining : F → Option (List ℕ)) (replay : Replay) (text : List ℕ) (rules : List Target) (names : NameTable) (found left : Reports) (bytes : List ℕ)
     → AreTriaged replay text rules names found left → AreShown remaining replay names rules left bytes → IsOutput remaining replay text rules bytes
 output remaining replay text rules names found left bytes triaged shown =
-    record { names = names; found = found; left = left; reports = triaged.reports; locks = triaged.locks; order = triaged.order; first = triaged.first; shown = shown }
+    record { names = names; raced = triaged.raced; found = found; left = left; reports = triaged.reports; facts = triaged.facts; locks = triaged.locks; order = triaged.order; first = triaged.first; shown = shown }
 
 -- behind the whole output
 pub ends : {F : Type 0} (remaining : F → Option (List ℕ)) (replay : Replay) (text : List ℕ) (rules : List Target) (names : NameTable) (found left : Reports) (ending : Ending) (has_order : Bool) (old new : Option (List ℕ))

@@ -1,5 +1,5 @@
 -- How a replay ends.
-use Rattle.std.proofs.Common.{◌≡◌, ◌∙◌, ℕ, Bool, true, false, nat_lt, is_some, IsFalse, List, [], append-nil, take, Option, Some, None, IsSome, IfSome, IfOk, IfErr, Result, Ok, Err, refl, sym, ap, subst}
+use Rattle.std.proofs.Common.{◌≡◌, ◌∙◌, ℕ, Bool, true, false, nat_lt, is_some, IsFalse, inl, inr, List, [], append-nil, take, Option, Some, None, IsSome, IfSome, IfOk, IfErr, Result, Ok, Err, refl, sym, ap, subst}
 use Rattle.std.specs.Io.KnownBytes.{Appends, Keeps}
 use Rattle.er_batch.specs.Runs.{IsRunOf}
 use Rattle.er_exit.specs.declared.faults.Fault.{Fault}
@@ -28,7 +28,7 @@ use Rattle.er_trace.specs.Names.{NameTable}
 use Rattle.er_trace.specs.Trace.{Recording}
 use Rattle.er_triage.specs.First.{KeepFirst}
 use Rattle.eraser.specs.Faults.{replay_fault}
-use Rattle.eraser.specs.Replays.{EndsAs, EndsUsually, FailsAs, FailsFor, IsEndOf, IsFoundFault, IsOutput, IsUsualFault, LeavesUsually, ReplaysTo, unordered_of}
+use Rattle.eraser.specs.Replays.{EndsAs, EndsUsually, FailsAs, FailsFor, IsEndOf, IsFoundFault, IsOutput, IsUsualFault, MayLack, LeavesUsually, ReplaysTo, unordered_of}
 use Rattle.eraser.specs.declared.replaying.Ended.{Ended}
 use Rattle.eraser.specs.declared.until.Cut.{Cut}
 
@@ -71,14 +71,20 @@ record IsAlone (text : List ℕ) (found left : Reports) (bytes : List ℕ) : Typ
   pub says : told report ≡ report_with (lost_told text) recording [] false stop
   pub bytes_are : bytes ≡ output_of text recording [] false stop
 
+-- without rules none asks for facts
+nothing_lacks : (replay : Replay) (raced found : Reports) → MayLack replay [] raced found → raced ≡ found
+nothing_lacks replay raced found (inl same) = same
+nothing_lacks replay raced found (inr (asks, again, left)) = absurd (cc)
+
 alone : {F : Type 0} (remaining : F → Option (List ℕ)) (replay : Replay) (text bytes : List ℕ) (output : IsOutput remaining replay text [] bytes) → IsUsual replay → IsAlone text output.found output.left bytes
 alone remaining replay text bytes output usual = with_report (there output.found.lockset (output.locks ∙ ap asks_locks usual.analysis))
   where
     reports : AreReportsOfText Lockset text usual_limit [] false output.names output.found
     reports =
-        subst (λ (a : Analysis). AreReportsOfText a text usual_limit [] false output.names output.found) usual.analysis
-        (subst (λ (limit : ℕ). AreReportsOfText replay.analysis text limit [] false output.names output.found) usual.limit
-        (subst (λ (explain : Bool). AreReportsOfText replay.analysis text replay.byte_limit [] explain output.names output.found) usual.explain output.reports))
+        subst (λ (r : Reports). AreReportsOfText Lockset text usual_limit [] false output.names r) (nothing_lacks replay output.raced output.found output.facts)
+        (subst (λ (a : Analysis). AreReportsOfText a text usual_limit [] false output.names output.raced) usual.analysis
+        (subst (λ (limit : ℕ). AreReportsOfText replay.analysis text limit [] false output.names output.raced) usual.limit
+        (subst (λ (explain : Bool). AreReportsOfText replay.analysis text replay.byte_limit [] explain output.names output.raced) usual.explain output.reports)))
 
     first : KeepFirst None output.found output.left
     first = subst (λ (m : Option ℕ). KeepFirst m output.found output.left) usual.max_races output.first

@@ -22,7 +22,7 @@ use Rattle.er_report.specs.declared.reports.Form.TheVariants as form
 use Rattle.er_report.specs.declared.reports.Reports.{Reports}
 use Rattle.er_request.specs.declared.request.Replay.{Replay}
 use Rattle.er_request.specs.Words.{usual_limit}
-use Rattle.er_rules.specs.Rules.{Target}
+use Rattle.er_rules.specs.Rules.{Target, ask_facts}
 use Rattle.er_run.specs.Faults.{IsFaultOfText, IsNoDamage, IsOfReading}
 use Rattle.er_run.specs.Replays.{IsBegun, IsReplayed}
 use Rattle.er_report.specs.Reports.{asks_locks, asks_order}
@@ -32,6 +32,7 @@ use Rattle.er_text.specs.Ending.{IsEndingOf}
 use Rattle.er_text.specs.Trace.{IsFault}
 use Rattle.er_text.specs.declared.endings.Ending.{Ending}
 use Rattle.er_trace.specs.Names.{NameTable}
+use Rattle.er_triage.specs.Facts.{AreLeft}
 use Rattle.er_triage.specs.First.{KeepFirst}
 use Rattle.er_triage.specs.Known.{lines_of}
 use Rattle.er_triage.specs.Notes.{AreNotes, notes_text}
@@ -54,9 +55,18 @@ tells_places form.Json = true
 tells_places form.Sarif = true
 tells_places form.Html = true
 
--- places are shown, and the trace may be a file that is read whole
+-- the trace may be a file that is read whole
+abbrev pub reads_again : Replay → Bool
+reads_again replay = not replay.until_fault && not (bytes_eq replay.trace.now (codes "-"))
+
+-- places are shown, and it may
 abbrev pub shows_places : Replay → Bool
-shows_places replay = replay.explain && tells_places replay.form && not replay.until_fault && not (bytes_eq replay.trace.now (codes "-"))
+shows_places replay = replay.explain && tells_places replay.form && reads_again replay
+
+-- the reports are as they were, or rules that ask for it took races by what the trace says of the program. Of what it says this shows nothing
+abbrev pub MayLack : Replay → List Target → Reports → Reports → Type 0
+MayLack replay rules reports left =
+    (reports ≡ left) ⊎ ((ask_facts rules ≡ true) × (reads_again replay ≡ true) × ((table : PlaceTable) × AreLeft table rules reports left))
 
 -- no place is known
 abbrev pub HasNoPlace : PlaceTable → Type 0
@@ -79,13 +89,15 @@ pub record AreShown {F : Type 0} (remaining : F → Option (List ℕ)) (replay :
   pub sources : replay.source ≡ None → excerpts ≡ []
   pub form : IsForm replay.form names table rules excerpts reports bytes
 
--- the text is a trace, and these bytes are the form of its reports by the analysis that is asked for, under these rules, and with the lines of the first
--- races alone if their number is limited
+-- the text is a trace, and these bytes are the form of its reports by the analysis that is asked for, under these rules, also those by what the trace says
+-- of the program, and with the lines of the first races alone if their number is limited
 pub record IsOutput {F : Type 0} (remaining : F → Option (List ℕ)) (replay : Replay) (text : List ℕ) (rules : List Target) (bytes : List ℕ) : Type 0 where
   pub names : NameTable
+  pub raced : Reports
   pub found : Reports
   pub left : Reports
-  pub reports : AreReportsOfText replay.analysis text replay.byte_limit rules replay.explain names found
+  pub reports : AreReportsOfText replay.analysis text replay.byte_limit rules replay.explain names raced
+  pub facts : MayLack replay rules raced found
   pub locks : is_some found.lockset ≡ asks_locks replay.analysis
   pub order : is_some found.unordered ≡ asks_order replay.analysis
   pub first : KeepFirst replay.max_races found left

@@ -1,21 +1,24 @@
 //! What a report shows from files: the places of the accesses that reasons name and what the trace says of the program, by a second look at the trace,
-//! and lines of source files.
-ghost use Rattle.std.specs.Prelude.{◌≡◌, [], false, true, None, IfErr, IfOk, IfSome};
+//! and lines of source files. And which races rules take by what the trace says of the program.
+ghost use Rattle.std.specs.Prelude.{◌≡◌, [], false, true, None, is_some, IfErr, IfOk, IfSome};
 ghost use Rattle.er_binary.specs.Decoded.{IsFresh};
 ghost use Rattle.er_device.specs.Device.{has_failed, inner_of};
 ghost use Rattle.er_exit.specs.declared.faults.Fault.TheVariants.{Memory};
 ghost use Rattle.er_report.specs.Reports.{HaveNames};
-ghost use Rattle.eraser.specs.Replays.{AreOptionsOf, MayHavePlaces, shows_places};
+ghost use Rattle.er_rules.specs.Rules.{targets_of};
+ghost use Rattle.er_trace.specs.Names.{NameTable};
+ghost use Rattle.eraser.specs.Replays.{AreOptionsOf, MayHavePlaces, MayLack, reads_again, shows_places};
 
 use crate::replaying::Job;
 use er_binary::Decoded;
 use er_device::Device;
 use er_exit::{Fault, open_ordinary};
 use er_forms::{Excerpt, excerpt_around, place_of, sites_of};
-use er_places::{Noting, Places, facts_of_reports, places_of_reports};
+use er_places::{Noting, Places, facts_of_races, facts_of_reports, places_of_reports};
 use er_report::{Form, Reports};
 use er_request::Replay;
 use er_trace::Names;
+use er_triage::take_by_facts;
 use std::alloc::AllocError;
 use std::io::{ErrorKind, Read};
 use std::rt::Files;
@@ -41,6 +44,27 @@ pub(crate) fn places_of<R: Files + AllocGlobal>(rt: &R, job: Job<'_>, reports: &
     let mut again = again.into_inner();
     again.read_on();
     places.with_facts(again.into_facts())
+}
+
+/// The reports without the races that rules take by what the trace says of the program. It says nothing if it can't be read again.
+pub(crate) fn without_known<R: Files + AllocGlobal>(
+    rt: &R,
+    job: Job<'_>,
+    reports: Reports,
+) -> Result<Reports, Fault>
+    ensures left { IfOk result (MayLack job.entry.replay.now (targets_of job.entry.suppressions.now) reports) }
+    ensures named { (names : NameTable) → HaveNames names reports → IfOk result (HaveNames names) }
+    ensures asked { IfOk result (λ left. (is_some left.lockset ≡ is_some reports.lockset) × (is_some left.unordered ≡ is_some reports.unordered)) }
+    ensures fault { IfErr result (λ fault. fault ≡ Memory) }
+{
+    if !job.suppressions.ask_facts() || !reads_again(job.replay) {
+        return Ok(reports);
+    }
+    let Some(file) = open_ordinary(rt, job.replay.trace) else {
+        return Ok(reports);
+    };
+    let facts = facts_of_races(rt.alloc(), Decoded::new(rt.alloc(), file), &reports)?;
+    Ok(take_by_facts(rt.alloc(), reports, job.suppressions, &facts)?)
 }
 
 /// The lines around the sites of the reports' races, of each file that is found below the folder. Without a folder there are none.
@@ -89,12 +113,19 @@ fn open_again<R: Files + AllocGlobal>(
     Some(Device::new(Noting { decoded, facts }))
 }
 
-// Whether places are shown, and the trace may be a file that is read whole.
+// Whether places are shown, and the trace is read again.
 fn shows_places(replay: &Replay<'_>) -> bool
     ensures { result ≡ shows_places replay.now }
 {
     let tells_places = replay.form != Form::Text;
-    replay.explain && tells_places && !replay.until_fault && replay.trace != "-"
+    replay.explain && tells_places && reads_again(replay)
+}
+
+// Whether the trace may be a file that is read whole.
+fn reads_again(replay: &Replay<'_>) -> bool
+    ensures { result ≡ reads_again replay.now }
+{
+    !replay.until_fault && replay.trace != "-"
 }
 
 // The lines around a site, if its file is found and has that line.

@@ -14,7 +14,7 @@ ghost use Rattle.eraser.specs.Inner.Writes.{WritesSome};
 ghost use Rattle.eraser.specs.Notes.{notes_on};
 ghost use Rattle.eraser.specs.Replays.{AreOptionsOf, AreShown, EndsAs, FailsAs, FailsBy, IsEndOf, unordered_of, verdict_status};
 
-use crate::places::{excerpts_of, places_of};
+use crate::places::{excerpts_of, places_of, without_known};
 use er_device::Device;
 use er_exit::{Fault, TextNotes, add_notes};
 use er_forms::render;
@@ -156,6 +156,7 @@ fn deliver<R: Files + AllocGlobal, O: Write>(
     ensures nothing { IfErr result (LeavesOutput (O.contents (inner_of output.old)) (O.contents (inner_of output.new))) }
     ensures failed { FailsBy false (has_failed output.new) result }
 {
+    let reports = without_known(rt, job, reports)?;
     let unordered = unordered_of(&reports, has_order);
     let wishes = Wishes {
         known_races: job.replay.write_rules.is_some(),

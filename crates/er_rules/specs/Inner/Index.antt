@@ -1,7 +1,7 @@
 -- Rules found by their sites and by their words, and two rules that take a race: the lesser number is that of the first.
 use Rattle.std.specs.Prelude.{ℕ, Bool, false, string_bytes, ◌&&◌, cond, min, List, [], ◌∷◌, Option, Some, None}
 use Rattle.er_event.specs.Span.{Span}
-use Rattle.er_rules.specs.Targets.{Target, AtSite, AtSites, AtWords, span_of, same_site, takes_name, is_among}
+use Rattle.er_rules.specs.Targets.{Target, AtSite, AtSites, AtWords, AtFact, span_of, same_site, takes_name, is_among}
 use Rattle.er_rules.specs.declared.index.Entry.{Entry}
 use Rattle.er_rules.specs.declared.index.Pattern.{Pattern}
 
@@ -20,18 +20,21 @@ abbrev pub is_of_site : Target → Option (List ℕ) → Bool
 is_of_site (AtSite name) site = same_site name site
 is_of_site (AtSites pattern) site = false
 is_of_site (AtWords words) site = false
+is_of_site (AtFact kind pattern) site = false
 
 -- a rule of a pattern that takes the site's name
 abbrev pub is_of_pattern : Target → Option (List ℕ) → Bool
 is_of_pattern (AtSite name) site = false
 is_of_pattern (AtSites pattern) site = takes_name pattern site
 is_of_pattern (AtWords words) site = false
+is_of_pattern (AtFact kind pattern) site = false
 
 -- a rule whose words have both
 abbrev pub is_of_words : Target → ℕ → ℕ → Bool
 is_of_words (AtSite name) lo hi = false
 is_of_words (AtSites pattern) lo hi = false
 is_of_words (AtWords words) lo hi = has_both words lo hi
+is_of_words (AtFact kind pattern) lo hi = false
 
 -- the first rule whose words have both
 unfoldable pub first_of : List Entry → ℕ → ℕ → Option ℕ

@@ -2,30 +2,36 @@
 use Rattle.std.specs.Prelude.{◌≡◌, ℕ, ◌+◌, ◌^◌, ◌&&◌, ◌||◌, ◌++◌, not, Bool, true, false, nat_le, nat_lt, List, [], ◌∷◌, Option, Some, None, Result, Ok, Err, codes, option_map, if◌then◌else◌}
 use Rattle.std.specs.List.{list_all}
 use Rattle.std.specs.Str.{bytes_eq}
+use denote.Ref.{Bor}
 use Rattle.er_event.specs.Span.{Span}
-use Rattle.er_rules.specs.Rules.{Target, AtSite, AtSites, AtWords, span_of, targets_of}
+use Rattle.er_rules.specs.Rules.{Target, AtSite, AtSites, AtWords, AtFact, span_of, targets_of}
+use Rattle.er_rules.specs.declared.rules.FactKind.{FactKind}
 use Rattle.er_rules.specs.declared.rules.WordSpan.{WordSpan}
 use Rattle.er_rules.specs.declared.rules.Suppressions.{Suppressions}
 use Rattle.er_lines.specs.declared.faults.TextKind.{TextKind}
-use Rattle.er_rules.specs.Texts.{is_header, run_of, site_target}
+use Rattle.er_rules.specs.Texts.{is_header, kind_in, run_of, site_target}
 use Rattle.er_lines.specs.Naming.{is_site_name}
 use Rattle.er_lines.specs.declared.faults.TextKind.TheVariants.{BadName, NotAscii, MissingOperand, BadVerb, ExtraOperand, AddressOutOfRange}
 use Rattle.er_lines.specs.declared.faults.TextFault.{TextFault}
 use Rattle.er_lines.specs.declared.faults.ReadFault.{ReadFault}
 use Rattle.er_lines.specs.declared.faults.ReadFault.TheVariants as fault
 use Rattle.er_rules.specs.declared.texts.LineRule.{LineRule}
-use Rattle.er_rules.specs.declared.texts.LineRule.TheVariants.{Site, Sites, Words}
+use Rattle.er_rules.specs.declared.texts.LineRule.TheVariants.{Site, Sites, Words, Fact}
 use Rattle.er_lines.specs.Lines.{Placed, placed, says_something, has_bytes, words, word_at, is_ascii}
 use Rattle.er_lines.specs.Words.{and_then, map_ok, number_in, seen_name, GivesBy}
 use Rattle.er_lines.specs.Reading.{read_lines}
 
--- what a word for sites aims at
-abbrev pub site_in : Bool → List ℕ → Result Target TextKind
-site_in is_second word = if not (is_site_name word) then Err BadName else Ok (site_target is_second word)
+-- the only operand, which is a name
+abbrev pub name_in : List ℕ → List ℕ → Result (List ℕ) TextKind
+name_in first second =
+    if not (has_bytes first) then Err MissingOperand else if has_bytes second then Err ExtraOperand else if not (is_site_name first) then Err BadName else Ok first
 
 abbrev pub site_rule_in : Bool → List ℕ → List ℕ → Result Target TextKind
-site_rule_in is_second first second =
-    if not (has_bytes first) then Err MissingOperand else if has_bytes second then Err ExtraOperand else site_in is_second first
+site_rule_in is_second first second = map_ok (site_target is_second) (name_in first second)
+
+abbrev pub fact_rule_in : Option FactKind → List ℕ → List ℕ → Result Target TextKind
+fact_rule_in None first second = Err BadVerb
+fact_rule_in (Some kind) first second = map_ok (AtFact kind) (name_in first second)
 
 abbrev pub is_outside : ℕ → ℕ → Bool
 is_outside address size = nat_le (2 ^ 48) address || nat_lt (2 ^ 48) (address + size)
@@ -44,7 +50,7 @@ abbrev pub rule_in : Bool → List ℕ → List ℕ → List ℕ → List ℕ �
 rule_in is_second sort first second third =
     if bytes_eq sort (codes "site") then site_rule_in is_second first second
     else if bytes_eq sort (codes "words") then run_rule_in first second third
-    else Err BadVerb
+    else fact_rule_in (kind_in is_second sort) first second
 
 abbrev pub rule_of : Bool → List (List ℕ) → Result Target TextKind
 rule_of is_second words = rule_in is_second (word_at 0 words) (word_at 1 words) (word_at 2 words) (word_at 3 words)
@@ -91,6 +97,10 @@ abbrev pub rule_view : LineRule → Target
 rule_view (Site name) = AtSite (seen_name name)
 rule_view (Sites pattern) = AtSites pattern.now
 rule_view (Words run) = AtWords (option_map span_of run)
+rule_view (Fact kind pattern) = AtFact kind pattern.now
+
+abbrev pub GivesName : Result (Bor (List ℕ)) TextKind → Result (List ℕ) TextKind → Type 0
+GivesName = GivesBy (λ name. name.now)
 
 abbrev pub GivesRun : Result (Option WordSpan) TextKind → Result (Option Span) TextKind → Type 0
 GivesRun = GivesBy (option_map span_of)
