@@ -276,6 +276,19 @@ def ways_to_use(folder, findings, counter, queue):
     findings.check("the exit status of a report without the races that rules take", found.returncode == 0 and ", races 0," in found.stderr, f"{found}")
     found = command([RUN, "--explain", "--suppress", rules, counter])
     findings.check("suppressions with --explain", found.returncode == 3 and "suppression 1: 1\n" in found.stderr, f"{found}")
+    for rule, taken in (("function work", 1), ("variable bare", 1), ("frame counter.c:*", 1), ("function main", 0), ("variable guarded", 0)):
+        facts = folder / "facts.rules"
+        facts.write_text(f"eraser suppressions 2\n\n  {rule}\n")
+        for words in ([], ["-o", folder / "facts.trace"], ["--by-site"]):
+            found = command([RUN, "--suppress", facts, *words, counter])
+            right = f", suppressed {taken}, " in found.stderr and f"races {1 - taken}," in found.stderr
+            findings.check(f"suppressions of what the trace says: {rule} {words}", found.returncode == 3 and right, f"{found}")
+    facts.write_text("eraser suppressions 2\nfunction work\n")
+    found = command([RUN, "--trace", "3", "--suppress", facts, counter])
+    findings.check("a text says nothing of the program", ", suppressed 0, " in found.stderr and "races 1," in found.stderr, f"{found}")
+    facts.write_text("eraser suppressions 2\nfunction\n")
+    found = command([RUN, "--suppress", facts, "--exit-status", "report", queue])
+    findings.check("a rule with no pattern", found.returncode == 2 and "missing operand" in found.stderr, f"{found}")
     found = command([RUN, "--explain", counter])
     findings.check("reasons of a race", re.search(r"^line .* race: .*\n  first: line \d+, t\d ", found.stderr, re.M), f"{found}")
     found = command([RUN, "--explain", "--format", "json", "--report", "-", counter])

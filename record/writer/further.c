@@ -315,7 +315,7 @@ static void record_further(struct asker *asker, unsigned number)
     read_program(asker->process, program);
     further_name(outcome, number, program);
     char *trace = options.has_trace_folder ? further_trace(outcome) : NULL, *report = further_report(outcome);
-    bool is_kept = options.is_for_people || trace;
+    bool is_kept = is_kept_meanwhile() || trace;
     outcome->replay_status = -1;
     outcome->run = atomic_load(&shared->run);
     outcome->error = is_kept ? kept_open(trace) : 0;

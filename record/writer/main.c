@@ -322,7 +322,7 @@ static const char *first_trace(void)
 
 static void open_trace(void)
 {
-    if (!options.trace && !options.is_for_people)
+    if (!options.trace && !is_kept_meanwhile())
         return;
     errno = kept_open(first_trace());
     if (errno)

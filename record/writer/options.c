@@ -164,10 +164,34 @@ static unsigned usual_workers(void)
     return sched_getaffinity(0, sizeof processors, &processors) != 0 || CPU_COUNT(&processors) < MANY_PROCESSORS ? 1 : 2;
 }
 
+/* Whether rules take races by frames, functions or variables: a file of the second edition has a line that begins with such a word. What can't be read is
+ * refused by the replay. */
+static bool ask_facts(const char *path)
+{
+    struct stat found;
+    FILE *rules = path && stat(path, &found) == 0 && S_ISREG(found.st_mode) ? fopen(path, "re") : NULL;
+    char *line = NULL, word[10], rest[14], edition[3];
+    size_t room = 0;
+    bool is_second = rules && getline(&line, &room, rules) > 0 && sscanf(line, "%9s %13s %2s", word, rest, edition) == 3
+                     && strcmp(word, "eraser") == 0 && strcmp(rest, "suppressions") == 0 && strcmp(edition, "2") == 0;
+    bool do_ask = false;
+    while (is_second && !do_ask && getline(&line, &room, rules) > 0)
+        do_ask = sscanf(line, "%9s", word) == 1 && (strcmp(word, "frame") == 0 || strcmp(word, "function") == 0 || strcmp(word, "variable") == 0);
+    free(line);
+    if (rules)
+        fclose(rules);
+    return do_ask;
+}
+
+bool is_kept_meanwhile(void)
+{
+    return options.is_for_people || options.asks_facts;
+}
+
 /* The limit is of a file that grows. A replay takes what comes. */
 static void set_limit(void)
 {
-    if (options.trace || options.is_for_people)
+    if (options.trace || is_kept_meanwhile())
         output.limit = options.has_limit ? options.limit : options.trace ? USUAL_LIMIT : 0;
     else if (options.has_limit && options.limit && !options.is_quiet)
         fputs("record: --limit is of a trace that -o keeps: nothing is kept, and all is recorded\n", stderr);
@@ -200,8 +224,8 @@ static void report_for_people(void)
 /* Whether a trace that is kept gives the report more than one that passes by. */
 static bool has_places(void)
 {
-    bool is_kept = options.trace || options.is_for_people;
-    return is_kept && !options.until_fault && (options.by_site || (options.format && strcmp(options.format, "text") != 0));
+    bool is_kept = options.trace || is_kept_meanwhile();
+    return is_kept && !options.until_fault && (options.asks_facts || options.by_site || (options.format && strcmp(options.format, "text") != 0));
 }
 
 /* A folder that is not there yet is known by the slash behind it. */
@@ -340,12 +364,16 @@ void read_options(int count, char **words)
         case 'V': fputs(version, stdout); end_printed(); break;
         default: fputs("record: --help says what there is\n", stderr); exit(STATUS_FAILED);
         }
-    if (options.is_online)
+    if (options.is_online) {
         go_online();
-    else if (options.stops_at_race)
+    } else if (options.stops_at_race) {
         refuse("--stop-at-race goes with --online: a replay finds a race when the program has gone on");
-    else
+    } else {
+        options.asks_facts = ask_facts(options.rules);
+        if (options.asks_facts && !options.has_form)
+            keep_stacks();
         choose_form();
+    }
     check_together();
     if (optind == count) {
         print_usage(words[0], stderr);

@@ -37,6 +37,7 @@ struct options {
     uint64_t limit; /* what --limit says */
     bool has_report_folder, has_trace_folder; /* --report and --output name folders, for files of several programs */
     bool is_for_people; /* nothing says how to report, and the report goes to a terminal: the trace is kept, if only until it is replayed */
+    bool asks_facts; /* its rules ask what the trace says of the program, which a file gives: the trace is kept as well, with its calls */
     bool shows_places; /* the report has the places of its reasons, which a file gives: it is replayed when it is whole, and not as it grows */
 };
 extern struct options options;
@@ -45,6 +46,8 @@ extern struct options options;
 void read_options(int count, char **words);
 /* The folder of the library that the program gets, below that of all. */
 const char *library_folder(void);
+/* Whether a trace that -o doesn't name is kept until it is replayed. */
+bool is_kept_meanwhile(void);
 /* Ends the recorder: what it cannot do, to what, and errno's reason. */
 void fail(const char *what, const char *name);
 
