@@ -283,6 +283,18 @@ def ways_to_use(folder, findings, counter, queue):
             found = command([RUN, "--suppress", facts, *words, counter])
             right = f", suppressed {taken}, " in found.stderr and f"races {1 - taken}," in found.stderr
             findings.check(f"suppressions of what the trace says: {rule} {words}", found.returncode == 3 and right, f"{found}")
+    # Where the header stands, as docs/FORMATS.md says, and whether rules behind it ask what a trace 4 says.
+    for text, asks in (
+        ("# A comment.\n#\n\neraser suppressions 2\n# variable\nfunction work\n", True),
+        (" \t \n\teraser  suppressions\t2 \nframe *", True),
+        ("#eraser suppressions 2\nfunction work\n", False),
+        ("site a\neraser suppressions 2\nfunction work\n", False),
+        ("eraser suppressions 2\n# function work\nsite function\n", False),
+    ):
+        facts.write_text(text)
+        found = command([RUN, "-o", trace, "--suppress", facts, counter])
+        is_binary = not trace.read_bytes().startswith(b"eraser trace 3\n")
+        findings.check(f"what rules ask of a recording: {text!r}", is_binary == asks, f"{found}")
     facts.write_text("eraser suppressions 2\nfunction work\n")
     found = command([RUN, "--trace", "3", "--suppress", facts, counter])
     findings.check("a text says nothing of the program", ", suppressed 0, " in found.stderr and "races 1," in found.stderr, f"{found}")

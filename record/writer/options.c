@@ -164,6 +164,16 @@ static unsigned usual_workers(void)
     return sched_getaffinity(0, sizeof processors, &processors) != 0 || CPU_COUNT(&processors) < MANY_PROCESSORS ? 1 : 2;
 }
 
+/* The next line that is neither blank nor a comment. */
+static bool read_line(char **line, size_t *room, FILE *rules)
+{
+    ssize_t length;
+    do
+        length = getline(line, room, rules);
+    while (length > 0 && (**line == '#' || strspn(*line, " \t\n") == (size_t)length));
+    return length > 0;
+}
+
 /* Whether rules take races by frames, functions or variables: a file of the second edition has a line that begins with such a word. What can't be read is
  * refused by the replay. */
 static bool ask_facts(const char *path)
@@ -172,10 +182,10 @@ static bool ask_facts(const char *path)
     FILE *rules = path && stat(path, &found) == 0 && S_ISREG(found.st_mode) ? fopen(path, "re") : NULL;
     char *line = NULL, word[10], rest[14], edition[3];
     size_t room = 0;
-    bool is_second = rules && getline(&line, &room, rules) > 0 && sscanf(line, "%9s %13s %2s", word, rest, edition) == 3
+    bool is_second = rules && read_line(&line, &room, rules) && sscanf(line, "%9s %13s %2s", word, rest, edition) == 3
                      && strcmp(word, "eraser") == 0 && strcmp(rest, "suppressions") == 0 && strcmp(edition, "2") == 0;
     bool do_ask = false;
-    while (is_second && !do_ask && getline(&line, &room, rules) > 0)
+    while (is_second && !do_ask && read_line(&line, &room, rules))
         do_ask = sscanf(line, "%9s", word) == 1 && (strcmp(word, "frame") == 0 || strcmp(word, "function") == 0 || strcmp(word, "variable") == 0);
     free(line);
     if (rules)
