@@ -296,6 +296,13 @@ def ways_to_use(folder, findings, counter, queue):
         is_binary = not trace.read_bytes().startswith(b"eraser trace 3\n")
         findings.check(f"what rules ask of a recording: {text!r}", is_binary == asks, f"{found}")
     facts.write_text("eraser suppressions 2\nfunction work\n")
+    found = command([RUN, "-o", trace, "--until-fault", "--suppress", facts, counter])
+    is_text = trace.read_bytes().startswith(b"eraser trace 3\n")
+    findings.check("rules that take nothing ask nothing of a recording", is_text and ", suppressed 0, " in found.stderr and "races 1," in found.stderr, f"{found}")
+    # Nor is a trace kept for them: a limit is of one that is.
+    for words in (["--until-fault"], ["--trace", "3"]):
+        found = command([RUN, "--limit", "1000", *words, "--suppress", facts, counter])
+        findings.check(f"no trace is kept for rules that take nothing {words}", "nothing is kept, and all is recorded\n" in found.stderr, f"{found}")
     found = command([RUN, "--trace", "3", "--suppress", facts, counter])
     findings.check("a text says nothing of the program", ", suppressed 0, " in found.stderr and "races 1," in found.stderr, f"{found}")
     facts.write_text("eraser suppressions 2\nfunction\n")

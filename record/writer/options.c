@@ -379,7 +379,8 @@ void read_options(int count, char **words)
     } else if (options.stops_at_race) {
         refuse("--stop-at-race goes with --online: a replay finds a race when the program has gone on");
     } else {
-        options.asks_facts = ask_facts(options.rules);
+        /* Where these rules take nothing, a trace need not be kept for them. */
+        options.asks_facts = !options.until_fault && !(options.has_form && trace_form == &text_form) && ask_facts(options.rules);
         if (options.asks_facts && !options.has_form)
             keep_stacks();
         choose_form();
