@@ -68,6 +68,8 @@ static const char usage[] =
     "--trace is given. If the command starts several programs that can be recorded, the report of each goes to a file of its own, below\n"
     "the folder eraser.out.\n"
     "\n"
+    "If RULES has rules by frame, function or variable, the trace is kept in a temporary file as well, as by --stacks unless --trace is given.\n"
+    "\n"
     "It ends with the program's exit status, or 128 and the number of the signal that ended it; 125 if the recorder failed, 126 or 127\n"
     "if the program cannot be started. The report comes on standard error when the program has ended.\n"
     "\n"

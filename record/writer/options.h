@@ -38,7 +38,7 @@ struct options {
     bool has_report_folder, has_trace_folder; /* --report and --output name folders, for files of several programs */
     bool is_for_people; /* nothing says how to report, and the report goes to a terminal: the trace is kept, if only until it is replayed */
     bool asks_facts; /* its rules ask what the trace says of the program, which a file gives: the trace is kept as well, with its calls */
-    bool shows_places; /* the report has the places of its reasons, which a file gives: it is replayed when it is whole, and not as it grows */
+    bool shows_places; /* the report has the places of its reasons, or rules ask for places, which a file gives: it is replayed when it is whole */
 };
 extern struct options options;
 
