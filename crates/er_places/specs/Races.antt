@@ -1,20 +1,39 @@
--- The lines of a trace that have the races of a report.
-use Rattle.std.specs.Prelude.{ℕ, nat_eq, Bool, false, Option, Some, None}
+-- The races of reports, and what a trace is asked for them.
+use Rattle.std.specs.Prelude.{ℕ, nat_eq, ◌||◌, Bool, false, Option, Some, None}
 use Rattle.std.specs.List.{list_any}
 use Rattle.er_report.specs.Lines.{RaceView, line_view, race_of}
+use Rattle.er_report.specs.declared.report.Deed.{Deed}
+use Rattle.er_report.specs.declared.report.Deed.TheVariants.{Access, Reuse}
 use Rattle.er_report.specs.declared.report.Line.{Line}
 use Rattle.er_report.specs.declared.report.Report.{Report}
+use Rattle.er_report.specs.declared.reports.Reports.{Reports}
 
--- the race stands on this line
-abbrev pub stands_on : ℕ → Option RaceView → Bool
-stands_on number None = false
-stands_on number (Some race) = nat_eq number race.line
+-- the race is on this line of the trace
+abbrev pub is_on : ℕ → RaceView → Bool
+is_on line race = nat_eq line race.line
 
--- the line of the report tells such a race
-abbrev pub is_race_on : ℕ → Line → Bool
-is_race_on number line = stands_on number (race_of (line_view line))
+-- it is made by an access to this word; a reuse makes none
+abbrev pub deed_accesses : ℕ → Deed → Bool
+deed_accesses word (Access kind accessed) = nat_eq word accessed
+deed_accesses word (Reuse range) = false
 
--- one of a report's lines does, if there is a report
-abbrev pub is_raced : Option Report → ℕ → Bool
-is_raced None number = false
-is_raced (Some report) number = list_any (is_race_on number) report.lines.items
+abbrev pub accesses : ℕ → RaceView → Bool
+accesses word race = deed_accesses word race.deed
+
+-- there is a race, and it is such a one
+abbrev pub is_such : (RaceView → Bool) → Option RaceView → Bool
+is_such such None = false
+is_such such (Some race) = such race
+
+-- a line of a report tells such a race
+abbrev pub tells_race : (RaceView → Bool) → Line → Bool
+tells_race such line = is_such such (race_of (line_view line))
+
+-- one of its lines does, if there is a report
+abbrev pub has_race : (RaceView → Bool) → Option Report → Bool
+has_race such None = false
+has_race such (Some report) = list_any (tells_race such) report.lines.items
+
+-- one of the reports has such a race
+abbrev pub have_race : (RaceView → Bool) → Reports → Bool
+have_race such reports = has_race such reports.lockset || has_race such reports.unordered

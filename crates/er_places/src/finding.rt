@@ -1,11 +1,11 @@
 //! A second look at a trace text, batch by batch.
-ghost use Rattle.std.specs.Prelude.{IsSorted, ◌≡◌, ◌<◌, ◌≤◌, ◌+◌, ◌^◌, ◌++◌, ◌||◌, ℕ, List, Option, All, false, true, None, length, nat_eq, IfSome, IfOk, IfErr, OnOk};
+ghost use Rattle.std.specs.Prelude.{IsSorted, ◌≡◌, ◌<◌, ◌≤◌, ◌+◌, ◌^◌, ◌++◌, ◌||◌, ℕ, List, Option, All, false, true, None, length, IfSome, IfOk, IfErr, OnOk};
 ghost use Rattle.std.specs.Ordering.{nat_cmp};
 ghost use Rattle.er_places.specs.Facts.{IsFresh, lines_asked, words_asked};
 ghost use Rattle.er_device.specs.Device.{inner_of, has_failed, taken_of};
 ghost use Rattle.er_places.specs.Inner.Following.{HasCome, HasEnded, are_asked, is_wanted};
 ghost use Rattle.er_places.specs.Places.{ArePlaces, IsFaultOf, place_at};
-ghost use Rattle.er_places.specs.Races.{is_raced};
+ghost use Rattle.er_places.specs.Races.{accesses, has_race, have_race, is_on};
 ghost use Rattle.er_lines.specs.Lines.{bytes_past_limit};
 ghost use Rattle.er_lines.specs.Faults.{HasFailedBy};
 ghost use Rattle.er_lines.specs.Lending.{taken_by};
@@ -138,8 +138,24 @@ pub fn places_of_reports<D: Read>(
     }
 }
 
-/// What a binary trace says of each race of these reports: the places and functions that led to it, and the variable that it touched. A text says nothing.
-/// No place of an access is known. A trace that can't be read to its end has said what it said before.
+/// What is asked of a trace for the races of these reports: of their lines, and of the words that they access.
+pub fn asked_of_races(alloc: Global, reports: &Reports) -> Result<Facts, AllocError>
+    ensures asked { IfOk result (λ facts. (line : ℕ) → is_wanted (lines_asked facts) line ≡ have_race (is_on line) reports.now) }
+    ensures accessed { IfOk result (λ facts. (word : ℕ) → is_wanted (words_asked facts) word ≡ have_race (accesses word) reports.now) }
+    ensures rising { IfOk result (λ facts. IsSorted nat_cmp (lines_asked facts)) }
+    ensures words { IfOk result (λ facts. IsSorted nat_cmp (words_asked facts)) }
+    ensures fresh { IfOk result IsFresh }
+{
+    let (mut lines, mut words) = (Vec::new(alloc), Vec::new(alloc));
+    add_races(&mut lines, &mut words, &reports.lockset)?;
+    add_races(&mut lines, &mut words, &reports.unordered)?;
+    lines.sort_unstable();
+    words.sort_unstable();
+    Ok(Facts::asked(alloc, lines, words))
+}
+
+/// What a binary trace says of each race of these reports ([`asked_of_races`]): the places and functions that led to it, and the variable that it touched.
+/// A text says nothing. No place of an access is known. A trace that can't be read to its end has said what it said before.
 pub fn facts_of_races<D: Read + Drop>(
     alloc: Global,
     decoded: Decoded<D>,
@@ -147,12 +163,7 @@ pub fn facts_of_races<D: Read + Drop>(
 ) -> Result<Places, AllocError>
     ensures { IfOk result (λ places. (line : ℕ) → place_at places line ≡ None) }
 {
-    let (mut lines, mut words) = (Vec::new(alloc), Vec::new(alloc));
-    add_races(&mut lines, &mut words, &reports.lockset)?;
-    add_races(&mut lines, &mut words, &reports.unordered)?;
-    lines.sort_unstable();
-    words.sort_unstable();
-    let facts = Facts::asked(alloc, lines, words);
+    let facts = asked_of_races(alloc, reports)?;
     let mut noting = Noting { decoded, facts };
     noting.read_on();
     if noting.facts.failed {
@@ -161,9 +172,10 @@ pub fn facts_of_races<D: Read + Drop>(
     Ok(Places::new(alloc).with_facts(noting.into_facts()))
 }
 
-// Adds the lines of a report's races, and the numbers of their words.
+// Adds the lines of a report's races, and the numbers of the words that they access.
 fn add_races(lines: &mut Vec<u64>, words: &mut Vec<u64>, report: &Option<Report>) -> Put
-    ensures { OnOk result ((line : ℕ) → is_wanted lines.new.items line ≡ (is_wanted lines.old.items line || is_raced report.now line)) }
+    ensures lines { OnOk result ((line : ℕ) → is_wanted lines.new.items line ≡ (is_wanted lines.old.items line || has_race (is_on line) report.now)) }
+    ensures words { OnOk result ((word : ℕ) → is_wanted words.new.items word ≡ (is_wanted words.old.items word || has_race (accesses word) report.now)) }
 {
     let Some(report) = report else {
         return Ok(());
@@ -177,7 +189,8 @@ fn add_races(lines: &mut Vec<u64>, words: &mut Vec<u64>, report: &Option<Report>
 }
 
 fn add_race(lines: &mut Vec<u64>, words: &mut Vec<u64>, race: &Race<'_>) -> Put
-    ensures { OnOk result ((line : ℕ) → is_wanted lines.new.items line ≡ (is_wanted lines.old.items line || nat_eq line race.now.line)) }
+    ensures lines { OnOk result ((line : ℕ) → is_wanted lines.new.items line ≡ (is_wanted lines.old.items line || is_on line race.now)) }
+    ensures words { OnOk result ((word : ℕ) → is_wanted words.new.items word ≡ (is_wanted words.old.items word || accesses word race.now)) }
 {
     if let Deed::Access(_, word) = race.deed {
         words.push(word.number())?;

@@ -25,7 +25,7 @@
 #![tactic(auto)]
 
 pub use facts::{Birth, Block, Extent, Facts, Noting, Start, Variable};
-pub use finding::{facts_of_races, facts_of_reports, places_of_reports};
+pub use finding::{asked_of_races, facts_of_races, facts_of_reports, places_of_reports};
 pub use places::{Legend, Place, Places};
 
 mod facts;
