@@ -9,7 +9,7 @@ use er_lines::is_site_name;
 use std::alloc::{AllocError, Global};
 use std::collections::BTreeMap;
 use std::io;
-use std::io::Read;
+use std::io::{ErrorKind, Read};
 
 // The most blocks that are kept.
 const MOST_BLOCKS: usize = 256;
@@ -86,6 +86,24 @@ pub struct Birth {
     pub is_created: bool,
 }
 
+impl Birth {
+    ghost use Rattle.er_places.specs.Inner.Noting.{birth_by};
+
+    // The lock that the body of a record names, and where its life began.
+    fn read(state: &State, body: &[u8]) -> Option<(u64, Birth)>
+        ensures { result ≡ birth_by state.now body.now }
+    {
+        let (head, rest) = body.split_first_chunk::<14>()?;
+        let (lock, node) = (number(&head[..4]), number(&head[10..]));
+        if lock >= state.locks.len() || node > state.nodes.len() || rest.len() > 1 {
+            return None;
+        }
+        let place = state.nodes.place_of(node)?;
+        let is_created = rest.is_empty();
+        Some((lock, Birth { place, is_created }))
+    }
+}
+
 /// What was asked and noted of a binary trace. Places are numbered.
 #[derive(Drop)]
 pub struct Facts {
@@ -118,7 +136,8 @@ pub struct Facts {
 
 impl Facts {
     ghost use Rattle.std.specs.Ordering.{nat_cmp};
-    ghost use Rattle.er_places.specs.Inner.Noting.{SameLines, next_made};
+    ghost use Rattle.std.specs.Global.{Vec as Bytes};
+    ghost use Rattle.er_places.specs.Inner.Noting.{SameLines, birth_behind, birth_by, birth_in, next_made};
     ghost use Rattle.er_places.specs.Facts.{HasNoted, known_places, lines_asked, table_of, way_on};
 
     /// What a trace says of the events on these lines, and of these words, is asked. Both rise.
@@ -305,19 +324,13 @@ impl Facts {
     }
 
     fn add_lock(&mut self, body: &[u8], state: &State) -> Put
-        ensures { SameLines self.old self.new }
+        ensures lines { SameLines self.old self.new }
+        ensures births { OnOk result ((name : Bytes ℕ) → birth_in self.new name ≡ birth_behind state.now (birth_by state.now body.now) name.items (birth_in self.old name)) }
+        ensures others { table_of self.new ≡ record (table_of self.old) { locks = self.new.locks.entries } }
     {
-        let Some((head, rest)) = body.split_first_chunk::<14>() else {
-            return Ok(());
-        };
-        let (lock, node) = (number(&head[..4]), number(&head[10..]));
-        if lock >= state.locks.len() || node > state.nodes.len() || rest.len() > 1 {
-            return Ok(());
-        }
-        if let Some(place) = state.nodes.place_of(node) {
+        if let Some((lock, birth)) = Birth::read(state, body) {
             let key = Vec::from_slice(self.alloc, state.locks.get(lock))?;
-            let is_created = rest.is_empty();
-            self.locks.insert(key, Birth { place, is_created })?;
+            self.locks.insert(key, birth)?;
         }
         Ok(())
     }
@@ -381,7 +394,11 @@ impl<R: Read> Noting<R> {
         let mut buffer = [0; 4096];
         for _ in 0..u64::MAX {
             match self.read(&mut buffer) {
-                Ok(0) | Err(_) => return,
+                Ok(0) => return,
+                Err(why) => {
+                    self.facts.failed |= why.kind() == ErrorKind::OutOfMemory;
+                    return;
+                }
                 Ok(_) if !self.decoded.is_binary() => return,
                 Ok(_) => {}
             }

@@ -179,7 +179,7 @@ impl Places {
         self.facts.threads.get(thread)
     }
 
-    /// Where the life of a lock of these names began, if that is known. Of the lock of a level it isn't.
+    /// Where the life of a lock of these names began, if that is known: of several records the last one's. Of the lock of a level it isn't.
     #[tactic(auto, unfolding(crate::specs::Names::birth_of))]
     pub fn birth_of(&self, lock: LockId) -> Option<&Birth>
         requires { HasLockName self.now.names lock }
