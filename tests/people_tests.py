@@ -108,6 +108,12 @@ TRACES = {
 
 RULES = {
     "an unknown rule": (b"# known\nsites a.c:1\n", "suppressions line 2: bad verb", ("sites a.c:1", 0), "a rule is: site SITE, or: words ADDRESS BYTES"),
+    "a rule of the second edition": (b"site a.c:1\n  variable jobs\n", "suppressions line 2: bad verb", ("  variable jobs", 2),
+                                     "the rules frame, function and variable need the header eraser suppressions 2"),
+    "a header behind a rule": (b"site a.c:1\neraser suppressions 2\n", "suppressions line 2: bad verb", ("eraser suppressions 2", 0),
+                               "the one header of rules is eraser suppressions 2, in front of all of them"),
+    "an unknown rule of the second edition": (b"eraser suppressions 2\nframes a.c:1\n", "suppressions line 2: bad verb", ("frames a.c:1", 0),
+                                              "a rule is: site SITE, or: words ADDRESS BYTES"),
     "an address of a rule": (b"words 0x1000000000000 4\n", "suppressions line 1: address out of range", ("words 0x1000000000000 4", 6), "addresses are below 2^48"),
     "a control byte in a rule": (b"site a+\x7f\n", "suppressions line 1: bad name", (r"site a+\x7f", 7), RULE_SITES),
     "a rule too short": (b"site\n", "suppressions line 1: missing operand", ("site", 4), "the line ends early; was the file cut off?"),

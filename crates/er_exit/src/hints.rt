@@ -46,6 +46,10 @@ pub(crate) fn row_of(kind: TextKind, of_rules: bool, line: &[u8]) -> (usize, &'s
             (name_at(line), "a name has 1 to 128 letters, digits and _ . : / - and a site of a trace 3 has any printable bytes"),
         TextKind::BadName => (name_at(line), "a name has 1 to 128 letters, digits and _ . : / - and no lock is named none"),
         TextKind::MissingOperand => (line.len(), "the line ends early; was the file cut off?"),
+        TextKind::BadVerb if of_rules && begins(step, &[b"frame ", b"function ", b"variable "]) =>
+            (verb, "the rules frame, function and variable need the header eraser suppressions 2"),
+        TextKind::BadVerb if of_rules && begins(step, &[b"eraser suppressions "]) =>
+            (verb, "the one header of rules is eraser suppressions 2, in front of all of them"),
         TextKind::BadVerb if of_rules => (verb, "a rule is: site SITE, or: words ADDRESS BYTES"),
         TextKind::BadVerb if begins(line, &[b"damaged at byte ", b"cut off at byte "]) =>
             (0, "the option --until-fault reports what the binary trace has before this byte"),
