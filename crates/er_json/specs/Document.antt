@@ -218,10 +218,12 @@ started_row names table thread name (Some place) =
     codes ",\n{\"thread\":" ++ thread_in style.Json names thread ++ codes ",\"name\":" ++ name_value name
     ++ (codes ",\"site\":" ++ string_text (call_name table place) ++ codes "}")
 
+-- what is known of how it began
 abbrev pub began_row : NameTable → PlaceTable → ℕ → Option Start → List ℕ
 began_row names table thread None = []
 began_row names table thread (Some start) = started_row names table thread start.name.items start.place
 
+-- and of the thread of a number
 abbrev pub thread_row : NameTable → PlaceTable → ℕ → List ℕ
 thread_row names table thread = began_row names table thread (start_of table (name_at names.threads thread))
 
@@ -236,9 +238,11 @@ born_row table lock None = []
 born_row table lock (Some birth) =
     codes ",\n{\"lock\":" ++ lock_in style.Json table.names lock ++ codes ",\"site\":" ++ string_text (call_name table birth.place) ++ created_text birth.is_created
 
+-- and of the lock of a number
 abbrev pub birth_row : PlaceTable → ℕ → List ℕ
 birth_row table lock = born_row table lock (birth_of table lock)
 
+-- what is known of a number; no thread has one of 2^30 or more
 abbrev pub mention_row : Mention → NameTable → PlaceTable → ℕ → List ℕ
 mention_row mention.Threads names table thread = cond (nat_lt thread (2 ^ 30)) (thread_row names table thread) []
 mention_row mention.Locks names table lock = birth_row table lock
@@ -248,6 +252,7 @@ abbrev pub list_member : List ℕ → List ℕ → List ℕ
 list_member heading [] = []
 list_member heading (comma ∷ items) = heading ++ items ++ codes "]"
 
+-- the heading of threads, or of locks
 abbrev pub mention_title : Mention → List ℕ
 mention_title mention.Threads = codes ",\n\"threads\":["
 mention_title mention.Locks = codes ",\n\"locks\":["

@@ -1,7 +1,8 @@
 //! Reports as JSON, for programs: documents of our own, and SARIF 2.1.0 for code hosts.
 //!
 //! Begin with [`json_text`] or [`sarif_text`]. A reason of a race says where its access was and what its thread held, if the places given know it.
-//! What else they know of a race is there too: the variable or the block of memory, the functions, and in JSON where its threads were started and the lives of its locks began.
+//! What else they know of a race is there too: the variable or the block of memory, the functions, and in JSON where its threads were started and the
+//! lives of its locks began.
 //!
 //! [`json_text`] writes a document for each report of [`er_report::Reports`]: the races, the refused steps, the words that were shown, the stop,
 //! what the suppressions took, and the totals. The document by happens-before says so in its first line, and two documents are the items of a

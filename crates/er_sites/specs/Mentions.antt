@@ -38,9 +38,11 @@ race_mentions of table None = []
 race_mentions of table (Some race) =
     access_mentions of race.thread (race_place table race) ++ flat_map (λ (because : Because). access_mentions of because.thread (reason_place table because)) race.explained
 
+-- what a line mentions, as contracts see it
 abbrev pub view_mentions : Mention → PlaceTable → LineView → List ℕ
 view_mentions of table view = race_mentions of table (race_of view)
 
+-- and as it is
 abbrev pub line_mentions : Mention → PlaceTable → Line → List ℕ
 line_mentions of table line = view_mentions of table (line_view line)
 
@@ -49,6 +51,7 @@ abbrev pub row_mentions : Mention → PlaceTable → Option Line → List ℕ
 row_mentions of table None = []
 row_mentions of table (Some line) = line_mentions of table line
 
+-- and a row
 abbrev pub example_mentions : Mention → PlaceTable → List Line → SiteRow → List ℕ
 example_mentions of table lines row = row_mentions of table (slice_get lines row.example)
 
@@ -57,6 +60,7 @@ abbrev pub lone_mentions : Mention → PlaceTable → RaceView → ℕ → Deed 
 lone_mentions of table race zero (deed.Reuse range) = race_mentions of table (Some race)
 lone_mentions of table race site did = []
 
+-- if a race is such a one
 abbrev pub reuse_mentions : Mention → PlaceTable → Option RaceView → List ℕ
 reuse_mentions of table None = []
 reuse_mentions of table (Some race) = lone_mentions of table race race.site race.deed
@@ -82,6 +86,7 @@ abbrev pub began_text : NameTable → PlaceTable → ℕ → Option Start → Li
 began_text names table thread None = []
 began_text names table thread (Some start) = started_text names table thread start.name.items start.place
 
+-- and of the thread of a number
 abbrev pub start_text : NameTable → PlaceTable → ℕ → List ℕ
 start_text names table thread = began_text names table thread (start_of table (name_at names.threads thread))
 
@@ -95,6 +100,7 @@ abbrev pub born_text : PlaceTable → ℕ → Option Birth → List ℕ
 born_text table lock None = []
 born_text table lock (Some birth) = codes "  " ++ lock_in style.Short table.names lock ++ began_words birth.is_created ++ short 72 (call_name table birth.place) ++ codes "\n"
 
+-- and of the lock of a number
 abbrev pub birth_text : PlaceTable → ℕ → List ℕ
 birth_text table lock = born_text table lock (birth_of table lock)
 
@@ -108,9 +114,11 @@ abbrev pub headed : List ℕ → List ℕ → List ℕ
 headed title [] = []
 headed title (byte ∷ bytes) = title ++ (byte ∷ bytes) ++ codes "\n"
 
+-- the heading of threads, or of locks
 abbrev pub mention_title : Mention → List ℕ
 mention_title mention.Threads = codes "threads:\n"
 mention_title mention.Locks = codes "locks:\n"
 
+-- where these threads were started, or where the lives of these locks began, each once
 unfoldable pub mentions_text : Mention → NameTable → PlaceTable → List ℕ → List ℕ
 mentions_text of names table numbers = headed (mention_title of) (flat_map (mention_text of names table) (each_once numbers))

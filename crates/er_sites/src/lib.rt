@@ -2,8 +2,8 @@
 //!
 //! Begin with [`sites_text`]. It makes a table of the sites with races, the site with most words first, and for each site one race
 //! with its reasons in sentences. Behind a reason stands where its access was, and which locks it held, if the places given know it. What else they
-//! know is named too: the variable or the block of memory, the functions, and behind all races where their threads were started and the lives of their locks began. If there are
-//! reports of both analyses, the sites of the unordered accesses come first, and then the other sites of the lockset rule's races.
+//! know is named too: the variable or the block of memory, the functions, and behind all races where their threads were started and the lives of their
+//! locks began. If there are reports of both analyses, the sites of the unordered accesses come first, and then the other sites of the lockset rule's races.
 //!
 //! What it promises: the bytes are those of such tables, as `AreSitesOf` says. In the table of a report each of its races counts at its own site and
 //! at no other, and the sites come in falling order. The text is defined line by line in `specs/Text` and whole in `specs/Sites`, and the table
