@@ -25,11 +25,12 @@ risen at joined after from number next is own count swapped t u = swapped t u �
         plus_zero (known_by joined t u)
         ∙ ap (λ b. known_by joined t u + cond (b && from == u) 1 0) (sym apart ∙ ap (λ x. x == t) is ∙ flip from t)
 
--- the same with the numbers the other way round
-pub known-taken : (old new : ClockMap) (t u thread c : ℕ) →
-    known_by new t u ≡ cond (thread == t) (max (known_by old t u) c) (known_by old t u) →
-    known_by new t u ≡ cond (t == thread) (max (known_by old t u) c) (known_by old t u)
-known-taken old new t u thread c is = is ∙ ap (λ b. cond b (max (known_by old t u) c) (known_by old t u)) (flip thread t)
+-- what is joined into the clock of a thread's number, with the numbers the other way round
+pub known-taken : (old new : ClockMap) (thread number : ℕ) (count : ℕ → ℕ) → number ≡ thread →
+    ((n u : ℕ) → known_by new n u ≡ cond (number == n) (max (known_by old n u) (count u)) (known_by old n u)) →
+    (t u : ℕ) → known_by new t u ≡ cond (t == thread) (max (known_by old t u) (count u)) (known_by old t u)
+known-taken old new thread number count is joined t u =
+    joined t u ∙ ap (λ b. cond b (max (known_by old t u) (count u)) (known_by old t u)) (flip number t ∙ ap (λ n. t == n) is)
 
 -- what is taken into a thread's clock
 pub taken-to : (old new : ClockMap) (t u c : ℕ) (b : Bool) →

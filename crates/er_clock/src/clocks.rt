@@ -12,9 +12,10 @@ use crate::clock::{Limit, NoTick};
 use crate::table::ClockTable;
 use crate::takers::Takers;
 use crate::threads::{ThreadClock, ThreadClocks};
+use crate::{Moved, Put};
 use er_event::{Event, LockId, Mode, Step, Sync, ThreadId};
 use er_keys::HashKeys;
-use std::alloc::{AllocError, Global};
+use std::alloc::Global;
 use std::marker::Model;
 
 /// What each thread, each lock for its releases in either mode, and each object knows of the threads' steps.
@@ -106,7 +107,7 @@ impl Clocks {
     }
 
     // What an accepted event moves.
-    fn take(&mut self, thread: ThreadId, event: Event) -> Result<(), NoTick>
+    fn take(&mut self, thread: ThreadId, event: Event) -> Moved
         ensures ok { OnOk result (Moves self.old (Some (record { thread = thread; sync = sync_of event })) self.new) }
         ensures err { OnErr result (SameCounts self.old self.new) }
         ensures full { IsErrOf result (NoTick.Beyond Limit.Count)
@@ -127,7 +128,7 @@ impl Clocks {
     }
 
     // The same of an event that orders threads and holds no lock.
-    fn synchronize(&mut self, thread: ThreadId, sync: Sync) -> Result<(), NoTick>
+    fn synchronize(&mut self, thread: ThreadId, sync: Sync) -> Moved
         ensures ok { OnOk result (Moves self.old (Some (record { thread = thread; sync = effect_of sync })) self.new) }
         ensures err { OnErr result (SameCounts self.old self.new) }
         ensures full { IsErrOf result (NoTick.Beyond Limit.Count)
@@ -150,7 +151,7 @@ impl Clocks {
     }
 
     // The releases before happen before what comes now: two in read mode don't order each other.
-    fn acquire(&mut self, thread: ThreadId, lock: LockId, mode: Mode) -> Result<(), AllocError>
+    fn acquire(&mut self, thread: ThreadId, lock: LockId, mode: Mode) -> Put
         ensures ok { OnOk result (Moves self.old (Some (record { thread = thread; sync = Effect.Acquired lock mode })) self.new) }
         ensures err { OnErr result (SameCounts self.old self.new) }
     {
@@ -167,7 +168,7 @@ impl Clocks {
     }
 
     // What the thread knows goes to the lock's releases in the mode.
-    fn release(&mut self, thread: ThreadId, lock: LockId, mode: Mode) -> Result<(), NoTick>
+    fn release(&mut self, thread: ThreadId, lock: LockId, mode: Mode) -> Moved
         ensures ok { OnOk result (Moves self.old (Some (record { thread = thread; sync = Effect.Released lock mode })) self.new) }
         ensures err { OnErr result (SameCounts self.old self.new) }
         ensures full { IsErrOf result (NoTick.Beyond Limit.Count) → counts self.old (OfThread thread) thread ≡ 2 ^ 32 - 1 }

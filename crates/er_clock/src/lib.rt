@@ -15,7 +15,14 @@
 
 pub use clock::{Epoch, Limit, NoTick};
 pub use clocks::Clocks;
+use std::alloc::AllocError;
 pub use threads::ThreadClock;
+
+// What it comes to that clocks change, for which memory may be refused.
+type Put = Result<(), AllocError>;
+
+// The same of a step, which may be beyond a limit, too.
+type Moved = Result<(), NoTick>;
 
 mod block;
 mod clock;

@@ -7,6 +7,9 @@ use std::alloc::AllocError;
 use std::marker::Model;
 use std::rc::Rc;
 
+// Parts, unless memory was refused.
+type Parts<P> = Result<Vec<P>, AllocError>;
+
 /// Counts by place, which clocks share. They never change: a change makes new ones.
 pub(crate) trait Part: Drop {
     ghost WIDTH: { ℕ };
@@ -165,12 +168,7 @@ fn cover<P: Part>(parts: &[P], others: &[P], room: &Room) -> bool
 }
 
 // The greater count at each place of each part, in a list of at least so many parts.
-fn joined_parts<P: Part>(
-    room: &Room,
-    parts: &[P],
-    others: &[P],
-    least: usize,
-) -> Result<Vec<P>, AllocError>
+fn joined_parts<P: Part>(room: &Room, parts: &[P], others: &[P], least: usize) -> Parts<P>
     requires { least ≤ 2 ^ 33 }
     ensures all { IfOk result (λ all. (part place : ℕ) → count_in_part P.counts all.items part place ≡ max (count_in_part P.counts parts.now part place) (count_in_part P.counts others.now part place)) }
     ensures least { IfOk result (λ all. least ≤ length all.items) }

@@ -3,11 +3,12 @@ ghost use Rattle.std.specs.Prelude.{◌≡◌, ◌≤◌, ◌<◌, ◌==◌, ℕ
 ghost use Rattle.er_clock.specs.Clock.{count_in, Joins, Stays};
 ghost use Rattle.er_clock.specs.Table.{known_by};
 
+use crate::Put;
 use crate::clock::Clock;
 use crate::room::Room;
 use er_keys::{HashKeys, Hints, NumberHasher, index_of};
 use indexmap::IndexMap;
-use std::alloc::{AllocError, Global};
+use std::alloc::Global;
 use std::marker::Model;
 use std::mem;
 
@@ -57,13 +58,7 @@ impl ClockTable {
 
     /// Takes of each thread the greater count into the clock of this number. `AllocError`: memory was refused, and all clocks are as
     /// they were. `is_covered` may say that the other clock has as great a count of each thread: then no block is compared.
-    pub(crate) fn join(
-        &mut self,
-        number: u32,
-        other: &Clock,
-        is_covered: bool,
-        room: &Room,
-    ) -> Result<(), AllocError>
+    pub(crate) fn join(&mut self, number: u32, other: &Clock, is_covered: bool, room: &Room) -> Put
         requires { IsTrue is_covered → (u : ℕ) → known_by self.old number u ≤ count_in other.now u }
         ensures ok { OnOk result ((n u : ℕ) → known_by self.new n u ≡ cond (number == n) (max (known_by self.old n u) (count_in other.now u)) (known_by self.old n u)) }
         ensures err { OnErr result ((n u : ℕ) → known_by self.new n u ≡ known_by self.old n u) }
@@ -99,7 +94,7 @@ impl ClockTable {
 }
 
 // Takes of each thread the greater count.
-fn take(clock: &mut Clock, other: &Clock, is_covered: bool, room: &Room) -> Result<(), AllocError>
+fn take(clock: &mut Clock, other: &Clock, is_covered: bool, room: &Room) -> Put
     requires { IsTrue is_covered → (u : ℕ) → count_in clock.old u ≤ count_in other.now u }
     ensures ok { OnOk result (Joins clock.old other.now clock.new) }
     ensures err { OnErr result (Stays clock.old clock.new) }

@@ -9,9 +9,10 @@ ghost use Rattle.er_clock.specs.declared.clock.Limit.{Limit as Limits};
 use crate::clock::{Clock, Epoch, Limit, NoTick};
 use crate::room::Room;
 use crate::table::ClockTable;
+use crate::{Moved, Put};
 use er_event::ThreadId;
 use er_keys::HashKeys;
-use std::alloc::{AllocError, Global};
+use std::alloc::Global;
 use std::marker::Model;
 
 /// A thread's clock, to look at. Contracts see the thread and the counts that are kept for it; its own count is 1 or more.
@@ -97,7 +98,7 @@ impl ThreadClocks {
 
     /// Makes room for what one step more may add to the clocks.
     #[inline(always)]
-    pub(crate) fn grow(&mut self) -> Result<(), AllocError>
+    pub(crate) fn grow(&mut self) -> Put
         ensures { self.new ≡ self.old }
     {
         self.room.grow()
@@ -123,20 +124,15 @@ impl ThreadClocks {
     }
 
     /// Takes what a clock knows into the thread's. An error changes no count.
-    pub(crate) fn take(&mut self, thread: ThreadId, found: &Clock) -> Result<(), AllocError>
+    pub(crate) fn take(&mut self, thread: ThreadId, found: &Clock) -> Put
         ensures ok { OnOk result ((t u : ℕ) → known_to self.new t u ≡ cond (t == thread) (max (known_to self.old t u) (count_in found.now u)) (known_to self.old t u)) }
         ensures err { OnErr result ((t u : ℕ) → known_to self.new t u ≡ known_to self.old t u) }
     {
-        join(&mut self.table, thread, found, &self.room)
+        self.table.join(thread.number(), found, false, &self.room)
     }
 
     /// Takes what two clocks know into the thread's. An error changes no count.
-    pub(crate) fn take_both(
-        &mut self,
-        thread: ThreadId,
-        one: &Clock,
-        other: &Clock,
-    ) -> Result<(), AllocError>
+    pub(crate) fn take_both(&mut self, thread: ThreadId, one: &Clock, other: &Clock) -> Put
         ensures ok { OnOk result ((t u : ℕ) → known_to self.new t u ≡ cond (t == thread) (max (known_to self.old t u) (max (count_in one.now u) (count_in other.now u))) (known_to self.old t u)) }
         ensures err { OnErr result ((t u : ℕ) → known_to self.new t u ≡ known_to self.old t u) }
     {
@@ -147,12 +143,13 @@ impl ThreadClocks {
         self.carried.clear();
         self.carried.join(one, &self.room)?;
         self.carried.join(other, &self.room)?;
-        join(&mut self.table, thread, &self.carried, &self.room)
+        self.table
+            .join(thread.number(), &self.carried, false, &self.room)
     }
 
     /// Puts what a thread knows into another one's clock, and then its own count rises. `Limit::Count`: its own count is the greatest. An error
     /// changes no count.
-    pub(crate) fn hand_on(&mut self, from: ThreadId, to: ThreadId) -> Result<(), NoTick>
+    pub(crate) fn hand_on(&mut self, from: ThreadId, to: ThreadId) -> Moved
         ensures ok { OnOk result ((t u : ℕ) → known_to self.new t u ≡ cond (t == to) (max (known_to self.old t u) (known_to self.old from u)) (known_to self.old t u) + cond (t == from && from == u) 1 0) }
         ensures err { OnErr result ((t u : ℕ) → known_to self.new t u ≡ known_to self.old t u) }
         ensures full { IsErrOf result (NoTick.Beyond Limit.Count) → known_to self.old from from ≡ 2 ^ 32 - 1 }
@@ -162,7 +159,8 @@ impl ThreadClocks {
         self.carried.clear();
         self.carried
             .join(self.table.get(from.number()), &self.room)?;
-        join(&mut self.table, to, &self.carried, &self.room)?;
+        self.table
+            .join(to.number(), &self.carried, false, &self.room)?;
         self.table.swap(from.number(), &mut self.next);
         Ok(())
     }
@@ -175,7 +173,7 @@ impl ThreadClocks {
         clocks: &mut ClockTable,
         number: u32,
         is_covered: bool,
-    ) -> Result<(), NoTick>
+    ) -> Moved
         requires { IsTrue is_covered → (u : ℕ) → known_by clocks.old number u ≤ known_to self.old thread u }
         ensures ok { OnOk result ((t u : ℕ) → known_to self.new t u ≡ known_to self.old t u + cond (t == thread && thread == u) 1 0) }
         ensures given { OnOk result ((n u : ℕ) → known_by clocks.new n u ≡ cond (number == n) (max (known_by clocks.old n u) (known_to self.old thread u)) (known_by clocks.old n u)) }
@@ -196,26 +194,8 @@ impl ThreadClocks {
     }
 }
 
-// Takes what a clock knows into the thread's.
-fn join(
-    table: &mut ClockTable,
-    thread: ThreadId,
-    found: &Clock,
-    room: &Room,
-) -> Result<(), AllocError>
-    ensures ok { OnOk result ((t u : ℕ) → known_by table.new t u ≡ cond (t == thread) (max (known_by table.old t u) (count_in found.now u)) (known_by table.old t u)) }
-    ensures err { OnErr result ((t u : ℕ) → known_by table.new t u ≡ known_by table.old t u) }
-{
-    table.join(thread.number(), found, false, room)
-}
-
 // Makes the thread ready to hand on what it knows, with no change of what it knows, and `next` its clock with its own count risen.
-fn prepare(
-    table: &mut ClockTable,
-    next: &mut Clock,
-    thread: ThreadId,
-    room: &Room,
-) -> Result<(), NoTick>
+fn prepare(table: &mut ClockTable, next: &mut Clock, thread: ThreadId, room: &Room) -> Moved
     ensures same { (t u : ℕ) → known_to table.new t u ≡ known_to table.old t u }
     ensures begun { OnOk result (0 < known_by table.new thread thread) }
     ensures risen { OnOk result ((u : ℕ) → count_in next.new u ≡ known_by table.new thread u + cond (thread == u) 1 0) }
@@ -229,12 +209,7 @@ fn prepare(
 }
 
 // Puts the thread's own count into its clock, where it isn't yet. `next` is of no more use.
-fn begin(
-    table: &mut ClockTable,
-    next: &mut Clock,
-    thread: ThreadId,
-    room: &Room,
-) -> Result<(), NoTick>
+fn begin(table: &mut ClockTable, next: &mut Clock, thread: ThreadId, room: &Room) -> Moved
     ensures same { (t u : ℕ) → known_to table.new t u ≡ known_to table.old t u }
     ensures begun { OnOk result (0 < known_by table.new thread thread) }
     ensures full { IsErrOf result (NoTick.Beyond Limit.Count) → known_to table.old thread thread ≡ 2 ^ 32 - 1 }
@@ -246,6 +221,6 @@ fn begin(
     }
     next.clear();
     next.tick(thread, room)?;
-    join(table, thread, next, room)?;
+    table.join(thread.number(), next, false, room)?;
     Ok(())
 }

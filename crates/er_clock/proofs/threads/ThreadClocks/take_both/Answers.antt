@@ -2,7 +2,7 @@ use Rattle.std.proofs.Common.{◌≡◌, ◌==◌, ℕ, max, cond, ap, ◌∙◌
 use Rattle.er_event.proofs.Results.{on_ok}
 use Rattle.er_clock.specs.Clock.{count_in}
 use Rattle.er_clock.specs.Counts.{known_to}
-use Rattle.er_clock.proofs.Counts.{taken-to}
+use Rattle.er_clock.proofs.Counts.{known-taken, taken-to}
 use Rattle.er_clock.proofs.threads.ThreadClocks.take_both.Goals as goal
 
 pub returns-then-is_empty-clause-ok : goal.returns-then-is_empty-clause-ok
@@ -25,4 +25,6 @@ module _ (c : goal.After-join-3) where
 pub returns-clause-ok : goal.returns-clause-ok
 returns-clause-ok c =
     on_ok c.join-3.result _ _ c.join-3.ensures.ok (λ new t u.
-    rw (← carried c u, ← c.self.view_is) (taken-to c.self.inside.table c.join-3.new.table t u (count_in c.join-2.new.self u) (t == c.args.thread) (new t u)))
+    rw (← carried c u, ← c.self.view_is)
+    (taken-to c.self.inside.table c.join-3.new.self t u (count_in c.join-2.new.self u) (t == c.args.thread)
+    (known-taken c.self.inside.table c.join-3.new.self c.args.thread c.number.result (count_in c.join-2.new.self) c.number.ensures.value new t u)))
