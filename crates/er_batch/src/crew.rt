@@ -18,7 +18,7 @@ ghost use Rattle.er_trace.specs.Trace.{Recording, no_steps};
 use crate::answering::{add_behind, has_room};
 use crate::{Analyst, Answered, Options};
 use er_event::{Event, Lockset, Step};
-use er_parallel::{Crew, ReplayConfig, ReplayFault, Unusual, usual_answer};
+use er_parallel::{Crew, OpenGate, ReplayConfig, ReplayFault, Unusual, usual_answer};
 use er_report::{Report, ReportBuilder};
 use er_rules::Suppressions;
 use er_table::LocksetTable;
@@ -159,7 +159,7 @@ fn take_beside<R: Threads + Wait + Sync, B, F: FnMut() -> B>(
         rt,
         &mut ||
             requires { IsSync R.row }
-        { crew.take(rt, steps, noting) },
+        { crew.take(rt, steps, noting, &OpenGate) },
         beside,
     )
 }

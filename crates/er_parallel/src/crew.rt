@@ -13,7 +13,7 @@ ghost use Rattle.er_replay.specs.Standing.{Stands};
 use crate::worker::{Fresh, Share, WorkFault, Worker};
 use crate::{ReplayConfig, ReplayFault, Unusual};
 use er_event::Step;
-use er_gate::{Gate, OpenGate};
+use er_gate::Gate;
 use er_keys::HashKeys;
 use er_table::LocksetTable;
 use std::alloc::{AllocError, Global};
@@ -70,29 +70,13 @@ impl<'t> Crew<'t> {
 
     /// Answers the next steps and returns those whose answers aren't the usual ones, by rising position. Every other step of the batch
     /// has its usual answer. With `noting` the steps that are returned include each access that changed its word's state. Each worker
-    /// has a thread of its own if one can be started. Otherwise the workers of a thread go one after another.
+    /// has a thread of its own if one can be started. Otherwise the workers of a thread go one after another. A worker first enters the
+    /// gate of each of its shards, by rising number.
     ///
     /// Each worker stops at the first step that finds no room. The fault is then that of the least shard whose step found none,
     /// `TableFull` or `Memory`. `Memory` also comes if the list of answers finds none. After a fault the workers may have answered
     /// different parts of the batch.
-    pub fn take<R: Threads + Wait + Sync>(
-        &mut self,
-        rt: &R,
-        steps: &[Step],
-        noting: bool,
-    ) -> Result<Vec<Unusual>, ReplayFault>
-        ensures goes_on { (past : List Steps) → HaveAnswered self.old past → OnOk result (HaveAnswered self.new (past ++ steps.now)) }
-        ensures answers { (past : List Steps) → HaveAnswered self.old past → IfOk result (λ unusual. AreUnusual past steps.now unusual.items) }
-        ensures noted { (past : List Steps) → HaveAnswered self.old past → IsTrue noting → IfOk result (λ unusual. AreNoted past steps.now unusual.items) }
-
-        // The table is full only if some step, as the list stands before it, asks for a set. No worker is lost.
-        ensures fault { (past : List Steps) → HaveAnswered self.old past → IfErr result (λ why. MayFail (past ++ steps.now) why) }
-    {
-        self.take_gated(rt, steps, noting, &OpenGate)
-    }
-
-    /// What `take` does, but each worker first enters the gate of each of its shards, by rising number.
-    pub(crate) fn take_gated<R: Threads + Wait + Sync, G: Gate>(
+    pub fn take<R: Threads + Wait + Sync, G: Gate>(
         &mut self,
         rt: &R,
         steps: &[Step],
@@ -103,6 +87,8 @@ impl<'t> Crew<'t> {
         ensures goes_on { (past : List Steps) → HaveAnswered self.old past → OnOk result (HaveAnswered self.new (past ++ steps.now)) }
         ensures answers { (past : List Steps) → HaveAnswered self.old past → IfOk result (λ unusual. AreUnusual past steps.now unusual.items) }
         ensures noted { (past : List Steps) → HaveAnswered self.old past → IsTrue noting → IfOk result (λ unusual. AreNoted past steps.now unusual.items) }
+
+        // The table is full only if some step, as the list stands before it, asks for a set. No worker is lost.
         ensures fault { (past : List Steps) → HaveAnswered self.old past → IfErr result (λ why. MayFail (past ++ steps.now) why) }
     {
         let workers = self.workers.as_mut_slice();

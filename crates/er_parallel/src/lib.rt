@@ -24,7 +24,7 @@
 //!
 //! ```text
 //! let mut crew = Crew::new(rt, alloc, &table, config, 4)?;
-//! let (unusual, read) = thread::join_mut(rt, &mut || crew.take(rt, steps, false), &mut || read_more(&mut next));
+//! let (unusual, read) = thread::join_mut(rt, &mut || crew.take(rt, steps, false, &OpenGate), &mut || read_more(&mut next));
 //! ```
 #![tactic(auto)]
 

@@ -45,7 +45,7 @@ pub fn replay_parallel<G: Gate, R: Threads + Wait + Sync>(
 {
     let table = LocksetTable::keyed(alloc, config.max_sets, config.keys)?;
     let mut crew = Crew::new(rt, alloc, &table, config, workers)?;
-    let unusual = crew.take_gated(rt, steps, false, gate)?;
+    let unusual = crew.take(rt, steps, false, gate)?;
     drop(crew);
     Ok(Outcome {
         answers: gather(alloc, steps, unusual)?,

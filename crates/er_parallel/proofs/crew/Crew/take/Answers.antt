@@ -6,7 +6,7 @@ use Rattle.er_parallel.specs.Inner.Crewing.{crewed}
 use Rattle.er_parallel.specs.Inner.Merging.{machines_of}
 use Rattle.er_parallel.specs.declared.worker.Worker.{Worker}
 use Rattle.er_parallel.proofs.CrewLemmas.{if-err, if-ok, on-ok, done-answered, done-apart, done-noted, done-unusual, same-long, taken-fault, whole-back}
-use Rattle.er_parallel.proofs.crew.Crew.take_gated.Goals as goal
+use Rattle.er_parallel.proofs.crew.Crew.take.Goals as goal
 
 pub returns-clause-count : goal.returns-clause-count
 returns-clause-count g c =
