@@ -7,7 +7,7 @@ ghost use Rattle.er_text.specs.Trace.{IsTrace};
 ghost use Rattle.er_trace.specs.Trace.{Recording};
 
 use crate::Damage;
-use crate::counter::Counter;
+use crate::counter::{add, count_of, remove};
 use er_event::{Event, Mode, Step};
 use er_held::ThreadLocks;
 use er_text::Ending;
@@ -20,8 +20,9 @@ use std::marker::Model;
 pub struct Inspector {
     alloc: Global,
     threads: ThreadLocks,
-    holders: Counter,
-    writers: Counter,
+    // How many threads hold each lock, and how many to write.
+    holders: Vec<u32>,
+    writers: Vec<u32>,
     refused: Option<u64>,
     held_twice: Option<u64>,
 }
@@ -31,7 +32,7 @@ impl Model for Inspector {
 
     ghost Value = { Inspected };
 
-    ghost view = { λ i. record { threads = i.threads; holders = i.holders; writers = i.writers; refused = i.refused; held_twice = i.held_twice } };
+    ghost view = { λ i. record { threads = i.threads; holders = i.holders.items; writers = i.writers.items; refused = i.refused; held_twice = i.held_twice } };
 }
 
 impl Inspector {
@@ -46,8 +47,8 @@ impl Inspector {
         Inspector {
             alloc,
             threads: ThreadLocks::new(alloc),
-            holders: Counter::new(alloc),
-            writers: Counter::new(alloc),
+            holders: Vec::new(alloc),
+            writers: Vec::new(alloc),
             refused: None,
             held_twice: None,
         }
@@ -99,8 +100,8 @@ impl Inspector {
     {
         match event {
             Event::Acquire(lock, mode) => match mode {
-                Mode::Read => self.writers.get(lock) > 0,
-                Mode::Write => self.holders.get(lock) > 0,
+                Mode::Read => count_of(&self.writers, lock) > 0,
+                Mode::Write => count_of(&self.holders, lock) > 0,
             },
             _ => false,
         }
@@ -116,16 +117,16 @@ impl Inspector {
     {
         match event {
             Event::Acquire(lock, mode) => {
-                self.holders.add(lock)?;
+                add(&mut self.holders, lock)?;
                 if let Mode::Write = mode {
-                    self.writers.add(lock)?;
+                    add(&mut self.writers, lock)?;
                 }
                 Ok(())
             }
             Event::Release(lock, mode) => {
-                self.holders.remove(lock);
+                remove(&mut self.holders, lock);
                 if let Mode::Write = mode {
-                    self.writers.remove(lock);
+                    remove(&mut self.writers, lock);
                 }
                 Ok(())
             }
