@@ -71,8 +71,8 @@ impl Shard {
     }
 
     /// Takes a counted access with the locks that cover it: those that the thread holds in any mode for a read, and those that it holds in write
-    /// mode for a write. Returns whether it is a race, and whether it changed its word. Refused if a set of locks finds no place (`TableFull`), which isn't asked for while one thread
-    /// alone has accessed the word, and if there is no memory (`OutOfMemory`).
+    /// mode for a write. Returns whether it is a race, and whether it changed its word. Refused if a set of locks finds no place (`TableFull`), which
+    /// isn't asked for while one thread alone has accessed the word, and if there is no memory (`OutOfMemory`).
     #[inline(always)]
     pub fn access(
         &mut self,
