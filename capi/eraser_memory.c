@@ -44,8 +44,11 @@ static _Thread_local const char myself __attribute__((tls_model("initial-exec"))
 
 static void take_pages(void)
 {
-    for (const char *nobody = NULL; !atomic_compare_exchange_weak_explicit(&holder, &nobody, &myself, memory_order_acquire, memory_order_relaxed); nobody = NULL)
+    const char *nobody = NULL;
+    while (!atomic_compare_exchange_weak_explicit(&holder, &nobody, &myself, memory_order_acquire, memory_order_relaxed)) {
+        nobody = NULL;
         sched_yield();
+    }
 }
 
 static void leave_pages(void)

@@ -25,6 +25,7 @@
 struct held {
     uint64_t lock, place;
     uint32_t stack, rounds;
+    bool writes;
 };
 
 /* What a thread knows of itself beside its `self`, in memory of the detector. */
@@ -56,7 +57,7 @@ static eraser_detector *detector;
 
 /* ---- Locks that another thread releases ---- */
 
-/* Who released a lock that it doesn't hold: it is of whoever holds it. Each thread looks here before its next event. */
+/* Who released a lock that it doesn't hold: whoever holds it to write holds it no more. Each thread looks here before its next event. */
 #define RELEASES 256u
 static _Atomic uint64_t releases[RELEASES];
 static _Atomic uint32_t release_count;
@@ -100,7 +101,7 @@ static __attribute__((noinline)) void look_at_releases(uint32_t count)
     mine.own->released = count;
     for (uint32_t nth = first; nth != count; nth++) {
         struct held *held = find_held(atomic_load_explicit(&releases[nth % RELEASES], memory_order_relaxed));
-        if (held)
+        if (held && held->writes)
             drop_held(held);
     }
 }
@@ -120,7 +121,7 @@ static uint32_t take_lock(uint64_t lock, uint64_t place, bool writes)
     if (status != ERASER_QUIET)
         return status;
     mark_lock(lock);
-    own->held[own->count++] = (struct held){lock, place, place ? stack_look_from(own->pointer, place) : 0, 1};
+    own->held[own->count++] = (struct held){lock, place, place ? stack_look_from(own->pointer, place) : 0, 1, writes};
     return ERASER_QUIET;
 }
 

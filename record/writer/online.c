@@ -350,8 +350,8 @@ static void end(uint64_t lost)
     begin_text();
     say_sites();
     say_program();
-    say("races %" PRIu64 ", suppressed %" PRIu64 ", accesses %" PRIu64 ", threads %" PRIu32 ", memory %" PRIu64 " KiB", race_count, suppressed_count, accesses, thread_count,
-        bytes / 1024);
+    say("races %" PRIu64 ", suppressed %" PRIu64 ", accesses %" PRIu64 ", ", race_count, suppressed_count, accesses);
+    say("threads %" PRIu32 ", memory %" PRIu64 " KiB", thread_count, bytes / 1024);
     if (lost)
         say(", lost %" PRIu64, lost);
     say("\n");
@@ -365,8 +365,9 @@ void online_fill(struct outcome *outcome)
 
 void online_say_watched(uint64_t events, uint64_t lost)
 {
+    const char *missing = lost ? ": what they were is missing, so there may be races more, or less" : "";
     if (!options.is_quiet || lost)
-        fprintf(stderr, "record: %" PRIu64 " events watched, %" PRIu64 " lost%s\n", events, lost, lost ? ": what they were is missing, so there may be races more, or less" : "");
+        fprintf(stderr, "record: %" PRIu64 " events watched, %" PRIu64 " lost%s\n", events, lost, missing);
 }
 
 /* ---- No trace ---- */
