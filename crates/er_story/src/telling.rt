@@ -1,10 +1,10 @@
 //! The story of a step of a trace.
-ghost use Rattle.std.specs.Prelude.{◌≡◌, ◌<◌, ◌==◌, ℕ, nat_lt, cond, length, slice_get, slice_index, IfOk, IfSome, None, Some, Ok, false, ◌≤◌, OnOk};
+ghost use Rattle.std.specs.Prelude.{◌≡◌, ◌<◌, ◌==◌, ℕ, nat_lt, cond, length, slice_get, slice_index, IfOk, IfSome, None, Some, Ok, false, ◌≤◌};
 ghost use Rattle.std.specs.List.{position};
 ghost use Rattle.er_event.specs.declared.steps.Reply.TheVariants.{Done, Ignored, Quiet, Race};
 ghost use Rattle.er_model.specs.Answers.{answer, answer_unless};
 ghost use Rattle.er_model.specs.Following.{locks_for};
-ghost use Rattle.er_model.specs.Holdings.{holdings_at, refused_by, after_step};
+ghost use Rattle.er_model.specs.Holdings.{holdings_at, refused_by};
 ghost use Rattle.er_model.specs.Table.{advanced, reports};
 ghost use Rattle.er_story.specs.Names.{HasStoryNames};
 ghost use Rattle.er_story.specs.Story.{has_word, story_at, story_of, story_on, tale_in};
@@ -149,17 +149,9 @@ fn held_before(alloc: Global, steps: &[Step], thread: ThreadId, end: usize) -> M
     let mut held = Held::new(alloc);
     for at in 0..end {
         let step = steps[at];
-        follow(&mut held, thread, step)?;
+        if step.thread == thread {
+            held.follow(step.event)?;
+        }
     }
     Ok(held)
-}
-
-// What the thread holds goes on by a step, which may be another thread's.
-fn follow(held: &mut Held, thread: ThreadId, step: Step) -> Made<()>
-    ensures { OnOk result (held.new ≡ after_step held.old thread step) }
-{
-    if step.thread == thread {
-        held.follow(step.event)?;
-    }
-    Ok(())
 }

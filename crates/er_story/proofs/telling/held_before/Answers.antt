@@ -1,6 +1,7 @@
-use Rattle.std.proofs.Common.{◌≡◌, ◌<◌, ◌≤◌, Some, slice_get, length, refl, arith}
+use Rattle.std.proofs.Common.{◌≡◌, ◌∙◌, ◌<◌, ◌≤◌, Some, slice_get, length, refl, sym, arith}
 use Rattle.std.proofs.lemmas.Option.{slice_get_read}
-use Rattle.er_story.proofs.HoldingLemmas.{held-start, held-next}
+use Rattle.er_story.proofs.HoldingLemmas.{held-start, held-next, held-own, held-other}
+use Rattle.er_story.proofs.telling.held_before.Goals.{then-eq+in_ok-follow, else-eq}
 use Rattle.er_story.proofs.telling.held_before.Goals as goal
 
 pub loop-at-init : goal.loop-at-init
@@ -12,4 +13,9 @@ loop-at-preserved c =
     let within : c.args.end ≤ length c.args.steps.now = c.requires in
     let here : slice_get c.args.steps.now c.loop-at.at ≡ Some c.index-steps-at.result =
     slice_get_read c.args.steps.now (length c.args.steps.now) c.loop-at.at c.index-steps-at.result refl (omega arith) c.index-steps-at.is in
-    held-next c.args.steps.now c.args.thread c.loop-at.at c.index-steps-at.result c.loop-at.held c.follow.new.held here c.loop-at.invariant c.in_ok-follow.ensures
+    let step = c.index-steps-at.result in
+    held-next c.args.steps.now c.args.thread c.loop-at.at step c.loop-at.held _ here c.loop-at.invariant
+    (elim c.if-eq.branch [
+      | then-eq+in_ok-follow w ↦ held-own c.args.thread step c.loop-at.held _ (sym c.eq.ensures ∙ w.if-eq.true) (w.held-is ∙ w.in_ok-follow.ensures.ok)
+      | else-eq w ↦ held-other c.args.thread step c.loop-at.held _ (sym c.eq.ensures ∙ w.if-eq.false) w.held-is
+    ])
