@@ -38,16 +38,32 @@ fn left_of(
 ) -> Result<Option<Report>, AllocError>
     ensures { IfOk result (IsLeftOf places.now (targets_of suppressions.now) report) }
 {
-    let Some(mut report) = report else {
+    let Some(report) = report else {
         return Ok(None);
     };
-    let all = report.lines.len();
-    let counts = &mut report.rule_counts;
-    report.lines = left_lines(alloc, report.lines, suppressions, places, counts)?;
-    let taken = all.saturating_sub(report.lines.len()) as u64;
-    report.races = report.races.saturating_sub(taken);
-    report.suppressed = report.suppressed.saturating_add(taken);
-    Ok(Some(report))
+    let Report {
+        lines,
+        mut rule_counts,
+        races,
+        suppressed,
+        stop,
+        steps,
+        refused,
+        lost,
+    } = report;
+    let all = lines.len();
+    let lines = left_lines(alloc, lines, suppressions, places, &mut rule_counts)?;
+    let taken = all.saturating_sub(lines.len()) as u64;
+    Ok(Some(Report {
+        lines,
+        rule_counts,
+        races: races.saturating_sub(taken),
+        suppressed: suppressed.saturating_add(taken),
+        stop,
+        steps,
+        refused,
+        lost,
+    }))
 }
 
 // The lines that no rule takes. The others are counted at their rules.

@@ -3,7 +3,8 @@
 //! Begin with [`triage`]. It does with the reports of a trace what [`Wishes`] ask for. [`known_races`] goes over the lines of the reports and
 //! makes a rule for each race that no rule before it takes: by the site of an access, or by its word if it has no site, and by the words of
 //! a reuse. [`known_races_text`] is a suppression text of these rules. [`unused_rules_text`] names the rules that took no race of any report,
-//! [`take_by_facts`] takes races by what a trace says of the program, [`keep_first_races`] leaves the lines of the other races out, and [`append_rules`] puts the rules of several files together.
+//! [`take_by_facts`] takes races by what a trace says of the program, [`keep_first_races`] leaves the lines of the other races out, and
+//! [`append_rules`] puts the rules of several files together.
 //!
 //! What it promises, by the names of clauses: each race of each report is taken by one of the rules (`taken`), and there is no rule but
 //! those that the races ask for (`rules`). A rule's comment says how many races of all reports it takes, and the first of them (`counted`). If

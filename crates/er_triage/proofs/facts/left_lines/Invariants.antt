@@ -8,7 +8,7 @@ use Rattle.er_triage.proofs.facts.left_lines.Given as goal
 
 abbrev pub invariant-loop-line : goal.invariant-loop-line
 invariant-loop-line l = record {
-  lines : l.left.items ++ filter (stays l.fn.places.now (targets_of l.fn.suppressions.now)) (into_iter_items l.line-iterator) ≡ filter (stays l.fn.places.now (targets_of l.fn.suppressions.now)) l.fn.lines.items;
-  counts : (i : ℕ) → option_map (with_more (taken_by l.fn.places.now (targets_of l.fn.suppressions.now) (into_iter_items l.line-iterator) i)) (slice_get l.counts.items i)
-      ≡ option_map (with_more (taken_by l.fn.places.now (targets_of l.fn.suppressions.now) l.fn.lines.items i)) (slice_get l.fn.counts.items i);
+  lines : l.left.items ++ filter (stays l.fn.places (targets_of l.fn.suppressions)) (into_iter_items l.line-iterator) ≡ filter (stays l.fn.places (targets_of l.fn.suppressions)) l.fn.lines.items;
+  counts : (i : ℕ) → option_map (with_more (taken_by l.fn.places (targets_of l.fn.suppressions) (into_iter_items l.line-iterator) i)) (slice_get l.counts.items i)
+      ≡ option_map (with_more (taken_by l.fn.places (targets_of l.fn.suppressions) l.fn.lines.items i)) (slice_get l.fn.counts.items i);
 }

@@ -13,4 +13,4 @@ returns c =
     let rules : List Rule = c.args.suppressions.now.rules.items in
     c.fact_rule.ensures
     ∙ (ap (λ (rs : List Rule). position (λ rule. takes_fact table race (target_of rule)) rs) c.deref.ensures.value
-    ∙ (position-map (takes_fact table race) rules ∙ ap (fact_rule table (map target_of rules)) (c.in_ok-race.ensures tt)))
+    ∙ (position-map (takes_fact table race) rules ∙ ap (fact_rule table (map target_of rules)) c.in_ok-race.ensures.value))
