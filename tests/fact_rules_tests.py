@@ -28,10 +28,11 @@ ANALYSES = ([], ["--analysis", "happens-before"], ["--analysis", "both"])
 FORMS = ([], ["--explain"], ["--by-site"], ["--format", "json"], ["--format", "json", "--explain"], ["--format", "sarif"], ["--format", "html"])
 WORKERS = ([], ["--workers", "4"])
 # Of each place its function, if that is known.
-FUNCTIONS = {b"first.c:1": b"first", b"main.c:1": b"main", b"pool.cpp:17": b"work", b"pool.cpp:18": b"Work<int>::go", b"note.c:12": b"note", b"other.c:5": b"other",
-    b"free.c:3": b"release"}
+FUNCTIONS = {b"first.c:1": b"first", b"main.c:1": b"main", b"pool.cpp:17": b"work", b"pool.cpp:18": b"Work<int>::go", b"note.c:12": b"note",
+             b"other.c:5": b"other", b"free.c:3": b"release"}
 # What is accessed by two threads: the word, and by the second thread the place and the calls, innermost first. The first thread is at another place.
-ACCESSES = ((0x800, b"note.c:12", b"other.c:9"), (0x1000, b"note.c:12", b"pool.cpp:17", b"main.c:1"), (0x1004, b"other.c:5", b"pool.cpp:18", b"main.c:1"), (0x3000, b"bare.c:1"))
+ACCESSES = ((0x800, b"note.c:12", b"other.c:9"), (0x1000, b"note.c:12", b"pool.cpp:17", b"main.c:1"),
+            (0x1004, b"other.c:5", b"pool.cpp:18", b"main.c:1"), (0x3000, b"bare.c:1"))
 VARIABLES = ((0x1000, 8, b"jobs"), (0x2FFE, 4, b"table"))
 # Words of which a rule takes nothing.
 NONE = "words 0x9000 4"
@@ -142,8 +143,8 @@ def where_nothing_is_known(record, folder, path, data):
     text.write_bytes(trace4.Trace(data).text())
     for analysis, form, workers in itertools.product(ANALYSES, FORMS, WORKERS):
         options = ["replay", *analysis, *form, *workers, "--suppress", rules, "--unused-rules"]
-        for name, found in (("standard input", run([*options, "-"], data)), ("a pipe", run_fifo(data, *map(str, options[1:]))), ("a text", run([*options, text])),
-                            ("a trace until its fault", run([*options, "--until-fault", path]))):
+        for name, found in (("standard input", run([*options, "-"], data)), ("a pipe", run_fifo(data, *map(str, options[1:]))),
+                            ("a text", run([*options, text])), ("a trace until its fault", run([*options, "--until-fault", path]))):
             is_right = found[2] == 1 and notes in found[1]
             record(f"facts of {name} {' '.join(map(str, options[1:-3]))}", is_right, f"{found}")
 
