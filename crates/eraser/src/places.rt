@@ -63,8 +63,13 @@ pub(crate) fn without_known<R: Files + AllocGlobal>(
     let Some(file) = open_ordinary(rt, job.replay.trace) else {
         return Ok(reports);
     };
-    let facts = facts_of_races(rt.alloc(), Decoded::new(rt.alloc(), file), &reports)?;
-    Ok(take_by_facts(rt.alloc(), reports, job.suppressions, &facts)?)
+    let Ok(facts) = facts_of_races(rt.alloc(), Decoded::new(rt.alloc(), file), &reports) else {
+        drop(reports);
+        return Err(Fault::Memory);
+    };
+    let left = take_by_facts(rt.alloc(), reports, job.suppressions, &facts);
+    drop(facts);
+    Ok(left?)
 }
 
 /// The lines around the sites of the reports' races, of each file that is found below the folder. Without a folder there are none.
