@@ -4,6 +4,7 @@ mod DigitLanes
 pub mod FastPathLaws
 pub mod UsualLemmas
 pub mod ReadyLemmas
+pub mod KnownLemmas
 pub mod SpellingLaws
 pub mod SiteLemmas
 pub mod FaultTables

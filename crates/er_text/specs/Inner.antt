@@ -6,3 +6,4 @@ pub mod Endings
 pub mod FastPath
 pub mod Pieces
 pub mod Ready
+pub mod Numbers

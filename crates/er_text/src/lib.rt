@@ -34,6 +34,7 @@ mod endings;
 mod fast_path;
 mod laws;
 mod naming;
+mod numbers;
 mod parsing;
 mod pieces;
 mod reading;

@@ -6,6 +6,8 @@ ghost use Rattle.er_text.specs.Trace.{Tells};
 ghost use Rattle.er_lines.specs.Faults.{HasFailedBy};
 ghost use Rattle.er_trace.specs.Trace.{Recording, no_steps};
 ghost use Rattle.er_event.specs.declared.steps.Step.{Step};
+ghost use Rattle.er_lines.specs.declared.ready.NameKind.{NameKind as Names};
+ghost use Rattle.er_trace.specs.Names.{NameTable};
 ghost use Rattle.er_text.specs.Named.{Grows};
 ghost use Rattle.er_text.specs.Batches.{HasRead, GivesBatch, batch_steps};
 ghost use Rattle.er_text.specs.Pieces.{StaysAt};
@@ -15,6 +17,7 @@ ghost use Rattle.er_text.specs.Inner.Endings.{PassesTail, BatchesTail};
 ghost use Rattle.er_lines.specs.Lending.{taken_by, lines_from, lines_left};
 ghost use Rattle.er_lines.specs.Reading.{Continues, Reads, Turns};
 ghost use Rattle.er_text.specs.Inner.FastPath.{ReadsUsual};
+ghost use Rattle.er_text.specs.Inner.Numbers.{AreRight};
 ghost use Rattle.er_text.specs.Inner.Parsing.{event_line};
 ghost use Rattle.er_text.specs.Inner.Traces.{progress, at_front, at_line, add_parsed, plain_at, read_content, read_text, IsOutcome, Batches};
 
@@ -22,19 +25,21 @@ use crate::Done;
 use crate::adding::add_steps;
 use crate::endings::{Ending, Lost, comment_past, if_any_lost, is_of_third, lacks_end};
 use crate::fast_path::add_usual;
+use crate::numbers::KnownNumbers;
 use crate::parsing::{ParsedLine, is_end, parse, version_of};
-use crate::ready::{add_ready, operand_name};
+use crate::ready::add_ready;
 use crate::stages::{IdleThreads, Stage, is_known_thread};
 use crate::verbs::Version;
 use er_device::Device;
 use er_lines::{
-    ByText, LineReader, NameKind, ReadFault, Shortcut, TextKind, fault_at, is_ascii,
-    says_something, split_words,
+    ByText, LineReader, ReadFault, Shortcut, TextKind, fault_at, is_ascii, says_something,
+    split_words,
 };
 use er_trace::{NameKeys, Trace};
 use std::alloc::{AllocError, Global};
 use std::io::Read;
 use std::marker::Model;
+use std::mem;
 
 /// A batch ends behind the line that brings its trace to this many steps.
 const BATCH_STEPS: usize = 131_072;
@@ -162,6 +167,7 @@ pub struct TraceReader {
     pub(crate) lines: LineReader,
     pub(crate) header: Header,
     pub(crate) cut: bool,
+    numbers: KnownNumbers,
 }
 
 impl Model for TraceReader {
@@ -189,7 +195,19 @@ impl TraceReader {
             lines: LineReader::new(alloc, limit, size)?,
             header: Header::new(alloc, Stage::Front),
             cut: false,
+            numbers: KnownNumbers::new(alloc),
         })
+    }
+
+    /// Takes out the numbers, of which none is known from then on.
+    fn take_numbers(&mut self) -> KnownNumbers
+        ensures right { (names : Names → ℕ → List ℕ) (table : NameTable) → AreRight names table result }
+        ensures same { self.new ≡ self.old }
+    {
+        let none = KnownNumbers::new(self.numbers.alloc());
+        let mut numbers = mem::replace(&mut self.numbers, none);
+        numbers.forget();
+        numbers
     }
 
     /// Reads on until the window is full, the limit is reached, or the text ends. It passes over no line: those that were read ahead are
@@ -229,8 +247,11 @@ impl TraceReader {
         reader: &mut Device<R>,
         shortcut: &S,
         trace: &mut Trace,
+        numbers: &mut KnownNumbers,
     ) -> Result<bool, ReadFault>
-        requires { has_failed reader.old ≡ false }
+        requires open { has_failed reader.old ≡ false }
+        requires right { AreRight (S.names_of (inner_of reader.old)) trace.old.names numbers.old }
+        ensures right { OnOk result (AreRight (S.names_of (inner_of reader.new)) trace.new.names numbers.new) }
         ensures turn { Turns self.old.place.limit read_content (lines_left self.old.place (R.remaining (inner_of reader.old)))
             (lines_left self.new.place (R.remaining (inner_of reader.new))) (progress self.old trace.old) (progress self.new trace.new) result }
         ensures tail { PassesTail (lines_left self.old.place (R.remaining (inner_of reader.old))) (lines_left self.new.place (R.remaining (inner_of reader.new))) self.old.tail self.new.tail result }
@@ -245,6 +266,7 @@ impl TraceReader {
         let line = self.lines.number();
         let is_asked = self.header.stage == Stage::Events(Version::Three);
         let Some(ready) = self.lines.take(reader, shortcut, is_asked) else {
+            numbers.forget();
             let Some(front) = self.lines.find(reader)? else {
                 return Ok(false);
             };
@@ -254,10 +276,7 @@ impl TraceReader {
             self.cut = !front.is_ended();
             return Ok(true);
         };
-        let inner = reader.inner();
-        let thread = shortcut.name(inner, NameKind::Thread, ready.thread);
-        let name = operand_name(shortcut, inner, ready);
-        add_ready(trace, line, ready, thread, name)?;
+        add_ready(trace, numbers, reader.inner(), shortcut, line, ready)?;
         self.header.idle.remove_last(trace.steps());
         self.cut = false;
         Ok(true)
@@ -285,7 +304,8 @@ impl TraceReader {
         ensures failed { HasFailedBy (has_failed reader.new) result }
         ensures taken { taken_of reader.new + taken_by self.old.place ≤ taken_of reader.old + self.old.place.limit + bytes_past_limit }
     {
-        while self.next_line(reader, &ByText, trace)? {}
+        let mut numbers = KnownNumbers::new(self.numbers.alloc());
+        while self.next_line(reader, &ByText, trace, &mut numbers)? {}
         self.finish()
     }
 
@@ -295,9 +315,11 @@ impl TraceReader {
         reader: &mut Device<R>,
         shortcut: &S,
         trace: &mut Trace,
+        numbers: &mut KnownNumbers,
         most_lines: u32,
     ) -> Result<Batch, ReadFault>
-        requires { has_failed reader.old ≡ false }
+        requires open { has_failed reader.old ≡ false }
+        requires right { AreRight (S.names_of (inner_of reader.old)) trace.old.names numbers.old }
         ensures batch { Batches self.old.place.limit (lines_left self.old.place (R.remaining (inner_of reader.old)))
             (lines_left self.new.place (R.remaining (inner_of reader.new))) (progress self.old trace.old) (progress self.new trace.new) result }
         ensures tail { BatchesTail (lines_left self.old.place (R.remaining (inner_of reader.old))) (lines_left self.new.place (R.remaining (inner_of reader.new))) self.old.tail self.new.tail result }
@@ -313,7 +335,7 @@ impl TraceReader {
         // What is known of the place, also if no line is asked for.
         let _line = self.lines.number();
         for _ in 0..most_lines {
-            if !self.next_line(reader, shortcut, trace)? {
+            if !self.next_line(reader, shortcut, trace, numbers)? {
                 self.finish()?;
                 return Ok(Batch::End);
             }
@@ -363,7 +385,10 @@ impl TraceReader {
         ensures taken { taken_of reader.new + taken_by self.old.place ≤ taken_of reader.old + taken_by self.new.place }
         ensures most { taken_by self.new.place ≤ self.new.place.limit + bytes_past_limit }
     {
-        self.read_batch(reader, shortcut, trace, most_lines)
+        let mut numbers = self.take_numbers();
+        let batch = self.read_batch(reader, shortcut, trace, &mut numbers, most_lines);
+        self.numbers = numbers;
+        batch
     }
 
     /// How the text ended, once a batch was the last.

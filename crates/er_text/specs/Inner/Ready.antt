@@ -1,5 +1,8 @@
 -- What a line says that was never made as text. No public clause cites this module.
-use Rattle.std.specs.Prelude.{ℕ, ◌/◌, List, Option, Some, None, if◌then◌else◌}
+use Rattle.std.specs.Prelude.{ℕ, ◌/◌, Bool, true, false, List, Option, Some, None, if◌then◌else◌}
+use Rattle.er_event.specs.declared.steps.Event.{Event}
+use Rattle.er_event.specs.declared.steps.Event.TheVariants as event
+use Rattle.er_event.specs.declared.steps.Kind.{Kind}
 use Rattle.er_event.specs.declared.steps.Kind.TheVariants as kind
 use Rattle.er_event.specs.declared.steps.Mode.TheVariants as mode
 use Rattle.er_lines.specs.Lines.{has_bytes}
@@ -23,3 +26,20 @@ ready_operation does.ReadUnlock address name = Releases name mode.Read
 -- the line's thread does it
 abbrev pub ready_event : ReadyVerb → ℕ → List ℕ → List ℕ → EventLine
 ready_event v address thread name = record { thread = thread; operation = ready_operation v address name }
+
+-- whether a verb is of an access
+abbrev pub is_access : ReadyVerb → Bool
+is_access does.Read = true
+is_access does.Write = true
+is_access v = false
+
+abbrev pub access_kind : ReadyVerb → Kind
+access_kind does.Write = kind.Write
+access_kind v = kind.Read
+
+-- what another verb does to a lock
+abbrev pub hold_event : ReadyVerb → ℕ → Event
+hold_event does.Unlock lock = event.Release lock mode.Write
+hold_event does.ReadLock lock = event.Acquire lock mode.Read
+hold_event does.ReadUnlock lock = event.Release lock mode.Read
+hold_event v lock = event.Acquire lock mode.Write

@@ -17,6 +17,7 @@ use Rattle.er_text.specs.Inner.Endings.{KeepsTail}
 use Rattle.er_text.specs.Inner.Idle.{last_actor}
 use Rattle.er_text.specs.Inner.Traces.{at_line, plain_at, progress, read_content}
 use Rattle.er_text.proofs.GrowthLemmas.{grows_not, line_grows}
+use Rattle.er_text.proofs.KnownLemmas.{right_kept}
 use Rattle.er_text.proofs.PlaceLemmas.{kept_first, trace_fails, trace_on, trace_tail}
 use Rattle.er_text.proofs.ReadyLemmas.{ready_read, ready_tail}
 use Rattle.er_text.proofs.TailLemmas.{tail_on}
@@ -47,8 +48,8 @@ module _ (g : _) (c : goal.After-self-2-1 g) where
   read : plain_at (at_line inside.place.number inside.stage inside.idle c.args.trace.now) inside.place.number (ready_bytes line.verb line.address thread name)
       ≡ Ok (at_line (inside.place.number + 1) inside.stage c.remove_last.new.self c.add_ready.new.trace)
   read = ready_read c.number-line.result inside.place.number inside.stage line.verb line.address _ _ thread name inside.idle c.remove_last.new.self c.args.trace.now c.add_ready.new.trace
-      c.number-line.ensures.value (c.name-thread.ensures ∙ ap (λ r. thread_name (g.S.Shortcut.names_of r) line) c.inner-inner.ensures) (c.operand_name-name.ensures ∙ ap (λ r. operand_name (g.S.Shortcut.names_of r) line) c.inner-inner.ensures)
-      third c.in-Some.ensures.taken.right c.in_ok-add_ready.ensures (λ who last. c.remove_last.ensures who (ap last_actor c.steps.ensures.value ∙ last))
+      c.number-line.ensures.value (ap (λ r. thread_name (g.S.Shortcut.names_of r) line) c.inner.ensures) (ap (λ r. operand_name (g.S.Shortcut.names_of r) line) c.inner.ensures)
+      third c.in-Some.ensures.taken.right c.in_ok-add_ready.ensures.trace (λ who last. c.remove_last.ensures who (ap last_actor c.steps.ensures.value ∙ last))
 
 pub returns-clause-turn : goal.returns-clause-turn
 returns-clause-turn g c =
@@ -124,3 +125,19 @@ pub returns-in_default-clause-grows : goal.returns-in_default-clause-grows
 returns-in_default-clause-grows g c =
     line_grows c.number-line.result c.bytes-bytes.result.now (at_line c.number-line.result c.self.inside.header.stage c.self.inside.header.idle c.args.trace.now)
     (at_line (c.number-line.result + 1) c.read_plain.new.self.stage c.read_plain.new.self.idle c.read_plain.new.trace) c.in_ok-read_plain.ensures.read
+
+pub add_ready-requires : goal.add_ready-requires
+add_ready-requires g c =
+    let of = g.S.Shortcut.names_of in
+    let line = c.in-Some.ensures.right in
+    let right = right_kept (of (inner_of c.args.reader.now)) (of (inner_of c.take.new.reader)) c.args.trace.now.names c.args.numbers.now c.in-Some.ensures.kept c.requires.right in
+    record { line = rw c.inner.ensures line; right = rw c.inner.ensures right }
+
+pub returns-clause-right : goal.returns-clause-right
+returns-clause-right g c = rw c.inner.ensures at c.in_ok-add_ready.ensures.right
+
+pub returns-in_default-clause-right : goal.returns-in_default-clause-right
+returns-in_default-clause-right g c = c.forget.ensures _ _
+
+pub returns-in_default-2-clause-right : goal.returns-in_default-2-clause-right
+returns-in_default-2-clause-right g c = c.forget.ensures _ _

@@ -21,7 +21,8 @@ loop-init g c =
       limit = refl;
       within = subst P c.self.view_is c.number-line.ensures.within;
       most = subst Q c.self.view_is c.number-line.ensures.most;
-      working = c.requires;
+      working = c.requires.open;
+      right = c.requires.right;
       taken = omega arith;
       passed = omega arith;
     }
@@ -52,6 +53,7 @@ loop-preserved g c =
       within = step.within;
       most = step.most;
       working = step.failed;
+      right = step.right;
       taken = omega (arith, old.taken, step.taken);
       passed = omega (arith, old.passed, passed);
     }

@@ -5,6 +5,7 @@ use Rattle.er_text.specs.Named.{Grows}
 use Rattle.er_text.specs.Inner.Endings.{KeepsTail}
 use Rattle.er_lines.specs.Lending.{taken_by, lines_left}
 use Rattle.er_lines.specs.Reading.{Continues}
+use Rattle.er_text.specs.Inner.Numbers.{AreRight}
 use Rattle.er_text.specs.Inner.Traces.{progress, read_content}
 use Rattle.er_text.proofs.reading.TraceReader.read_batch.Given as goal
 
@@ -14,6 +15,7 @@ invariant-loop g l = record {
       (progress l.fn.self l.fn.trace) (progress l.self l.trace);
   tail : KeepsTail (lines_left l.fn.self.place (g.R.Read.remaining (inner_of l.fn.reader))) (lines_left l.self.place (g.R.Read.remaining (inner_of l.reader))) l.fn.self.tail l.self.tail;
   grows : Grows l.fn.trace l.trace;
+  right : AreRight (g.S.Shortcut.names_of (inner_of l.reader)) l.trace.names l.numbers;
   limit : l.self.place.limit ≡ l.fn.self.place.limit;
   within : l.self.place.start ≤ l.self.place.limit;
   most : taken_by l.self.place ≤ l.self.place.limit + 1025;
