@@ -6,7 +6,8 @@ ghost use Rattle.er_held.specs.Held.{nothing_held};
 ghost use Rattle.er_journal.specs.Entries.{Call as Calls};
 ghost use Rattle.er_model.specs.Events.{is_show};
 ghost use Rattle.er_model.specs.Holdings.{refused_by};
-ghost use Rattle.er_journal.specs.Journals.{journal_state};
+ghost use Rattle.er_model.specs.Parts.{FitsEnd};
+ghost use Rattle.er_journal.specs.Journals.{journal_state, mark_of_what, notes_of};
 ghost use Rattle.er_journal.specs.Merges.{IsLegalSeat};
 ghost use Rattle.er_shadow.specs.Shadows.{needs_set};
 ghost use Rattle.er_shard.specs.Journaled.{entry_of, with_entry};
@@ -258,6 +259,7 @@ impl Seat {
         requires { (holdings_of self.old).depth ≡ 0 }
         ensures call { IfOk result (λ reply. self.new ≡ with_call self.old (ticketed (Event.Access kind word site) ticket reply)) }
         ensures entry { IfOk result (λ reply. shard.new ≡ with_entry shard.old (entry_of ticket self.old.thread (What.Access (access_stamp self.old word kind site)) reply)) }
+        ensures reply { IfOk result (λ reply. FitsEnd (notes_of shard.old.journal) (mark_of_what (What.Access (access_stamp self.old word kind site))) reply) }
         ensures race_or_quiet { IfOk result (λ reply. (reply ≡ Reply.Race) ⊎ (reply ≡ Reply.Quiet)) }
         ensures err { OnErr result (self.new ≡ self.old) }
         ensures err_shard { OnErr result (shard.new ≡ shard.old) }

@@ -6,7 +6,6 @@ ghost use Rattle.er_model.specs.Parts.{FitsEnd};
 ghost use Rattle.er_shadow.specs.Replies.{reply_if};
 ghost use Rattle.er_shadow.specs.Shadows.{needs_set, states};
 ghost use Rattle.er_shard.specs.Journaled.{entry_of};
-ghost use Rattle.er_table.specs.Sets.{most_sets};
 
 use er_event::{NoRoom, PageRange, Reply, ThreadId, Word, WordState};
 use er_journal::{BriefReply, Entry, Stamp, What};
@@ -14,6 +13,9 @@ use er_shadow::{OwnWords, ShadowMap, Words};
 use er_table::{Grow, LocksetTable, Owned, Shared, Store};
 use std::alloc::{AllocError, Global};
 use std::marker::Model;
+
+// How many sets of locks an owner can have.
+const MOST_SETS: u32 = 1_048_576;
 
 /// Some of memory's words, and the journal of what was done to them. Contracts see the journal, with the shard's name, number and limit: the words'
 /// states are those that the journal gives.
@@ -59,7 +61,8 @@ impl<'t> ShardIn<Shared<'t>> {
 }
 
 impl ShardIn<Owned> {
-    /// A shard with an empty journal that takes `limit` entries. Its words take `max_sets` sets of locks. The only error is that there is no memory.
+    /// A shard with an empty journal that takes `limit` entries. Its words take `max_sets` sets of locks, and never more than 1,048,576. The only error is
+    /// that there is no memory.
     pub fn new(
         alloc: Global,
         max_sets: u32,
@@ -67,10 +70,10 @@ impl ShardIn<Owned> {
         number: u32,
         limit: u32,
     ) -> Result<OwnShard, AllocError>
-        requires few { max_sets ≤ most_sets }
         ensures { IfOk result (λ shard. shard ≡ record { name = name; number = number; limit = limit; journal = [] }) }
     {
-        Ok(ShardIn::over(alloc, OwnWords::new(alloc, max_sets)?, name, number, limit))
+        let words = OwnWords::new(alloc, max_sets.min(MOST_SETS))?;
+        Ok(ShardIn::over(alloc, words, name, number, limit))
     }
 }
 
