@@ -354,8 +354,8 @@ static inline bool is_settled(eraser_detector *e, uint64_t at, uint64_t size, bo
     return is;
 }
 
-/* To remember an access and to look for it takes some 80 instructions, a fifth of an access. If the words that a thread uses are too many for that, it gains nothing, and
- * rests for 64 times as long. */
+/* To remember an access and to look for it takes some 80 instructions, a fifth of an access. If the words that a thread uses are too many for that, it
+ * gains nothing, and rests for 64 times as long. */
 APART static void judge(struct self *self)
 {
     if (3 * self->hits < self->misses)
