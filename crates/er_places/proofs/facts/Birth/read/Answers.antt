@@ -92,7 +92,7 @@ returns-then-lock-len c =
     let all : length c.in_ok-head.rest.now + 14 ≡ length body = search rules in
     let none = refused state c.in_ok-head.head.now c.in_ok-head.rest.now body c.number-lock.result c.number-node.result front all c.number-lock.ensures.value c.number-node.ensures.value in
     sym (ap (read_by state body) (none (elim c.then-lock-len.branch [
-      then-lock-len-via-then-lock-len w ↦ inl (omega arith)
+      | then-lock-len-via-then-lock-len w ↦ inl (omega arith)
       | then-lock-len-via-else-lock-len+then-node-len w ↦ inr (inl (omega arith))
       | then-lock-len-via-else-lock-len+else-node-len+then-rest-gt1 w ↦ inr (inr (omega arith))
     ])))

@@ -16,7 +16,7 @@ returns-in_ok-insert-clause-births c = λ name.
     let said : birth_by c.args.state.now c.args.body.now ≡ Some (c.in-Some.lock, c.in-Some.birth) = first_of (search rules, cc) in
     let named : c.in_ok-key.key.items ≡ lock = c.in_ok-key.ensures.items ∙ c.get.ensures in
     let same : is_eq (slice_cmp nat_cmp c.in_ok-key.key.items name.items) ≡ bytes_eq lock name.items =
-        is_eq-slice_cmp c.in_ok-key.key.items name.items ∙ ap (λ (key : List ℕ). bytes_eq key name.items) named in
+    is_eq-slice_cmp c.in_ok-key.key.items name.items ∙ ap (λ (key : List ℕ). bytes_eq key name.items) named in
     c.in_ok-insert.ensures.updates.0 name
     ∙ (ap (λ (here : Bool). cond here (Some c.in-Some.birth) before) same
     ∙ ap (λ (born : Option (ℕ × Birth)). birth_behind c.args.state.now born name.items before) (sym said))
