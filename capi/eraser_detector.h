@@ -43,19 +43,25 @@ enum eraser_status {
     ERASER_HELD_FULL = 8,             /* the thread holds 64 locks */
     ERASER_SIZE_TOO_LARGE = 9,        /* more than 4,194,304 bytes in one proved call */
     ERASER_ADDRESS_OUT_OF_RANGE = 10, /* some byte has an address of 2^48 or more */
-    ERASER_JOURNAL_FULL = 11,         /* never answered by these calls */
+    ERASER_JOURNAL_FULL = 11,         /* an audited shard took 2^32 - 1 calls */
     ERASER_TABLE_FULL = 12,           /* the shard has max_sets sets of locks, and the access wants one more */
     ERASER_OUT_OF_MEMORY = 13,        /* no memory was there */
-    ERASER_FOREIGN_SEAT = 14,         /* never answered by these calls */
+    ERASER_FOREIGN_SEAT = 14,         /* an audit: a seat of another detector */
     ERASER_TOO_MANY_THREADS = 15,     /* the thread's number is 2^30 or more */
     ERASER_LEVEL_TOO_HIGH = 16,       /* an interrupt level above 31 */
     ERASER_LEVEL_LOCK = 17,           /* the number of a lock is above 4,294,967,264: these are the levels' locks */
     ERASER_EMPTY_HANDLE = 18,         /* the handle is empty, or the detector is null */
-    ERASER_WRONG_HANDLE = 19,         /* a thread's handle in the place of a shard's, or the other way round */
+    ERASER_WRONG_HANDLE = 19,         /* a handle of another sort than the call takes, or a detector that keeps no journals */
     ERASER_VIRGIN = 20,               /* a word's state: nobody has used it since it was freed */
     ERASER_EXCLUSIVE = 21,            /* one thread has used it */
     ERASER_SHARED = 22,               /* several threads have, and none wrote it since the second one came */
     ERASER_SHARED_MODIFIED = 23,      /* several threads have, and it was written since the second one came */
+    ERASER_SEAT_TWICE = 24,           /* an audit: two seats of one thread */
+    ERASER_SEAT_MISSING = 25,         /* an audit: the seat of a thread is missing */
+    ERASER_ORDER = 26,                /* an audit: tickets that don't rise, or one that was drawn twice */
+    ERASER_ENTRIES = 27,              /* an audit: an access that isn't in the journal of its word's shard, or one that no thread lists */
+    ERASER_ANSWER = 28,               /* an audit: an access that its thread and its shard don't have with the same answer and locks */
+    ERASER_FOREIGN_SHARD = 29,        /* an audit: a shard of another detector */
     ERASER_BUSY = 32                  /* the call came inside another call of the same thread, or between eraser_pause and eraser_resume */
 };
 
@@ -111,12 +117,14 @@ struct eraser_options {
     uint32_t max_sets;       /* how many different sets of locks a shard keeps, at most 1,048,576. 0 stands for that */
     eraser_on_race *on_race; /* NULL stands for eraser_print */
     void *context;           /* what on_race gets */
+    bool audit;              /* whether all calls are kept, for eraser_settle; so they are if ERASER_AUDIT is set and not empty in the environment */
 };
 
 /* A new detector; NULL stands for the usual options. If there is none, NULL with errno: EINVAL for too many shards or sets, ENOMEM, or EAGAIN if the
  * process has no more keys of threads. A process may have several. */
 eraser_detector *eraser_start(const struct eraser_options *options);
-/* Gives all of it back. Each other thread that made a call has ended or makes no more, and none ends meanwhile. Not inside on_race. NULL is fine. */
+/* Gives all of it back. Each other thread that made a call has ended or makes no more, and none ends meanwhile. Not inside on_race. NULL is fine. If
+ * ERASER_AUDIT is set, it settles first, and prints a line on standard error if that fails. */
 void eraser_stop(eraser_detector *detector);
 
 /* An access of so many bytes. ERASER_RACE if one of its words is a race; on_race was then called, once. If it is refused for lack of memory or by a full
@@ -139,6 +147,11 @@ uint32_t eraser_ignore_end(eraser_detector *detector);
 uint32_t eraser_look(eraser_detector *detector, const volatile void *address);
 /* This thread's number. 0 if it has none: no memory was there. */
 uint32_t eraser_self(eraser_detector *detector);
+
+/* Of a detector with `audit`: checks that all calls so far make one run, each answered as the definitions say for the whole of it. ERASER_QUIET if they do, and
+ * `steps` is then how many steps it has (NULL is fine). ERASER_OUT_OF_MEMORY says nothing. Any other answer is a fault of this library's C, or of a caller that
+ * doesn't keep to this header. No other thread makes a call or ends meanwhile. Nothing changes, and the program may go on. */
+uint32_t eraser_settle(eraser_detector *detector, uint64_t *steps);
 
 /* This thread's calls between the two are refused, for all detectors. They nest, and may be called from a signal handler. Each eraser_resume
  * is of a pause of this thread. */
@@ -194,6 +207,22 @@ uint32_t eraser_access_span(eraser_shard *shard, eraser_thread *thread, uint64_t
 uint32_t eraser_reset(eraser_shard *shard, uint64_t address, uint64_t bytes) ERASER_NONNULL;
 /* ERASER_VIRGIN to ERASER_SHARED_MODIFIED. */
 uint32_t eraser_state(eraser_shard *shard, uint64_t address) ERASER_NONNULL;
+
+/* Audits. A shard with a journal and a thread with a seat keep all that is done to them. `name` stands for the detector. The calls above that take a thread
+ * alone, eraser_state and both `free` work on these handles too; those of accesses and resets answer ERASER_WRONG_HANDLE. */
+uint32_t eraser_journal_new(eraser_shard *shard, uint64_t name, uint32_t max_sets) ERASER_NONNULL;
+/* Threads are numbered from 0, and none is left out. */
+uint32_t eraser_seat_new(eraser_thread *thread, uint64_t name, uint32_t number) ERASER_NONNULL;
+/* An access, as eraser_access. Tickets rise from call to call of a shard, as of a thread: draw one from a counter of all shards while the shard's lock is held.
+ * One that a refused or ignored call was given may be used again or not. */
+uint32_t eraser_record(eraser_shard *shard, eraser_thread *thread, uint64_t ticket, uint64_t address, bool writes) ERASER_NONNULL;
+/* A reset, as eraser_reset, by a thread and of bytes on one page (else ERASER_SIZE_TOO_LARGE). */
+uint32_t eraser_record_reset(eraser_shard *shard, eraser_thread *thread, uint64_t ticket, uint64_t address, uint64_t bytes) ERASER_NONNULL;
+/* Whether these make one run. The page with the address `at` belongs to shard `at / 4096 % shard_count`. The seats of all numbers below `opened` are to be
+ * there. ERASER_QUIET, and `steps` is how many steps the run has; else what is wrong: at the first such handle ERASER_EMPTY_HANDLE, ERASER_WRONG_HANDLE or
+ * ERASER_FOREIGN_SHARD, then the first of ERASER_FOREIGN_SEAT, ERASER_SEAT_TWICE .. ERASER_ANSWER. All handles stay as they are. */
+uint32_t eraser_settle_handles(uint64_t name, uint32_t opened, eraser_shard *shards, size_t shard_count, eraser_thread *seats, size_t seat_count,
+    uint64_t *steps) ERASER_NONNULL;
 
 #ifdef __cplusplus
 }

@@ -113,9 +113,13 @@ struct eraser_detector {
     eraser_on_race *on_race;
     void *context;
     unsigned shards; /* a power of two */
+    uint64_t spread; /* what a page's number is multiplied by, see `spread_of` */
     spin crowd;
     uint32_t threads; /* how many had a number */
     struct self *selves;
+    bool audits, tells;      /* whether it keeps journals, and whether eraser_stop says that they don't settle */
+    struct self *ended;      /* of an audit: the threads that ended */
+    atomic_uint_least64_t tickets; /* how many were drawn */
     struct table tables[TABLES];
     struct place places[];
 };
@@ -158,6 +162,12 @@ static void number_locks(struct self *self)
     self->turn = (self->locks - NO_LOCKS) * 41;
 }
 
+/* What shards and seats of an audit are called, so that those of two detectors are told apart. */
+static uint64_t name_of(const eraser_detector *e)
+{
+    return (uintptr_t)e;
+}
+
 /* ---- Threads ---- */
 
 static void forget(struct self *self)
@@ -181,9 +191,22 @@ static void end_thread(void *given)
     *self->link = self->next;
     if (self->next)
         self->next->link = self->link;
+    if (e->audits) {
+        self->next = e->ended;
+        e->ended = self;
+        if (mine.self == self)
+            mine.start = 0;
+    }
     leave(&e->crowd);
-    forget(self);
+    if (!e->audits)
+        forget(self);
     busy -= CALL;
+}
+
+/* A new handle for a thread. Seats are numbered from 0. */
+static uint32_t new_thread(eraser_detector *e, eraser_thread *thread, uint32_t number)
+{
+    return e->audits ? eraser_seat_new(thread, name_of(e), number - 1) : eraser_thread_new(thread, number);
 }
 
 /* A thread's first call. Without memory no number is given. */
@@ -195,9 +218,10 @@ static uint32_t meet(eraser_detector *e, struct self **found)
     memset(self, 0, sizeof *self);
     self->detector = e;
     self->locks = self->given = NO_LOCKS;
+    self->rest = e->audits ? UINT64_MAX : 0; /* an audit is told of each access */
     take(&e->crowd);
     self->number = e->threads + 1;
-    uint32_t status = eraser_thread_new(&self->thread, self->number);
+    uint32_t status = new_thread(e, &self->thread, self->number);
     if (status == ERASER_QUIET && pthread_setspecific(e->key, self) != 0)
         status = ERASER_OUT_OF_MEMORY;
     if (status == ERASER_QUIET) {
@@ -273,10 +297,9 @@ uint32_t eraser_self(eraser_detector *e)
 
 /* ---- Accesses ---- */
 
-/* All bits of the page's number count: an allocator may give each thread memory that begins at a multiple of many pages. */
 static struct place *place_of(eraser_detector *e, uint64_t address)
 {
-    return &e->places[(address / PAGE * UINT64_C(0x9e3779b97f4a7c15)) >> 40 & (e->shards - 1)];
+    return &e->places[address / PAGE * e->spread >> 40 & (e->shards - 1)];
 }
 
 /* Where the part of the bytes that is on the first byte's page ends. */
@@ -400,6 +423,25 @@ struct found {
     uint32_t other;
 };
 
+/* Under the shard's lock, so tickets rise in each shard as in each thread. */
+static uint64_t draw(eraser_detector *e)
+{
+    return atomic_fetch_add_explicit(&e->tickets, 1, memory_order_relaxed);
+}
+
+/* Each word's access of a part, under a ticket of its own. It answers as eraser_access_span does. */
+APART static uint32_t record_span(eraser_detector *e, struct place *place, struct self *self, uint64_t at, uint64_t end, bool writes, uint64_t *first_race)
+{
+    for (uint64_t word = at / 4; word <= (end - 1) / 4; word++) {
+        uint32_t status = eraser_record(&place->shard, &self->thread, draw(e), word * 4, writes);
+        if (status == ERASER_RACE && *first_race == UINT64_MAX)
+            *first_race = word * 4;
+        if (status > ERASER_RACE)
+            return status;
+    }
+    return *first_race == UINT64_MAX ? ERASER_QUIET : ERASER_RACE;
+}
+
 /* One page's part of an access. `found` gets its first race, if it has none yet. */
 static inline uint32_t access_part(eraser_detector *e, struct self *self, uint64_t at, uint64_t end, bool writes, struct found *found)
 {
@@ -407,7 +449,8 @@ static inline uint32_t access_part(eraser_detector *e, struct self *self, uint64
     uint64_t first_race = UINT64_MAX;
     uint8_t settled = 0;
     take(&place->lock);
-    uint32_t status = eraser_access_span(&place->shard, &self->thread, at, end - at, writes, &first_race, &settled);
+    uint32_t status = e->audits ? record_span(e, place, self, at, end, writes, &first_race)
+                                : eraser_access_span(&place->shard, &self->thread, at, end - at, writes, &first_race, &settled);
     if (status != ERASER_IGNORED) {
         if (!settled)
             change_version(place);
@@ -472,11 +515,11 @@ APART uint32_t eraser_write(eraser_detector *e, const volatile void *address, si
 }
 
 /* Of one page. The notes may stay: a race needs another thread after this, and then that one is the last. */
-static uint32_t free_part(eraser_detector *e, uint64_t at, uint64_t end)
+static uint32_t free_part(eraser_detector *e, struct self *self, uint64_t at, uint64_t end)
 {
     struct place *place = place_of(e, at);
     take(&place->lock);
-    uint32_t status = eraser_reset(&place->shard, at, end - at);
+    uint32_t status = e->audits ? eraser_record_reset(&place->shard, &self->thread, draw(e), at, end - at) : eraser_reset(&place->shard, at, end - at);
     change_version(place);
     leave(&place->lock);
     return status;
@@ -492,7 +535,7 @@ uint32_t eraser_freeing(eraser_detector *e, const volatile void *address, size_t
     if (!is_in_range(first, size))
         return end(ERASER_ADDRESS_OUT_OF_RANGE);
     for (uint64_t at = first; at < last && status == ERASER_QUIET; at = end_of_part(at, last))
-        status = free_part(e, at, end_of_part(at, last));
+        status = free_part(e, self, at, end_of_part(at, last));
     return end(status);
 }
 
@@ -784,7 +827,74 @@ static void watch_forks(void)
     pthread_atfork(before_fork, after_fork, begin_child);
 }
 
+/* ---- Audits ---- */
+
+static size_t count_of(const struct self *first)
+{
+    size_t count = 0;
+    for (const struct self *self = first; self; self = self->next)
+        count++;
+    return count;
+}
+
+/* The handles of these threads go into `seats`, or come back from there. */
+static eraser_thread *move_seats(struct self *first, eraser_thread *seats, bool back)
+{
+    for (struct self *self = first; self; self = self->next, seats++)
+        *(back ? &self->thread : seats) = *(back ? seats : &self->thread);
+    return seats;
+}
+
+static void move_all(eraser_detector *e, eraser_shard *shards, eraser_thread *seats, bool back)
+{
+    for (unsigned at = 0; at < e->shards; at++)
+        *(back ? &e->places[at].shard : &shards[at]) = *(back ? &shards[at] : &e->places[at].shard);
+    move_seats(e->ended, move_seats(e->selves, seats, back), back);
+}
+
+/* The proved call wants the handles side by side. */
+static uint32_t settle(eraser_detector *e, uint64_t *steps)
+{
+    int error = errno;
+    size_t threads = count_of(e->selves) + count_of(e->ended);
+    eraser_shard *shards = malloc(e->shards * sizeof *shards);
+    eraser_thread *seats = malloc((threads + 1) * sizeof *seats);
+    uint32_t status = ERASER_OUT_OF_MEMORY;
+    if (shards && seats) {
+        move_all(e, shards, seats, false);
+        status = eraser_settle_handles(name_of(e), e->threads, shards, e->shards, seats, threads, steps);
+        move_all(e, shards, seats, true);
+    }
+    free(shards);
+    free(seats);
+    errno = error;
+    return status;
+}
+
+uint32_t eraser_settle(eraser_detector *e, uint64_t *steps)
+{
+    uint64_t none;
+    if (!e)
+        return ERASER_EMPTY_HANDLE;
+    if (busy)
+        return ERASER_BUSY;
+    busy = CALL;
+    atomic_signal_fence(memory_order_seq_cst);
+    take(&e->crowd);
+    uint32_t status = settle(e, steps ? steps : &none);
+    leave(&e->crowd);
+    return end(status);
+}
+
 /* ---- Start and stop ---- */
+
+static void forget_all(struct self *first)
+{
+    for (struct self *self = first, *next; self; self = next) {
+        next = self->next;
+        forget(self);
+    }
+}
 
 static void give_back(eraser_detector *e)
 {
@@ -795,6 +905,13 @@ static void give_back(eraser_detector *e)
         free(e->tables[at].spare);
     }
     free(e);
+}
+
+/* All bits of a page's number count: an allocator may give each thread memory that begins at a multiple of many pages. To an audit of n shards the page p
+ * belongs to the shard in place p % n. */
+static uint64_t spread_of(const eraser_detector *e)
+{
+    return e->audits ? UINT64_C(1) << 40 : UINT64_C(0x9e3779b97f4a7c15);
 }
 
 eraser_detector *eraser_start(const struct eraser_options *options)
@@ -818,12 +935,16 @@ eraser_detector *eraser_start(const struct eraser_options *options)
         return NULL;
     }
     memset(e, 0, size);
+    const char *audit = getenv("ERASER_AUDIT");
+    e->tells = audit && *audit;
+    e->audits = options->audit || e->tells;
     e->shards = shards;
+    e->spread = spread_of(e);
     e->on_race = options->on_race ? options->on_race : eraser_print;
     e->context = options->context;
     int error = 0;
     for (unsigned at = 0; at < shards && error == 0; at++)
-        if (eraser_shard_new(&e->places[at].shard, sets) != ERASER_QUIET)
+        if ((e->audits ? eraser_journal_new(&e->places[at].shard, name_of(e), sets) : eraser_shard_new(&e->places[at].shard, sets)) != ERASER_QUIET)
             error = ENOMEM;
     if (error == 0)
         error = pthread_key_create(&e->key, end_thread);
@@ -857,11 +978,12 @@ void eraser_stop(eraser_detector *e)
         e->next->link = e->link;
     leave(&starts);
     pthread_key_delete(e->key);
-    while (e->selves) {
-        struct self *self = e->selves;
-        e->selves = self->next;
-        forget(self);
-    }
+    uint64_t steps;
+    uint32_t why = e->tells ? settle(e, &steps) : ERASER_QUIET;
+    if (why != ERASER_QUIET)
+        fprintf(stderr, "eraser: the calls of %u threads don't settle: %s\n", (unsigned)e->threads, eraser_text(why));
+    forget_all(e->selves);
+    forget_all(e->ended);
     give_back(e);
     busy -= CALL;
 }
@@ -874,6 +996,7 @@ const char *eraser_text(uint32_t status)
         "quiet", "race", "ignored", "already held", "not held", "held in the other mode", "ignore not on", "ignore too deep", "too many locks held",
         "size too large", "address out of range", "journal full", "table full", "out of memory", "foreign seat", "too many threads", "level too high",
         "level lock", "empty handle", "wrong handle", "virgin", "exclusive", "shared", "shared-modified",
+        "seat twice", "seat missing", "order", "entries", "answer", "foreign shard",
     };
     return status < sizeof texts / sizeof *texts ? texts[status] : status == ERASER_BUSY ? "busy" : "no status";
 }

@@ -3,7 +3,9 @@
 
 - 1,000 random lists of calls, by the proved calls and by the layer: each answer is that of tests/reference.py, and so is which accesses leave all as it was.
   With each allocation of some of them refused in turn, the answers are the same once a refused call is made again
-- what a thread remembers of its accesses: the layer finds what it has to, and doesn't if one of some bugs is planted in it
+- the same lists in audit mode: the same answers, and all calls settle into a run of as many steps as the reference counts
+- what a thread remembers of its accesses: the layer finds what it has to, and doesn't if one of some bugs is planted in it. In audit mode a settlement names
+  what other bugs come to, but for those that none can see
 - the programs of tests/capi, plain and with AddressSanitizer, UndefinedBehaviorSanitizer and ThreadSanitizer: many threads, wrong handles, lives of locks,
   threads and detectors, signal handlers, forks
 - the headers have no warning in C11 and in C++17, by gcc and clang, and the statuses in Rust are the header's
@@ -64,11 +66,13 @@ def build(folder, name, *flags, layer=CAPI / "eraser_pthread.c"):
 class Expected:
     """Answers calls by the reference. Locks are numbers, and recursive for the layer, which no trace is."""
 
-    def __init__(self, of_layer):
-        self.run, self.of_layer = reference.Replay([]), of_layer
+    def __init__(self, of_layer, audits):
+        self.run, self.of_layer, self.audits = reference.Replay([]), of_layer, audits
         self.rounds = {}
         # The threads that used a word since it was freed, and the words of each slot of a shard, in which the layer remembers a word's last users.
         self.users, self.slots = {}, {}
+        # The steps of the run that an audit settles: what is accepted and counts, a reuse for each page.
+        self.steps = 0
 
     def step(self, thread, verb, *operands):
         """What the reference says of one step: a refusal, `race`, a state, or nothing."""
@@ -77,6 +81,11 @@ class Expected:
         new = self.run.lines[lines:]
         if new and ": refused: " in new[0]:
             return new[0].rsplit(": ", 1)[1]
+        if verb == b"reuse":
+            first, size = operands
+            self.steps += (first + size - 1) // 4096 - first // 4096 + 1 if size else 0
+        elif verb != b"show":
+            self.steps += 1
         if new and ": state " in new[0]:
             return re.match(r".*: state \w+: ([\w-]+)", new[0])[1]
         return "race" if self.run.races > races else None
@@ -125,7 +134,7 @@ class Expected:
             known = self.others(thread, word)
             if is_race and first is None:
                 first, others = 4 * word, known
-        is_settled = not self.of_layer and before == [self.state(word) for word in words]
+        is_settled = not self.of_layer and not self.audits and before == [self.state(word) for word in words]
         return (f"race 0x{first:x}" if first is not None else "quiet settled" if is_settled else "quiet"), others
 
     def state(self, word):
@@ -135,7 +144,7 @@ class Expected:
         return of.accesses[0][0] if of.joining() is None else (of.written(), frozenset(of.candidates()))
 
     def slot(self, word):
-        return (word // 1024 * 0x9E3779B97F4A7C15 % 2**64 >> 40) % 4, word % 128
+        return (word // 1024 * (2**40 if self.audits else 0x9E3779B97F4A7C15) % 2**64 >> 40) % 4, word % 128
 
     def others(self, thread, word):
         """Which other threads may be told to have used the word before: 4 if that may be unknown."""
@@ -214,15 +223,17 @@ def random_calls(seed, of_layer):
     return calls
 
 
-def answers(calls, of_layer):
-    expected = Expected(of_layer)
-    return "".join(expected.answer(*call) + "\n" for call in calls)
+def answers(calls, of_layer, audits):
+    """What the calls are answered, and how many steps an audit of them has, which it says in a last line."""
+    expected = Expected(of_layer, audits)
+    lines = [expected.answer(*call) for call in calls]
+    return "".join(line + "\n" for line in lines + [f"quiet {expected.steps}"] * audits), expected.steps
 
 
-def texts(of_layer, seeds):
+def texts(of_layer, audits, seeds):
     for seed in seeds:
         calls = random_calls(seed, of_layer)
-        yield seed, "".join(" ".join(map(str, call)) + "\n" for call in calls), answers(calls, of_layer)
+        yield seed, "".join(" ".join(map(str, call)) + "\n" for call in calls), *answers(calls, of_layer, audits)
 
 
 def told(found, wanted):
@@ -241,21 +252,27 @@ def differing(found, wanted):
     return next((f"line {at}: {a!r}, not {b!r}" for at, (a, b) in enumerate(pairs, 1) if a != b), f"{len(found.splitlines())} lines")
 
 
+AUDIT = {**os.environ, "ERASER_AUDIT": "1"}
+MODES = ((False, ""), (True, ", audited"))
+
+
 def random_lists(record, driver, of_layer, name=None):
     name = name or ("layer" if of_layer else "proved calls")
     races = 0
 
-    def run(text):
-        return command([driver], input=text)
+    def run(asked):
+        text, env = asked
+        return command([driver], input=text, env=env)
 
     with concurrent.futures.ThreadPoolExecutor(len(os.sched_getaffinity(0))) as pool:
-        lists = list(texts(of_layer, range(LISTS)))
-        for (seed, _, wanted), found in zip(lists, pool.map(run, [text for _, text, _ in lists])):
-            races += wanted.count("race")
-            answered = told(found.stdout, wanted)
-            is_right = (found.returncode, answered, found.stderr) == (0, wanted, "")
-            record(f"capi: random list {seed} by the {name}", is_right, f"{found.returncode} {found.stderr} {differing(answered, wanted)}")
-    record(f"capi: the random lists by the {name} have races", races > LISTS, f"{races}")
+        for audits, how in MODES:
+            lists = list(texts(of_layer, audits, range(LISTS)))
+            for (seed, _, wanted, _), found in zip(lists, pool.map(run, [(text, AUDIT if audits else os.environ) for _, text, _, _ in lists])):
+                races += wanted.count("race")
+                answered = told(found.stdout, wanted)
+                is_right = (found.returncode, answered, found.stderr) == (0, wanted, "")
+                record(f"capi: random list {seed} by the {name}{how}", is_right, f"{found.returncode} {found.stderr} {differing(answered, wanted)}")
+    record(f"capi: the random lists by the {name} have races", races > 2 * LISTS, f"{races}")
 
 
 def own_pages(record, folder):
@@ -273,14 +290,21 @@ def refused_lists(record, folder, driver, of_layer):
         built = command(["cc", "-shared", "-fPIC", "-O1", "-o", library, TOP / "tests/refuse.c", "-ldl"])
         record("capi: what refuses memory is built", built.returncode == 0, f"{built}")
     name = "layer" if of_layer else "proved calls"
-    for seed, text, wanted in texts(of_layer, range(LISTS, LISTS + REFUSED_LISTS)):
-        refused = 0
-        for nth, found, has_refused in each_refused(library, folder, lambda env: command([driver], input=text, env=env)):
-            refused += has_refused
-            answered = told(found.stdout, wanted)
-            is_right, how = (found.returncode, answered, found.stderr) == (0, wanted, ""), differing(answered, wanted)
-            record(f"capi: list {seed} by the {name} with allocation {nth} refused", is_right, f"{found.returncode} {found.stderr} {how}")
-        record(f"capi: list {seed} by the {name} has allocations", refused > 5, f"{refused}")
+    for audits, more in MODES:
+        audit = {"ERASER_AUDIT": "1"} if audits else {}
+        for seed, text, wanted, steps in texts(of_layer, audits, range(LISTS, LISTS + REFUSED_LISTS)):
+            refused = 0
+            for nth, found, has_refused in each_refused(library, folder, lambda env: command([driver], input=text, env={**env, **audit})):
+                refused += has_refused
+                # An access that is made again has its first words twice.
+                again = re.search(r"^quiet (\d+)\n\Z", found.stdout, re.MULTILINE)
+                printed = found.stdout[: again.start()] + f"quiet {steps}\n" if again and int(again[1]) >= steps else found.stdout
+                # eraser_stop settles too, once, and says so if there is no memory for that.
+                said = re.sub(r"\Aeraser: the calls of 4 threads don't settle: out of memory\n\Z", "", found.stderr) if audits and of_layer else found.stderr
+                answered = told(printed, wanted)
+                is_right, how = (found.returncode, answered, said) == (0, wanted, ""), differing(answered, wanted)
+                record(f"capi: list {seed} by the {name}{more} with allocation {nth} refused", is_right, f"{found.returncode} {found.stderr} {how}")
+            record(f"capi: list {seed} by the {name}{more} has allocations", refused > 5, f"{refused}")
 
 
 # ---- programs
@@ -288,11 +312,15 @@ def refused_lists(record, folder, driver, of_layer):
 # Each with its words, and with those under ThreadSanitizer.
 PROGRAMS = {
     "handles": ([], []),
+    "audits": ([], []),
+    "crowd": ([], []),
     "lives": ([], []),
     "breaks": ([], ["apart"]),
     "threads": (["64", "1500"], ["8", "1500"]),
     "settled": (["16", "20"], ["4", "5"]),
 }
+# Those that are run in audit mode too, which keeps each call.
+AUDITED = {"audits": [], "crowd": []}
 # What a program is linked with besides.
 LINKED = {"settled": ["-Wl,--wrap=eraser_access_span"]}
 BUILDS = {
@@ -307,13 +335,17 @@ def programs(record, folder):
         name, kind = asked
         target, built = build(folder, name, *BUILDS[kind])
         words = PROGRAMS[name][kind == "ThreadSanitizer"]
-        return built, command([target, *words]) if built.returncode == 0 else None
+        runs = [command([target, *words])] if built.returncode == 0 else []
+        if runs and name in AUDITED:
+            runs.append(command([target, *AUDITED[name]], env=AUDIT))
+        return built, runs
 
     asked = [(name, kind) for kind in BUILDS for name in PROGRAMS]
     with concurrent.futures.ThreadPoolExecutor(2) as pool:
         for (name, kind), (built, found) in zip(asked, pool.map(run, asked)):
             record(f"capi: {name} ({kind}) is built", built.returncode == 0 and built.stderr == "", f"{built}")
-            record(f"capi: {name} ({kind})", found and (found.returncode, found.stdout, found.stderr) == (0, "fine\n", ""), f"{found}"[:3000])
+            for run, how in zip(found or [None], ("", ", audited")):
+                record(f"capi: {name} ({kind}){how}", run and (run.returncode, run.stdout, run.stderr) == (0, "fine\n", ""), f"{run}"[:3000])
 
 
 # Bugs of what a thread remembers, each as the text that it takes the place of.
@@ -344,25 +376,73 @@ PLANTED = {
     "it rests for ever": ("        self->rest--;\n", ""),
     "nothing is remembered": ("    *group_of(known, at) |= bits_of(at, end);\n", ""),
 }
+# Bugs of an audit, with what the calls then come to.
+SPAN = "eraser_record(&place->shard, &self->thread, draw(e), word * 4, writes)"
+MISTAKES = {
+    "none": ("e->threads++;", "e->threads++;", "quiet"),
+    "the shard of the next page": ("address / PAGE * e->spread", "(address / PAGE + 1) * e->spread", "entries"),
+    "shards as without an audit": ("e->audits ? UINT64_C(1) << 40 : ", "", "entries"),
+    "an access of two pages in the shard of the first": ("return page_end < end ? page_end : end;", "return end + 0 * page_end;", "entries"),
+    "shards in another order": (
+        "*(back ? &e->places[at].shard : &shards[at]) = *(back ? &shards[at] :",
+        "*(back ? &e->places[at].shard : &shards[e->shards - 1 - at]) = *(back ? &shards[e->shards - 1 - at] :",
+        "entries",
+    ),
+    "each ticket twice": ("draw(e), word * 4", "draw(e) / 2, word * 4", "order"),
+    "a ticket of its own for each shard": ("draw(e), word * 4", "place->version++, word * 4", "order"),
+    "the lock given up between a ticket and its access": (
+        f"uint32_t status = {SPAN};",
+        f"""uint64_t ticket = draw(e);
+        void between(uint32_t thread);
+        leave(&place->lock);
+        between(self->number);
+        take(&place->lock);
+        uint32_t status = {SPAN.replace("draw(e)", "ticket")};""",
+        "order",
+    ),
+    "threads of one number": ("e->threads++;", "", "seat twice"),
+    "a thread that ended and isn't kept": ("e->ended = self;", "", "seat missing"),
+    "seats of another detector": ("name_of(e), number - 1", "name_of(e) + 1, number - 1", "foreign seat"),
+    "shards of another detector": ("name_of(e), sets", "name_of(e) + 1, sets", "foreign shard"),
+    # What no settlement can see: that the events are not what the program did.
+    "a release that isn't told": ("eraser_release(&self->thread, self->held[at].number, self->writes[at])", "ERASER_QUIET", "quiet"),
+    "an access that isn't told": (f"uint32_t status = {SPAN};", f"uint32_t status = word % 2 ? {SPAN} : ERASER_QUIET;", "quiet"),
+    "an access of another word": ("draw(e), word * 4", "draw(e), (word ^ 1) * 4", "quiet"),
+}
+# How many steps these settle into.
+UNSEEN = {"none": 16, "a release that isn't told": 13, "an access that isn't told": 11, "an access of another word": 16}
+
+
+def bugs():
+    """Each bug: its name, the program that is to find it, with its words, the text in whose place it stands, itself, and what the program then says."""
+    for name, (old, new) in PLANTED.items():
+        yield name, ["settled", "2", "2"], old, new, (1, r"wrong: .*\n", r".*")
+    for name, (old, new, wanted) in MISTAKES.items():
+        # ERASER_AUDIT makes eraser_stop say it too.
+        said = "" if wanted == "quiet" else rf"eraser: the calls of \d threads don't settle: {wanted}\n"
+        yield f"{name}, audited", ["planted"], old, new, (0, f"{wanted} {UNSEEN.get(name, 0)}\n", said)
 
 
 def planted(record, folder):
-    """The program `settled` finds each of these."""
+    """Programs with a bug in the layer: `settled` finds those of what a thread remembers, and a settlement names the others or can't see them."""
     text = (CAPI / "eraser_pthread.c").read_text()
 
     def run(asked):
-        at, (old, new) = asked
+        at, (_, (name, *words), old, new, _) = asked
         place = folder / f"planted{at}"
         place.mkdir()
         layer = place / "eraser_pthread.c"
         layer.write_text(text.replace(old, new))
-        target, built = build(place, "settled", "-Wno-unused", layer=layer)
-        return built, text.count(old), command([target, "2", "2"]) if built.returncode == 0 else None
+        target, built = build(place, name, "-Wno-unused", layer=layer)
+        found = command([target, *words], env=AUDIT if name == "planted" else os.environ) if built.returncode == 0 else None
+        return built, text.count(old), found
 
     with concurrent.futures.ThreadPoolExecutor(2) as pool:
-        for name, (built, times, found) in zip(PLANTED, pool.map(run, enumerate(PLANTED.values()))):
+        for (name, *_, wanted), (built, times, found) in zip(bugs(), pool.map(run, enumerate(bugs()))):
             record(f"capi: planted: {name}: is built", times == 1 and built.returncode == 0, f"{times} {built}")
-            record(f"capi: planted: {name}", found and found.returncode == 1 and found.stdout.startswith("wrong: "), f"{found}"[:3000])
+            status, printed, said = wanted
+            is_right = found and found.returncode == status and re.fullmatch(printed, found.stdout) and re.fullmatch(said, found.stderr, re.DOTALL)
+            record(f"capi: planted: {name}", is_right, f"{found}"[:3000])
 
 
 def headers(record, folder):

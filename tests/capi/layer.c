@@ -1,5 +1,5 @@
 /* Makes the calls that the lines of its standard input say, each in the thread that the line names, one after the other, and prints what each one answers.
- * A call that finds no memory is made again. */
+ * A call that finds no memory is made again. With ERASER_AUDIT in the environment a last line says what the calls come to. */
 #include "eraser_detector.h"
 
 #include <pthread.h>
@@ -117,6 +117,13 @@ int main(void)
         }
     for (unsigned at = 0; at < THREADS; at++)
         pthread_join(threads[at], NULL);
+    if (getenv("ERASER_AUDIT")) {
+        uint64_t steps = 0;
+        uint32_t status;
+        while ((status = eraser_settle(detector, &steps)) == ERASER_OUT_OF_MEMORY) {
+        }
+        printf("%s %llu\n", eraser_text(status), (unsigned long long)steps);
+    }
     eraser_stop(detector);
     return 0;
 }

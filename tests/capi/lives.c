@@ -126,7 +126,7 @@ static void check_refusals(void)
     CHECK(eraser_write(detector, steady, SIZE_MAX) == ERASER_ADDRESS_OUT_OF_RANGE && eraser_look(detector, steady) == ERASER_VIRGIN);
     CHECK(eraser_look(detector, (const void *)(uintptr_t)(UINT64_C(1) << 48)) == ERASER_ADDRESS_OUT_OF_RANGE);
     CHECK(strcmp(eraser_text(ERASER_HELD_FULL), "too many locks held") == 0 && strcmp(eraser_text(ERASER_SHARED_MODIFIED), "shared-modified") == 0);
-    CHECK(strcmp(eraser_text(ERASER_BUSY), "busy") == 0 && strcmp(eraser_text(24), "no status") == 0);
+    CHECK(strcmp(eraser_text(ERASER_BUSY), "busy") == 0 && strcmp(eraser_text(30), "no status") == 0);
 }
 
 /* A destructor of a thread's value makes calls after the thread's function has returned, whichever comes first: it is the same thread. */

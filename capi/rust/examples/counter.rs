@@ -37,7 +37,7 @@ unsafe extern "C" fn tell(_: *mut c_void, race: *const EraserRace) {
 }
 
 fn main() {
-    let options = EraserOptions { shards: 0, max_sets: 0, on_race: Some(tell), context: null_mut() };
+    let options = EraserOptions { shards: 0, max_sets: 0, on_race: Some(tell), context: null_mut(), audit: false };
     let detector = unsafe { eraser_start(&options) };
     assert!(!detector.is_null());
     DETECTOR.store(detector, Ordering::Release);

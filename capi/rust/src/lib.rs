@@ -38,6 +38,7 @@ pub struct EraserOptions {
     pub max_sets: u32,
     pub on_race: Option<EraserOnRace>,
     pub context: *mut c_void,
+    pub audit: bool,
 }
 
 pub const ERASER_QUIET: u32 = 0;
@@ -64,6 +65,12 @@ pub const ERASER_VIRGIN: u32 = 20;
 pub const ERASER_EXCLUSIVE: u32 = 21;
 pub const ERASER_SHARED: u32 = 22;
 pub const ERASER_SHARED_MODIFIED: u32 = 23;
+pub const ERASER_SEAT_TWICE: u32 = 24;
+pub const ERASER_SEAT_MISSING: u32 = 25;
+pub const ERASER_ORDER: u32 = 26;
+pub const ERASER_ENTRIES: u32 = 27;
+pub const ERASER_ANSWER: u32 = 28;
+pub const ERASER_FOREIGN_SHARD: u32 = 29;
 pub const ERASER_BUSY: u32 = 32;
 
 extern "C" {
@@ -80,6 +87,7 @@ extern "C" {
     pub fn eraser_ignore_end(detector: *mut EraserDetector) -> u32;
     pub fn eraser_look(detector: *mut EraserDetector, address: *const c_void) -> u32;
     pub fn eraser_self(detector: *mut EraserDetector) -> u32;
+    pub fn eraser_settle(detector: *mut EraserDetector, steps: *mut u64) -> u32;
     pub fn eraser_pause();
     pub fn eraser_resume();
     pub fn eraser_print(context: *mut c_void, race: *const EraserRace);
