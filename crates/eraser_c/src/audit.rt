@@ -1,5 +1,5 @@
 //! What C calls of an audited run: shards with journals, seats, and what settles them.
-ghost use Rattle.std.specs.Prelude.{◌≡◌, ◌<◌, ◌≤◌, ◌^◌, ◌/◌, ◌-◌, ℕ, [], Result};
+ghost use Rattle.std.specs.Prelude.{◌≡◌, ◌≢◌, ◌<◌, ◌≤◌, ◌^◌, ◌/◌, ◌-◌, ℕ, [], Result};
 ghost use Rattle.er_event.specs.Span.{IsOutsideMemory, most_bytes, page_count, part_of, span_of_bytes};
 ghost use Rattle.eraser_c.specs.Answers.{IsMade, kind_of};
 ghost use Rattle.eraser_c.specs.Recorded.{IsRecorded};
@@ -100,6 +100,10 @@ pub extern "C" fn eraser_record_reset(
     bytes: u64,
 ) -> u32
     ensures recorded { 0 < bytes → bytes ≤ most_bytes → ¬ IsOutsideMemory address bytes → page_count (span_of_bytes address bytes) ≡ 1 → IsRecorded (Use.Reset (part_of (span_of_bytes address bytes) 0)) ticket thread.old.kept_box.kept thread.new.kept_box.kept shard.old.kept_box.kept shard.new.kept_box.kept result }
+    ensures several { 0 < bytes → bytes ≤ most_bytes → ¬ IsOutsideMemory address bytes → page_count (span_of_bytes address bytes) ≢ 1 → (result ≡ number_of (Status.Refused Refusal.SizeTooLarge)) × ((thread.new.kept_box.kept ≡ thread.old.kept_box.kept) × (shard.new.kept_box.kept ≡ shard.old.kept_box.kept)) }
+    ensures too_large { most_bytes < bytes → (result ≡ number_of (Status.Refused Refusal.SizeTooLarge)) × ((thread.new.kept_box.kept ≡ thread.old.kept_box.kept) × (shard.new.kept_box.kept ≡ shard.old.kept_box.kept)) }
+    ensures out_of_range { bytes ≤ most_bytes → IsOutsideMemory address bytes → (result ≡ number_of (Status.Refused Refusal.AddressOutOfRange)) × ((thread.new.kept_box.kept ≡ thread.old.kept_box.kept) × (shard.new.kept_box.kept ≡ shard.old.kept_box.kept)) }
+    ensures none { bytes ≡ 0 → address < 2 ^ 48 → (result ≡ number_of Status.Quiet) × ((thread.new.kept_box.kept ≡ thread.old.kept_box.kept) × (shard.new.kept_box.kept ≡ shard.old.kept_box.kept)) }
 {
     match words_of(address, bytes) {
         Ok(words) if words.parts() == 1 => record(
