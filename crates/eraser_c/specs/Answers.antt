@@ -1,5 +1,5 @@
 -- What the handles that a call is given become, and which number it returns.
-use Rattle.std.specs.Prelude.{ℕ, ◌≡◌, ◌<◌, ◌≤◌, ◌+◌, ◌-◌, ◌*◌, ◌^◌, ◌⊎◌, Bool, true, false, cond, List, [], ◌∷◌, ◌++◌, length, take, Option, Some, None}
+use Rattle.std.specs.Prelude.{ℕ, ◌≡◌, ◌<◌, ◌≤◌, ◌+◌, ◌-◌, ◌*◌, ◌^◌, ◌⊎◌, ◌≢◌, Bool, true, false, IsTrue, cond, List, [], ◌∷◌, ◌++◌, length, take, drop, Option, Some, None}
 use Rattle.er_event.specs.Span.{Span, parts_of}
 use Rattle.er_event.specs.declared.refusals.Refusal.{Refusal}
 use Rattle.er_event.specs.declared.refusals.Refusal.TheVariants.{OutOfMemory, TableFull}
@@ -11,6 +11,7 @@ use Rattle.er_event.specs.declared.steps.Mode.{Mode}
 use Rattle.er_event.specs.declared.steps.Mode.TheVariants.{Read as read_mode, Write as write_mode}
 use Rattle.er_event.specs.declared.steps.WordState.{WordState}
 use Rattle.er_event.specs.declared.steps.WordState.TheVariants as words
+use Rattle.er_held.specs.Held.{takes_memory}
 use Rattle.er_model.specs.Following.{locks_for}
 use Rattle.er_model.specs.Holdings.{refused_by, changed_by}
 use Rattle.er_model.specs.Parts.{FitsEnd, IsLegal}
@@ -20,6 +21,7 @@ use Rattle.er_online.specs.Taken.{HasSameStates, access_of, notes_of, reply_of, 
 use Rattle.er_online.specs.declared.calls.Call.{Call}
 use Rattle.er_seat.specs.Seats.{done, holdings_of, with_call}
 use Rattle.er_settle.specs.Seats.{SeatList}
+use Rattle.er_shadow.specs.Shadows.{needs_set}
 use Rattle.er_journal.specs.Journals.{IsLegalJournal, journal_state}
 use Rattle.eraser_c.specs.Owned.{Value}
 use Rattle.eraser_c.specs.Statuses.{number_of}
@@ -48,11 +50,12 @@ IsMade before after made number = ((after ≡ Some made) × (number ≡ number_o
 abbrev pub after_event : Thread → Event → Thread
 after_event t event = record { number = t.number; held = changed_by t.held event }
 
--- what the definitions refuse changes nothing; what they accept is done, unless there is no memory
+-- what the definitions refuse changes nothing; what they accept is done, unless it takes memory and there is none
 abbrev pub IsFollowedUnless : Option Refusal → Thread → Thread → Event → ℕ → Type 0
 IsFollowedUnless (Some why) before after event number = (after ≡ before) × (number ≡ number_of (Refused why))
 IsFollowedUnless None before after event number =
-    ((after ≡ after_event before event) × (number ≡ number_of Quiet)) ⊎ ((after ≡ before) × (number ≡ number_of (Refused OutOfMemory)))
+    ((after ≡ after_event before event) × (number ≡ number_of Quiet))
+    ⊎ ((takes_memory event ≢ false) × ((after ≡ before) × (number ≡ number_of (Refused OutOfMemory))))
 
 -- a thread follows one event as the definitions say
 abbrev pub IsFollowed : Thread → Thread → Event → ℕ → Type 0
@@ -66,11 +69,18 @@ changes_thread (event.Show word) = false
 changes_thread (event.Sync sync) = false
 changes_thread _ = true
 
--- what the definitions refuse isn't listed; what they accept is, unless there is no memory
+-- the event gives up a lock or closes a bracket
+abbrev pub gives_back : Event → Bool
+gives_back (event.Release lock mode) = true
+gives_back event.IgnoreOff = true
+gives_back _ = false
+
+-- what the definitions refuse isn't listed; what they accept is, unless there is no memory, which nothing that gives back wants
 abbrev pub IsListedUnless : Option Refusal → SeatList → SeatList → Event → ℕ → Type 0
 IsListedUnless (Some why) before after event number = (after ≡ before) × (number ≡ number_of (Refused why))
 IsListedUnless None before after event number =
-    ((after ≡ with_call before (done event)) × (number ≡ number_of Quiet)) ⊎ ((after ≡ before) × (number ≡ number_of (Refused OutOfMemory)))
+    ((after ≡ with_call before (done event)) × (number ≡ number_of Quiet))
+    ⊎ ((gives_back event ≢ true) × ((after ≡ before) × (number ≡ number_of (Refused OutOfMemory))))
 
 -- a seat follows one event, and lists it
 abbrev pub IsListed : SeatList → SeatList → Event → ℕ → Type 0
@@ -85,18 +95,21 @@ IsChanged (Some (Seat before)) after event number = (s : SeatList) × ((after �
 IsChanged (Some (thread_of before)) after event number =
     (t : Thread) × ((after ≡ Some (thread_of t)) × IsFollowed before t event number)
 
--- these locks, as far as there is room, and how many they are
-abbrev pub AreCopied : List ℕ → List ℕ → ℕ → ℕ → Type 0
-AreCopied held locks count number =
-    ((n : ℕ) → n ≤ length held → n ≤ length locks → take n locks ≡ take n held) × ((count ≡ length held) × (number ≡ number_of Quiet))
+-- these locks, as far as there is room, with what was behind them, and how many they are
+pub record AreCopied (held was locks : List ℕ) (count number : ℕ) : Type 0 where
+  pub first : (n : ℕ) → n ≤ length held → n ≤ length locks → take n locks ≡ take n held
+  pub rest : drop (length held) locks ≡ drop (length held) was
+  pub size : length locks ≡ length was
+  pub counted : count ≡ length held
+  pub quiet : number ≡ number_of Quiet
 
 -- the locks that the thread of a handle holds; without a thread nothing is written
 abbrev pub IsHeld : Option Value → List ℕ → List ℕ → ℕ → ℕ → ℕ → Type 0
 IsHeld None was locks counted count number = (locks ≡ was) × ((count ≡ counted) × (number ≡ number_of EmptyHandle))
 IsHeld (Some (Shard calls)) was locks counted count number = (locks ≡ was) × ((count ≡ counted) × (number ≡ number_of WrongHandle))
 IsHeld (Some (Journal shard)) was locks counted count number = (locks ≡ was) × ((count ≡ counted) × (number ≡ number_of WrongHandle))
-IsHeld (Some (thread_of t)) was locks counted count number = AreCopied t.held.held locks count number
-IsHeld (Some (Seat s)) was locks counted count number = AreCopied (holdings_of s).held locks count number
+IsHeld (Some (thread_of t)) was locks counted count number = AreCopied t.held.held was locks count number
+IsHeld (Some (Seat s)) was locks counted count number = AreCopied (holdings_of s).held was locks count number
 
 -- race or quiet
 abbrev pub race_if : Bool → Status
@@ -111,10 +124,14 @@ pub record IsTaken (before after : Calls) (t : Thread) (kind : Kind) (word : ℕ
 abbrev pub IsNoRoom : ℕ → Type 0
 IsNoRoom number = (number ≡ number_of (Refused OutOfMemory)) ⊎ (number ≡ number_of (Refused TableFull))
 
+-- the same, where there is no place for a set of locks only if one is needed
+abbrev pub IsNoRoomFor : Bool → ℕ → Type 0
+IsNoRoomFor needs number = (number ≡ number_of (Refused OutOfMemory)) ⊎ ((number ≡ number_of (Refused TableFull)) × IsTrue needs)
+
 -- an access is taken and answered, or it is refused and the list is as it was
-abbrev pub IsAccessed : Thread → Kind → ℕ → Calls → Calls → ℕ → Type 0
+unfoldable pub IsAccessed : Thread → Kind → ℕ → Calls → Calls → ℕ → Type 0
 IsAccessed t kind word before after number =
-    ((race : Bool) × (IsTaken before after t kind word race × (number ≡ number_of (race_if race)))) ⊎ ((after ≡ before) × IsNoRoom number)
+    ((race : Bool) × (IsTaken before after t kind word race × (number ≡ number_of (race_if race)))) ⊎ ((after ≡ before) × IsNoRoomFor (needs_set (state_now before word) t.number) number)
 
 -- the address of a word that was found, or the greatest number
 abbrev pub address_of : Option ℕ → ℕ

@@ -71,7 +71,7 @@ pub record IsOneRun (name opened : ℕ) (seats : List SeatList) (journals : List
   pub states : (w : ℕ) → journal_state (journal_at journals (shard_of (length journals) w)) w ≡ state_end steps w
   pub order : IsInTurn seats steps replies
 
--- they do, or the first fault is told; there must be a shard
+-- journals and lists make one run, or it is told what is wrong: with the first shard, with the first seat, that there is no shard, or the first fault
 abbrev pub IsSettlement : ℕ → ℕ → Result (List (List Entry)) Status → Result (List SeatList) Status → Result ℕ Status → Type 0
 IsSettlement name opened (Err why) seats result = result ≡ Err why
 IsSettlement name opened (Ok journals) (Err why) result = result ≡ Err why
@@ -79,7 +79,7 @@ IsSettlement name opened (Ok []) (Ok seats) result = result ≡ Err status.Empty
 IsSettlement name opened (Ok (journal ∷ journals)) (Ok seats) (Ok count) = IsOneRun name opened seats (journal ∷ journals) count
 IsSettlement name opened (Ok (journal ∷ journals)) (Ok seats) (Err why) = (fault : Unsettled) × ((why ≡ status_of fault) × IsFirst name opened seats (journal ∷ journals) fault)
 
--- or there is no memory
+-- so the handles' shards and seats do, unless there is no memory
 abbrev pub IsTold : ℕ → ℕ → List (Option Value) → List (Option Value) → Result ℕ Status → Type 0
 IsTold name opened shards seats result =
     (result ≡ Err (status.Refused refusal.OutOfMemory)) ⊎ IsSettlement name opened (each_in (journal_in name) shards) (each_in seat_in seats) result
@@ -89,10 +89,11 @@ abbrev pub IsToldBy : Result ℕ Status → ℕ → ℕ → Type 0
 IsToldBy (Ok count) steps number = (steps ≡ count) × (number ≡ number_of status.Quiet)
 IsToldBy (Err why) steps number = (steps ≡ 0) × (number ≡ number_of why)
 
--- what is behind the boxes
+-- what is behind a box
 abbrev pub behind : {B : Type 0} → (B → Value) → Option B → Option Value
 behind of None = None
 behind of (Some boxed) = Some (of boxed)
 
+-- what is behind each of them
 abbrev pub all_behind : {B : Type 0} → (B → Value) → List (Option B) → List (Option Value)
 all_behind of boxes = map (behind of) boxes

@@ -15,13 +15,12 @@ use crate::settlement::settle;
 use crate::shards::words_of;
 use crate::status::Status;
 use er_event::{Refusal, ThreadId, Word};
-use er_online::Shard;
 use er_seat::VacantSeat;
 use er_shard::OwnShard;
 use std::alloc::Global;
 
-/// Makes the handle lead to a new shard with a journal, of the detector of this name. It has at most `max_sets` different sets of locks. What the
-/// handle led to before is freed.
+/// Makes the handle lead to a new shard with a journal, of the detector of this name: in contracts its number there is 0. It has at most `max_sets`
+/// different sets of locks, and its journal takes 4,294,967,295 entries. What the handle led to before is freed.
 #[unsafe(no_mangle)]
 pub extern "C" fn eraser_journal_new(
     alloc: Global,
@@ -31,7 +30,7 @@ pub extern "C" fn eraser_journal_new(
 ) -> u32
     ensures { IsMade shard.old.kept_box.kept shard.new.kept_box.kept (Kept.Journal (record { name = name; number = 0; limit = 2 ^ 32 - 1; journal = [] })) result }
 {
-    let Ok(made) = OwnShard::new(alloc, max_sets.min(Shard::MOST_SETS), name, 0, u32::MAX) else {
+    let Ok(made) = OwnShard::new(alloc, max_sets, name, 0, u32::MAX) else {
         return Status::Refused(Refusal::OutOfMemory).number();
     };
     fill(alloc, shard, Kept::Journal(made)).number()
@@ -88,8 +87,9 @@ pub extern "C" fn eraser_record(
     }
 }
 
-/// Makes each word of a page that has one of `bytes` bytes from an address on virgin, under a ticket. Refused (`SizeTooLarge`) if the bytes are on
-/// several pages.
+/// Makes each word of a page that has one of `bytes` bytes from an address on virgin, under a ticket: the seat's list and the shard's journal get it. Refused
+/// (`SizeTooLarge`) if the bytes are on several pages or more than 4,194,304, and (`AddressOutOfRange`) if one has an address of 2^48 or more. No bytes
+/// are answered `Quiet`, and nothing gets them.
 #[unsafe(no_mangle)]
 pub extern "C" fn eraser_record_reset(
     alloc: Global,
@@ -119,7 +119,10 @@ pub extern "C" fn eraser_record_reset(
 }
 
 /// Whether the shards, by place, and the seats make one run of the detector of this name, of whose seats those of the numbers below `opened` are all to
-/// be there. If they do, `steps` becomes how many steps it has, else 0. The handles lead to what they led to.
+/// be there: of n shards the one in place i has the pages i, i + n, i + 2n and so on. If they do, `steps` becomes how many steps it has, else 0. If they
+/// don't, what is wrong with the first shard is returned, then with the first seat (`EmptyHandle`, `WrongHandle`, and `ForeignShard` for a shard of another
+/// name), then `EmptyHandle` if there is no shard, then the first fault of settling; and `OutOfMemory` if there is no memory. The handles lead to what
+/// they led to.
 #[unsafe(no_mangle)]
 pub extern "C" fn eraser_settle_handles(
     alloc: Global,

@@ -175,6 +175,7 @@ pub extern "C" fn eraser_access_span(
     ensures none { bytes ≡ 0 → address < 2 ^ 48 → (result ≡ number_of Status.Quiet) × (shard.new.kept_box.kept ≡ shard.old.kept_box.kept) }
     ensures named { NamesRace first_race.new result }
     ensures settled { settled.new ≡ 1 → IsSettled shard.old.kept_box.kept shard.new.kept_box.kept result }
+    ensures flag { settled.new ≤ 1 }
     ensures thread { thread.new.kept_box.kept ≡ thread.old.kept_box.kept }
 {
     let answer = match words_of(address, bytes) {

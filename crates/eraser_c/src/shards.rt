@@ -60,6 +60,7 @@ fn access_by(alloc: Global, shard: &mut Handle, thread: &Thread, kind: Kind, wor
 }
 
 #[inline(always)]
+#[tactic(auto, unfolding(crate::specs::Answers::IsAccessed))]
 fn take(shard: &mut Shard, thread: &Thread, kind: Kind, word: Word) -> Status
     ensures { IsAccessed thread.now kind word shard.old shard.new (number_of result) }
 {
@@ -146,7 +147,9 @@ fn span_by(
     };
     let answer = match &mut *kept {
         Kept::Shard(shard) => take_span(shard, thread, kind, words),
-        Kept::Thread(_) | Kept::Journal(_) | Kept::Seat(_) => SpanAnswer::without_race(Status::WrongHandle),
+        Kept::Thread(_) | Kept::Journal(_) | Kept::Seat(_) => SpanAnswer::without_race(
+            Status::WrongHandle,
+        ),
     };
     *shard = Handle::of(kept);
     answer

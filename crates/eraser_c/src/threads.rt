@@ -1,9 +1,9 @@
 //! A thread, and what changes what it holds.
-ghost use Rattle.std.specs.Prelude.{◌≡◌, ◌≤◌, ℕ, length, take, IsTrue, IsOkUnless, OnOk, OnErr, None, Some};
+ghost use Rattle.std.specs.Prelude.{◌≡◌, ◌≤◌, ℕ, true, length, take, drop, IsTrue, IsOk, IsOkUnless, OnOk, OnErr, None, Some};
 ghost use Rattle.er_model.specs.Following.{locks_for};
 ghost use Rattle.er_model.specs.Holdings.{refused_by};
 ghost use Rattle.er_seat.specs.Seats.{done, holdings_of, with_call};
-ghost use Rattle.eraser_c.specs.Answers.{IsChanged, IsFollowed, IsHeld, IsListed, changes_thread};
+ghost use Rattle.eraser_c.specs.Answers.{IsChanged, IsFollowed, IsHeld, IsListed, changes_thread, gives_back};
 ghost use Rattle.eraser_c.specs.Statuses.{number_of};
 
 use crate::handle::Handle;
@@ -80,6 +80,7 @@ fn list(seat: &mut Seat, event: Event) -> Result<(), Refusal>
     ensures ok { OnOk result (seat.new ≡ with_call seat.old (done event)) }
     ensures err { OnErr result (seat.new ≡ seat.old) }
     ensures memory { refused_by (holdings_of seat.old) event ≡ None → IsOkUnless result Refusal.OutOfMemory }
+    ensures free { refused_by (holdings_of seat.old) event ≡ None → gives_back event ≡ true → IsOk result }
 {
     match event {
         Event::Acquire(lock, mode) => seat.acquire(lock, mode),
@@ -115,7 +116,9 @@ pub(crate) fn held(
 
 fn copy_held(held: &Lockset, locks: &mut [u32], count: &mut usize) -> Status
     ensures count { count.new ≡ length held.now }
-    ensures locks { (n : ℕ) → n ≤ length held.now → n ≤ length locks.new → take n locks.new ≡ take n held.now }
+    ensures first { (n : ℕ) → n ≤ length held.now → n ≤ length locks.new → take n locks.new ≡ take n held.now }
+    ensures rest { (n : ℕ) → length held.now ≤ n → drop n locks.new ≡ drop n locks.old }
+    ensures size { length locks.new ≡ length locks.old }
     ensures quiet { result ≡ Status.Quiet }
 {
     let held = held.as_slice();
@@ -125,7 +128,9 @@ fn copy_held(held: &Lockset, locks: &mut [u32], count: &mut usize) -> Status
 }
 
 fn copy_locks(held: &[LockId], locks: &mut [u32])
-    ensures { (n : ℕ) → n ≤ length held.now → n ≤ length locks.new → take n locks.new ≡ take n held.now }
+    ensures first { (n : ℕ) → n ≤ length held.now → n ≤ length locks.new → take n locks.new ≡ take n held.now }
+    ensures rest { (n : ℕ) → length held.now ≤ n → drop n locks.new ≡ drop n locks.old }
+    ensures size { length locks.new ≡ length locks.old }
 {
     for i in 0..held.len().min(locks.len()) {
         locks[i] = held[i].number();
