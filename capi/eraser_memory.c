@@ -10,7 +10,6 @@
 #include <stdlib.h>
 
 #ifdef ERASER_OWN_PAGES
-#include <pthread.h>
 #include <sched.h>
 #include <stdatomic.h>
 #include <stdint.h>
@@ -38,52 +37,34 @@ static char *chunk, *chunk_end;
 static uint64_t pages;
 static _Atomic uint64_t *told;
 
-/* Who holds the lock, by an address of that thread alone: whoever forks inside a call may hold it already. */
-static _Atomic(const char *) holder;
-static _Thread_local const char myself __attribute__((tls_model("initial-exec")));
+/* Taken under any lock of eraser_pthread.c, and none is taken under it. */
+static atomic_bool is_taken;
 
 static void take_pages(void)
 {
-    const char *nobody = NULL;
-    while (!atomic_compare_exchange_weak_explicit(&holder, &nobody, &myself, memory_order_acquire, memory_order_relaxed)) {
-        nobody = NULL;
+    while (atomic_exchange_explicit(&is_taken, true, memory_order_acquire))
         sched_yield();
-    }
 }
 
 static void leave_pages(void)
 {
-    atomic_store_explicit(&holder, NULL, memory_order_release);
-}
-
-static _Thread_local int pages_are_taken __attribute__((tls_model("initial-exec")));
-
-static void before_fork_of_pages(void)
-{
-    if (atomic_load(&holder) == &myself)
-        return;
-    take_pages();
-    pages_are_taken = 1;
-}
-
-static void after_fork_of_pages(void)
-{
-    if (pages_are_taken)
-        leave_pages();
-    pages_are_taken = 0;
-}
-
-static void watch(void)
-{
-    pthread_atfork(before_fork_of_pages, after_fork_of_pages, after_fork_of_pages);
+    atomic_store_explicit(&is_taken, false, memory_order_release);
 }
 
 void eraser_count_pages(_Atomic uint64_t *bytes)
 {
-    static pthread_once_t once = PTHREAD_ONCE_INIT;
-    pthread_once(&once, watch);
     told = bytes;
     atomic_store(told, pages);
+}
+
+/* Another thread may have been at work on these. */
+void eraser_forget_pages(void)
+{
+    memset(spare, 0, sizeof spare);
+    chunk = chunk_end = NULL;
+    pages = 0;
+    told = NULL;
+    leave_pages();
 }
 
 static void count(uint64_t bytes)

@@ -13,6 +13,10 @@ void *eraser_resize(void *block, size_t size);
 void eraser_give(void *block);
 /* How many bytes of pages it has is written here from now on. */
 void eraser_count_pages(_Atomic uint64_t *bytes);
+/* In a child that was forked, before any other call, where detectors are over such pages: the child has none of its parent's detectors and of their memory.
+ * So a fork takes no lock of theirs, and doesn't wait for those who have one. */
+void eraser_forget(void);
+void eraser_forget_pages(void);
 
 #define malloc eraser_take
 #define aligned_alloc eraser_take_aligned

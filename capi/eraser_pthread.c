@@ -331,8 +331,9 @@ static uint32_t note(struct place *place, uint64_t word, uint32_t thread)
  * thread, of the same kind, with the same locks. (er_online proves it: a_settled_access_may_be_left_out.) A thread remembers such accesses, with the
  * version of their shard. Each call that may change a word's state changes the version before it leaves the shard's lock. So if the version is still the
  * remembered one when it is loaded, no state has changed between the access that is remembered and that load. The access is placed there, among the calls
- * of the shard, where it would change nothing. Nothing is moved past it: what happened before it, in whatever thread, has published its version, and the
- * load can't miss that; what happens after it changes the version later. Only the shard's note of who used the word last isn't renewed. */
+ * of the shard, where it would change nothing. So it holds for each word by itself: what happened to it before the access, in whatever thread, has published
+ * its version, and the load can't miss that; what happens after it changes the version later. Of calls of several shards there may be no one order in which
+ * all of these accesses are placed so. Only the shard's note of who used the word last isn't renewed. */
 
 /* Where a thread remembers accesses of a kind to the words around an address. Those of a block that have another kind or other locks have other places. */
 static inline struct settled *settled_of(struct self *self, uint64_t at, bool writes)
@@ -368,11 +369,11 @@ static inline bool is_remembered(eraser_detector *e, struct self *self, uint64_t
 /* So it is, if it is a call by itself. Nothing else is called here, since this is what most accesses take. */
 static inline bool is_settled(eraser_detector *e, uint64_t at, uint64_t size, bool writes)
 {
-    if (!e || busy || mine.start != e->start || mine.self->rest)
+    if (!e || busy)
         return false;
     busy = CALL;
     atomic_signal_fence(memory_order_seq_cst);
-    bool is = is_remembered(e, mine.self, at, size, writes);
+    bool is = mine.start == e->start && !mine.self->rest && is_remembered(e, mine.self, at, size, writes);
     end(ERASER_QUIET);
     return is;
 }
@@ -822,9 +823,27 @@ static void begin_child(void)
     after_fork();
 }
 
+#ifdef ERASER_OWN_PAGES
+enum { CHILD_GOES_ON = false };
+
+/* What the other threads of the parent had locked is locked in the child for ever, so nothing of its detectors is used there. */
+void eraser_forget(void)
+{
+    for (eraser_detector *e = detectors; e; e = e->next)
+        pthread_key_delete(e->key);
+    detectors = NULL;
+    leave(&starts);
+    mine.start = 0;
+    eraser_forget_pages();
+}
+#else
+enum { CHILD_GOES_ON = true };
+#endif
+
 static void watch_forks(void)
 {
-    pthread_atfork(before_fork, after_fork, begin_child);
+    if (CHILD_GOES_ON)
+        pthread_atfork(before_fork, after_fork, begin_child);
 }
 
 /* ---- Audits ---- */

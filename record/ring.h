@@ -67,13 +67,13 @@ enum event_kind {
     EVENT_TAKEN,      /* as EVENT_REUSE, of memory that a call gives to the program, or of a new thread's stack, which has no place: a fact of the trace. Recorded only with --stacks */
     EVENT_THREAD_END, /* the thread runs no more of the program's code, and its pthread_t may become another's */
     /* Of --online, a race: first its word, then each lock that the thread holds, last the access. */
-    EVENT_RACE_WORD,  /* first: the word, size: the number of the other thread, 0 if it isn't known */
+    EVENT_RACE_WORD,  /* first: the word, size: the number of the other thread, 0 if it isn't known, second: the lane that gets the answer */
     EVENT_RACE_LOCK,  /* first: lock, second: program counter of the call that took it, or 0, size: 1 if it is held to write, 0 to read */
     EVENT_RACE_READ,  /* as EVENT_READ */
     EVENT_RACE_WRITE,
 };
 
-/* Online the detector in the program is told of these, and the ring of all others. */
+/* Online these go to the detector in the program, and all others into the ring. */
 #define IS_FOR_DETECTOR(kind) ((kind) <= EVENT_IGNORE_OFF)
 
 /* Of these events `second` is the program counter of a call, or 0. */
@@ -125,6 +125,14 @@ enum lane_state {
     LANE_LEFT,  /* the thread has ended, and the lane is free once the writer has taken the events up to `end` */
 };
 
+/* What the writer has done with a race. */
+enum race_answer {
+    ANSWER_NONE,
+    ANSWER_SUPPRESSED, /* a rule has taken it */
+    ANSWER_REPORTED,   /* it is the first one of its line and kind */
+    ANSWER_KNOWN,      /* its line and kind were reported before */
+};
+
 /* Positions in a lane count its events through all its threads, with 32 bits. */
 struct lane {
     _Alignas(64) _Atomic uint32_t state;
@@ -132,7 +140,8 @@ struct lane {
     _Atomic uint32_t task; /* its id in the system, by which the writer sees that it is gone, or 0 */
     uint32_t end;
     _Atomic uint32_t head; /* the first position that the writer has not taken */
-    uint64_t watched[2];   /* accesses, and other calls, of which the detector was told by its threads */
+    uint64_t watched[2];   /* accesses, and other calls of the detector, by its threads */
+    _Atomic uint32_t answer; /* online, with `stops`: enum race_answer of its thread's last race, before the head of the ring has passed that */
 };
 
 /* The first program that is recorded takes the first ring. Each further one asks there for a ring of its own: at most this number at a time. */
@@ -186,7 +195,8 @@ struct ring {
     uint32_t flows;  /* not 0: what threads learn from each other without an order is recorded as well */
     uint32_t shakes; /* not 0: threads wait at random, as `seed` says */
     uint64_t seed;
-    uint32_t stops;  /* online, not 0: a thread that races gets SIGTRAP, once for each place */
+    uint32_t stops;  /* online, not 0: a thread whose race is reported gets SIGTRAP */
+    _Atomic uint32_t lacks_memory; /* online: there was none for the detector of its owner, which is not watched */
     _Atomic uint64_t detector_bytes; /* online: of memory that the detector has */
     _Atomic uint32_t stop;       /* the writer takes no more events */
     _Atomic uint32_t owner;      /* process id of the program that is recorded, 0 before there is one */

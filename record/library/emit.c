@@ -172,7 +172,7 @@ bool emit_wait(struct ring *ring, struct self *me, struct course *course, void *
     int error = errno;
     if (me->number == 0)
         begin_self(ring, IS_ONLINE ? online_number() : atomic_fetch_add_explicit(&ring->threads, 1, memory_order_relaxed) + 1);
-    bool has_room = course->slots ? wait_for_room(ring, me, course) : take_lane(ring, me, course);
+    bool has_room = me->number && (course->slots ? wait_for_room(ring, me, course) : take_lane(ring, me, course));
     if (!has_room) {
         set_depth(me, me->depth - 1);
         course->frame = outer_frame;
@@ -385,6 +385,11 @@ static struct ring *ask_for_ring(struct ring *first)
     return NULL;
 }
 
+static bool is_own(const struct ring *ring)
+{
+    return atomic_load(&ring->owner) == (uint32_t)syscall(SYS_getpid);
+}
+
 /* Takes a ring, if no other program has it. */
 static bool own(struct ring *ring, struct attachment *page)
 {
@@ -393,8 +398,10 @@ static bool own(struct ring *ring, struct attachment *page)
     long length = syscall(SYS_readlinkat, AT_FDCWD, "/proc/self/exe", path, sizeof path);
     if (!atomic_compare_exchange_strong(&ring->owner, &nobody, (uint32_t)syscall(SYS_getpid)))
         return false;
-    if (IS_ONLINE && !online_begin(ring))
+    if (IS_ONLINE && !online_begin(ring)) {
+        atomic_store(&ring->lacks_memory, 1);
         return false;
+    }
     long begin = length;
     while (begin > 0 && path[begin - 1] != '/')
         begin--;
@@ -422,10 +429,10 @@ static uint32_t unseen(void)
 /* Records this process in the first ring, or in one of its own if another program has that. */
 static void attach_to(struct ring *first, struct attachment *page)
 {
-    struct ring *ring = own(first, page) ? first : ask_for_ring(first);
+    struct ring *ring = own(first, page) ? first : is_own(first) ? NULL : ask_for_ring(first);
     if (ring && ring != first && !own(ring, page))
         ring = NULL;
-    if (!ring)
+    if (!ring && !is_own(first))
         atomic_fetch_add(&first->others, 1);
     page->was_refused = !ring;
     if (ring != first)

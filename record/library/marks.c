@@ -49,26 +49,29 @@ static inline void mark(_Atomic uint64_t *word, uint64_t bit)
         atomic_fetch_or_explicit(word, bit, memory_order_relaxed);
 }
 
-void mark_accessed(uint64_t address, uint64_t size)
+bool mark_accessed(uint64_t address, uint64_t size)
 {
     uint64_t end = address + size;
     if (UNLIKELY(end > REUSE_MASK || end <= address))
-        return;
+        return true;
     for (uint64_t at = address >> PAGE_BITS; at <= (end - 1) >> PAGE_BITS; at++) {
         struct region *region = region_of(at << PAGE_BITS);
         if (UNLIKELY(!region) && !(region = make_region(at << PAGE_BITS)))
-            return;
+            return false;
         mark(&region->accessed[at % PAGES / 64], UINT64_C(1) << at % 64);
     }
+    return true;
 }
 
-void mark_lock(uint64_t address)
+bool mark_lock(uint64_t address)
 {
-    struct region *region = address > REUSE_MASK ? NULL : region_of(address);
-    if (address <= REUSE_MASK && !region)
-        region = make_region(address);
-    if (region)
-        mark(&region->lines[page_in(address)], UINT64_C(1) << address / MARK_LINE % 64);
+    if (address > REUSE_MASK)
+        return true;
+    struct region *region = region_of(address);
+    if (!region && !(region = make_region(address)))
+        return false;
+    mark(&region->lines[page_in(address)], UINT64_C(1) << address / MARK_LINE % 64);
+    return true;
 }
 
 /* The lines of a page that lie between two places of it. */
@@ -84,7 +87,8 @@ static void look_at_lines(_Atomic uint64_t *lines, uint64_t begin, uint64_t end,
     }
 }
 
-static void visit_page(struct region *region, uint64_t begin, uint64_t end, void (*reuse)(uint64_t, uint64_t), void (*look)(uint64_t, uint64_t))
+/* A page whose words couldn't be given a new use stays marked. */
+static void visit_page(struct region *region, uint64_t begin, uint64_t end, bool (*reuse)(uint64_t, uint64_t), void (*look)(uint64_t, uint64_t))
 {
     uint32_t at = page_in(begin);
     uint64_t bit = UINT64_C(1) << at % 64;
@@ -94,10 +98,11 @@ static void visit_page(struct region *region, uint64_t begin, uint64_t end, void
         return;
     if (end - begin == UINT64_C(1) << PAGE_BITS)
         atomic_fetch_and_explicit(&region->accessed[at / 64], ~bit, memory_order_relaxed);
-    reuse(begin, end);
+    if (!reuse(begin, end))
+        mark(&region->accessed[at / 64], bit);
 }
 
-void marks_visit(uint64_t address, uint64_t size, void (*reuse)(uint64_t, uint64_t), void (*look)(uint64_t, uint64_t))
+void marks_visit(uint64_t address, uint64_t size, bool (*reuse)(uint64_t, uint64_t), void (*look)(uint64_t, uint64_t))
 {
     uint64_t end = address + size;
     for (uint64_t at = address; at < end && end <= REUSE_MASK;) {

@@ -129,6 +129,8 @@ static void say_what_was_recorded(void)
     uint64_t lost = first()->lost, events = first()->events;
     if (options.is_online && (events || lost))
         online_say_watched(events, lost);
+    else if (atomic_load(&recording.ring->lacks_memory))
+        fputs("record: nothing was watched: there was no memory for the detector in the program\n", stderr);
     else if (!atomic_load(&recording.ring->owner))
         fprintf(stderr, "record: nothing was recorded: the program does not use ThreadSanitizer's library, libtsan.so.2.\n"
                         "record: build it with -g -fsanitize=thread, and without -static-libtsan; docs/RECORDING.md says how with clang\n");

@@ -26,8 +26,9 @@ struct lock {
 };
 struct race {
     struct race *next;
-    uint32_t thread, other;
+    uint32_t thread, other, lane;
     uint64_t word;
+    bool has_word; /* its first part has come */
     unsigned count;
     struct lock locks[MOST_HELD];
 };
@@ -159,8 +160,7 @@ static struct race *find_race(uint32_t thread)
         if (race->thread == thread)
             return race;
     struct race *race = get_memory(NULL, sizeof *race);
-    race->thread = thread;
-    race->next = begun;
+    *race = (struct race){.next = begun, .thread = thread};
     return begun = race;
 }
 
@@ -244,17 +244,17 @@ static void say_locks(const struct race *race)
     }
 }
 
-static void report(const struct race *race, const struct slot *slot)
+static enum race_answer report(const struct race *race, const struct slot *slot)
 {
     bool writes = slot_kind(slot) == EVENT_RACE_WRITE;
     uint32_t rest;
     const struct site *site = site_of_access(slot->second, slot_stack(slot) & ~STACK_CUT, &rest);
     if (rules_take(text_of(site), site->bytes - 1, race->word / 4)) {
         suppressed_count++;
-        return;
+        return ANSWER_SUPPRESSED;
     }
     if (count_race(text_of(site), site->bytes - 1, writes)->races > 1)
-        return;
+        return ANSWER_KNOWN;
     begin_text();
     say_program();
     say("race: ");
@@ -272,6 +272,7 @@ static void report(const struct race *race, const struct slot *slot)
     say_calls(site, rest | (slot_stack(slot) & STACK_CUT));
     say_locks(race);
     write_text();
+    return ANSWER_REPORTED;
 }
 
 void online_take(const struct slot *slot)
@@ -282,8 +283,10 @@ void online_take(const struct slot *slot)
     struct race *race = find_race(slot->thread);
     switch (slot_kind(slot)) {
     case EVENT_RACE_WORD:
+        race->has_word = true;
         race->word = slot->first;
         race->other = slot->size;
+        race->lane = (uint32_t)(slot->second % LANES);
         race->count = 0;
         break;
     case EVENT_RACE_LOCK:
@@ -291,7 +294,8 @@ void online_take(const struct slot *slot)
             race->locks[race->count++] = (struct lock){slot->first, slot->second, slot_stack(slot) & ~STACK_CUT, slot->size};
         break;
     default:
-        report(race, slot);
+        if (race->has_word)
+            atomic_store(&recording.ring->lanes[race->lane].answer, report(race, slot));
         end_race(race);
         break;
     }
