@@ -2,7 +2,7 @@
 """Watches programs with `record/run --online`: which sites race, what a report says, and that nothing but the report is left of a run.
 
 The programs of tests/record that `record_tests.py` records have the same racing lines here, since chance has no part in them. Those of tests/record/online
-are for what only a detector in the program has: reports that come at once, memory that stays what it is, locks that others release, children, SIGTRAP.
+are for what only a detector in the program has: reports that come at once, memory that stays what it is, locks that others release, forks, SIGTRAP, handlers.
 
 `tests/run` calls `tests`. By itself this file runs these tests alone.
 """
@@ -15,6 +15,7 @@ import signal
 import subprocess
 import sys
 import tempfile
+import threading
 
 sys.path.insert(0, str(pathlib.Path(__file__).parent))
 sys.dont_write_bytecode = True
@@ -30,8 +31,9 @@ RACING = ("annotations.c", "counter.c", "double_checked.cpp", "forks.c", "jumps.
 # Each built program is run so often.
 RUNS = int(os.environ.get("ONLINE_RUNS", 3))
 WAYS = (("gcc", "-O0"), ("gcc", "-O2"), ("clang", "-O0"), ("clang", "-O2"))
-# What the detector may have more after more rounds: a part that it asks the system for.
+# What the detector may have more after more rounds: a part that it asks the system for. Of that many rounds 300 bytes for each thread would be two.
 PART = 1024
+MANY_ROUNDS = 2000
 
 
 def sites(report):
@@ -136,10 +138,13 @@ def at_once(folder, findings):
     """A race is written while the program runs: its parent reads it, and only then ends the program."""
     program = made(folder, findings, SOURCES / "ends.c", "gcc", "-O1")
     child = subprocess.Popen([RUN, "--online", "--report", "-", program, "never"], stdout=subprocess.PIPE, stderr=subprocess.PIPE, text=True)
+    patience = threading.Timer(record_tests.PATIENCE, child.terminate)
+    patience.start()
     first = child.stdout.readline()
     is_running = child.poll() is None
     child.send_signal(signal.SIGTERM)
     rest, errors = child.communicate(timeout=record_tests.PATIENCE)
+    patience.cancel()
     site = "".join(marked(SOURCES / "ends.c", "RACE"))
     is_right = first.startswith(f"race: {site}: ") and is_running and totals(rest) and child.returncode == 128 + signal.SIGTERM
     findings.check("a race is written when it happens", is_right, f"{first!r} {is_running} {rest!r} {errors!r} {child.returncode}")
@@ -157,6 +162,32 @@ def cut(folder, findings):
         findings.check(f"{program.name} online", is_right and " events watched, 0 lost" in watched.done.stderr, f"{watched.done} {watched.report}")
 
 
+def doors(folder, findings):
+    """However a handler is set, it may leave an event by longjmp, and the program sees what it has set."""
+    for compiler, level in WAYS:
+        program = made(folder, findings, PROGRAMS / "doors.c", compiler, level)
+        fault = Watched(folder, program.name, program).fault(set(), printed="fine\n")
+        findings.check(f"{program.name} online", fault is None, fault)
+
+
+def early_handler(folder, findings):
+    """A handler that is there before the program is watched may leave an event as well."""
+    host, plugin = folder / "early_host", folder / "used_plugin.so"
+    command(["gcc", "-g", PROGRAMS / "early_host.c", "-o", host])
+    command(["gcc", "-g", "-fsanitize=thread", "-shared", "-fPIC", PROGRAMS / "used_plugin.c", "-o", plugin])
+    fault = Watched(folder, "early", host, plugin).fault(set(), printed="1\n")
+    findings.check("a handler before a plugin", fault is None, fault)
+
+
+def lookups(folder, findings):
+    """Nothing is looked up by its name where the loader's lock may be held, or must not be left."""
+    program = folder / "lookups"
+    built = command(["gcc", "-g", "-fsanitize=thread", "-rdynamic", PROGRAMS / "lookups.c", "-o", program])
+    findings.check("lookups is built", built.returncode == 0, built.stderr)
+    fault = Watched(folder, "lookups", program).fault(set(), printed="0 at 1 signal\n0 at an access\nlooked up before\n")
+    findings.check("nothing is looked up late", fault is None, fault)
+
+
 # ---- What goes on for long ----
 
 
@@ -164,8 +195,8 @@ def rounds(folder, findings):
     """After many rounds the detector has as much memory as after few, but for a part that it may ask for."""
     source = PROGRAMS / "rounds.c"
     program = made(folder, findings, source, "gcc", "-O0")
-    few, many = (Watched(folder, f"rounds-{number}", program, str(number)) for number in (20, 300))
-    for number, watched in ((20, few), (300, many)):
+    few, many = (Watched(folder, f"rounds-{number}", program, str(number)) for number in (20, MANY_ROUNDS))
+    for number, watched in ((20, few), (MANY_ROUNDS, many)):
         fault = watched.fault(marked(source, "RACE"), printed=f"{4 * number}\n")
         findings.check(f"{number} rounds online", fault is None, fault)
         findings.check(f"the threads of {number} rounds", totals(watched.report).get("threads") == 4 * number + 1, watched.report)
@@ -186,6 +217,29 @@ def handed(folder, findings):
     program = made(folder, findings, PROGRAMS / "handed.c", "gcc", "-O0")
     fault = Watched(folder, "handed", program).fault(marked(PROGRAMS / "handed.c", "RACE"))
     findings.check("a lock that another thread releases", fault is None, fault)
+
+
+def refused_lock(folder, findings):
+    """A lock that the detector has no room for is its thread's own: its release is nobody else's."""
+    watched = Watched(folder, "refused", made(folder, findings, PROGRAMS / "refused.c", "gcc", "-O0"))
+    is_right = watched.done.returncode == 0 and watched.done.stdout == "1\n" and not sites(watched.report)
+    findings.check("a lock too many", is_right and watched.report.endswith(", lost 1\n"), f"{watched.done} {watched.report}")
+
+
+def late_ends(folder, findings):
+    """What a thread does when it counts as ended is lost, and said to be. (The compiler's own hooks count as well.)"""
+    watched = Watched(folder, "late_ends", made(folder, findings, PROGRAMS / "late_ends.c", "gcc", "-O1"))
+    lost = re.search(r", lost (\d+)$", watched.report, re.M)
+    findings.check("accesses of a thread that has ended", watched.done.returncode == 0 and lost and int(lost[1]) >= 4, f"{watched.done} {watched.report}")
+
+
+def fork_storm(folder, findings):
+    """A fork waits for no thread that is at work, and its children wait for nobody."""
+    program = made(folder, findings, PROGRAMS / "fork_storm.c", "gcc", "-O1")
+    watched = Watched(folder, "fork_storm", program)
+    is_right = (watched.done.returncode, watched.done.stdout) == (0, "0 failed\n") and not sites(watched.report)
+    is_told = "record: 21 programs watched, 0 with races\n" in watched.done.stderr
+    findings.check("forks beside threads at work", is_right and is_told and ", lost " not in watched.report, f"{watched.done} {watched.report}")
 
 
 def children(folder, findings):
@@ -212,6 +266,15 @@ def stops(folder, findings):
     watched = Watched(folder, "no-stops", program)
     fault = watched.fault(marked(PROGRAMS / "stops.c", "RACE"), printed="0\n")
     findings.check("no --stop-at-race", fault is None, fault)
+    path, lines = folder / "stops.rules", sorted(marked(PROGRAMS / "stops.c", "RACE"))
+    for text, left, often in (("site *stops.c:*\n", set(), 0), (f"site {lines[0]}\n", {lines[1]}, 1)):
+        path.write_text(f"eraser suppressions 2\n{text}")
+        fault = Watched(folder, "ruled", program, options=["--stop-at-race", "--suppress", path]).fault(left, printed=f"{often}\n")
+        findings.check(f"--stop-at-race and the rule {text!r}", fault is None, fault)
+    for name, printed in (("child_stops.c", "1 and 1\n"), ("instances.cpp", "1\n")):
+        watched = Watched(folder, name, made(folder, findings, PROGRAMS / name, "gcc", "-O0"), options=["--stop-at-race"])
+        fault = watched.fault(marked(PROGRAMS / name, "RACE"), printed=printed)
+        findings.check(f"{name} with --stop-at-race", fault is None, fault)
     stopped = made(folder, findings, SOURCES / "counter.c", "gcc", "-O0")
     watched = Watched(folder, "stopped", stopped, options=["--stop-at-race"])
     fault = watched.fault(marked(SOURCES / "counter.c", "RACE"), 128 + signal.SIGTRAP, "")
@@ -299,7 +362,8 @@ def tests(record):
     with tempfile.TemporaryDirectory() as name, concurrent.futures.ThreadPoolExecutor(WORKERS) as pool:
         folder = pathlib.Path(name)
         parts = []
-        for number, part in enumerate((ends, hosts, standard_library, told, at_once, cut, rounds, crowd, handed, children, stops, rules, refused, statuses)):
+        for number, part in enumerate((ends, hosts, standard_library, told, at_once, cut, doors, early_handler, lookups, rounds, crowd, handed, refused_lock, late_ends,
+            fork_storm, children, stops, rules, refused, statuses)):
             (folder / str(number)).mkdir()
             parts.append(pool.submit(part, folder / str(number), findings))
         for program in (*CLEAN, *RACING):

@@ -1,9 +1,12 @@
-/* A lock that another thread releases: whoever took it holds it no more. */
+/* A lock that another thread releases, and then many others, before the thread that took it does anything more: it holds it no more. */
 #include "../meet.h"
 
 #include "../../../record/eraser.h"
 
+#define OTHERS 2000
+
 static int gate, bare;
+static char others[OTHERS];
 
 static void work(int number)
 {
@@ -15,6 +18,8 @@ static void work(int number)
     } else {
         take_turn(1);
         ERASER_WRITE_UNLOCK(&gate);
+        for (int at = 0; at < OTHERS; at++)
+            ERASER_WRITE_UNLOCK(&others[at]);
         ERASER_WRITE_LOCK(&gate);
         bare = 2;
         ERASER_WRITE_UNLOCK(&gate);
