@@ -2,7 +2,7 @@
 """Watches programs with `record/run --online`: which sites race, what a report says, and that nothing but the report is left of a run.
 
 The programs of tests/record that `record_tests.py` records have the same racing lines here, since chance has no part in them. Those of tests/record/online
-are for what only a detector in the program has: reports that come at once, memory that stays what it is, locks that others release, forks, SIGTRAP, handlers.
+are for what only a detector in the program has: reports that come at once, memory that doesn't grow with the run, locks that others release, forks, SIGTRAP, handlers.
 
 `tests/run` calls `tests`. By itself this file runs these tests alone.
 """

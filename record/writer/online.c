@@ -369,7 +369,7 @@ void online_fill(struct outcome *outcome)
 
 void online_say_watched(uint64_t events, uint64_t lost)
 {
-    const char *missing = lost ? ": what they were is missing, so there may be races more, or less" : "";
+    const char *missing = lost ? ": races may be missing too, or false" : "";
     if (!options.is_quiet || lost)
         fprintf(stderr, "record: %" PRIu64 " events watched, %" PRIu64 " lost%s\n", events, lost, missing);
 }

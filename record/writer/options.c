@@ -2,11 +2,13 @@
 #include "options.h"
 
 #include <errno.h>
+#include <fcntl.h>
 #include <getopt.h>
 #include <sched.h>
 #include <stdio.h>
 #include <stdlib.h>
 #include <string.h>
+#include <sys/mman.h>
 #include <sys/stat.h>
 #include <unistd.h>
 
@@ -48,8 +50,8 @@ static const char usage[] =
     "      --strict            end the replay with 2 if the trace is damaged, and write no report\n"
     "      --until-fault       report the steps before the first faulty line of the trace, and then its fault\n"
     "      --exit-status WHOSE end with the status of the `program` (the default) or of the `report`\n"
-    "      --online            watch the program while it runs, without a trace: a race is reported when it happens, and the memory stays what it is\n"
-    "      --stop-at-race      with --online: a thread that races gets SIGTRAP, once for each place, for a debugger\n"
+    "      --online            watch the program while it runs, without a trace: a race is reported when it happens. The memory grows with new memory, threads and sets of locks alone. Then --output and --report name the file of the report, and --suppress takes rules of sites and words\n"
+    "      --stop-at-race      with --online: a thread whose race is reported gets SIGTRAP right after that, for a debugger\n"
     "      --shake             let threads wait for short random times before they acquire, signal or start, so that more of them meet; --shake=SEED repeats them\n"
     "      --runs N            run the program N times, and report of each site in how many of the runs it was reported\n"
     "      --order             record what orders threads as well: starts and joins, semaphores, atomic operations ..\n"
@@ -71,7 +73,8 @@ static const char usage[] =
     "If RULES has rules by frame, function or variable, the trace is kept in a temporary file as well, as by --stacks unless --trace is given.\n"
     "\n"
     "It ends with the program's exit status, or 128 and the number of the signal that ended it; 125 if the recorder failed, 126 or 127\n"
-    "if the program cannot be started. The report comes on standard error when the program has ended.\n"
+    "if the program cannot be started. Without --online the report comes on standard error when the program has ended. --online refuses\n"
+    "--explain, --strict, --until-fault, --workers, --replay, --trace, --stacks, --order, --flow, --limit, --runs, and other analyses and forms.\n"
     "\n"
     "With --exit-status report: 0 if the program ended with 0, all of it was recorded and there is no race; 1 if there is a race; 125 if\n"
     "nothing or not everything was recorded; 2 to 4 if the replay failed. A program that failed ends it with its own status, and with 123\n"
@@ -195,6 +198,24 @@ static bool ask_facts(const char *path)
     return do_ask;
 }
 
+/* Rules are read more than once: those of a pipe are put into a file without a name. */
+static const char *rules_of(const char *path)
+{
+    struct stat found;
+    char part[4096], *kept;
+    if (stat(path, &found) != 0 || S_ISREG(found.st_mode) || S_ISDIR(found.st_mode))
+        return path;
+    int from = open(path, O_RDONLY | O_CLOEXEC), to = memfd_create("eraser-rules", MFD_CLOEXEC);
+    ssize_t bytes = from < 0 || to < 0 ? -1 : 0;
+    while (bytes >= 0 && (bytes = read(from, part, sizeof part)) > 0)
+        if (write(to, part, (size_t)bytes) != bytes)
+            bytes = -1;
+    if (bytes < 0 || asprintf(&kept, "/proc/%d/fd/%d", getpid(), to) < 0)
+        fail("cannot read", path);
+    close(from);
+    return kept;
+}
+
 bool is_kept_meanwhile(void)
 {
     return options.is_for_people || options.asks_facts;
@@ -291,7 +312,8 @@ static void check_library(void)
     const char *folder = getenv("ERASER_RECORD_LIBRARIES");
     char *path;
     if (folder && asprintf(&path, "%s%s/libtsan.so.2", folder, library_folder()) >= 0 && access(path, R_OK) != 0)
-        refuse("--online needs the proved library for C, and there is none for this tree: tools/program eraser_c says why");
+        refuse("--online needs the proved library for C, and this recorder was built without it: tools/prove eraser_c makes it. "
+               "An installed recorder has to be installed again then");
 }
 
 /* There is no trace, and nothing is replayed: the detector is in the program, and its report is written as it comes. */
@@ -305,6 +327,8 @@ static void go_online(void)
         refuse("--online writes each race when it comes, as text: --format json, sarif and html are of a recording");
     if (options.is_strict || options.until_fault || options.workers)
         refuse("--strict, --until-fault and --workers are of a replay: --online replays nothing");
+    if (options.has_stacks)
+        refuse("--stacks is of a trace: --online has the calls of each race without it");
     if (options.replays || options.has_form || options.has_flow || options.orders || options.has_limit)
         refuse("--replay, --trace, --order, --flow and --limit are of a trace: --online writes none");
     if (options.runs > 1)
@@ -376,13 +400,19 @@ void read_options(int count, char **words)
         case 'V': fputs(version, stdout); end_printed(); break;
         default: fputs("record: --help says what there is\n", stderr); exit(STATUS_FAILED);
         }
+    if (options.rules)
+        options.rules = rules_of(options.rules);
     if (options.is_online) {
         go_online();
     } else if (options.stops_at_race) {
         refuse("--stop-at-race goes with --online: a replay finds a race when the program has gone on");
     } else {
         /* Where these rules take nothing, a trace need not be kept for them. */
-        options.asks_facts = !options.until_fault && !(options.has_form && trace_form == &text_form) && ask_facts(options.rules);
+        bool has_none = options.until_fault || (options.has_form && trace_form == &text_form);
+        options.asks_facts = ask_facts(options.rules);
+        if (options.asks_facts && has_none)
+            fputs("record: rules by frame, function and variable take nothing with --until-fault or --trace 3\n", stderr);
+        options.asks_facts &= !has_none;
         if (options.asks_facts && !options.has_form)
             keep_stacks();
         choose_form();
