@@ -329,6 +329,7 @@ def refused(folder, findings):
         (["--replay"], "are of a trace"),
         (["--trace", "4"], "are of a trace"),
         (["--order"], "are of a trace"),
+        (["--stacks"], "--stacks is of a trace"),
         (["--flow"], "are of a trace"),
         (["--limit", "0"], "are of a trace"),
         (["--runs", "2"], "--runs merges the reports of replays"),
