@@ -225,12 +225,14 @@ static void check_nothing_missed(void)
     CHECK(eraser_freeing(detector, word + 64, sizeof *word) == ERASER_QUIET && other(word + 64, true, NULL, NULL) == ERASER_QUIET);
     settle(word, true);
     CHECK(use(word + 64, true) == ERASER_RACE);
-    /* A block that is remembered at the same place. */
-    const int *far = (const int *)((uintptr_t)word + 128 * 1024);
-    CHECK(eraser_freeing(detector, far, sizeof *far) == ERASER_QUIET && other(far, true, NULL, NULL) == ERASER_QUIET);
-    renew(word);
-    settle(word, true);
-    CHECK(use(far, true) == ERASER_RACE);
+    /* Blocks that are remembered at the same place. Of eight some are in the same shard too. */
+    for (uintptr_t nth = 1; nth <= 8; nth++) {
+        const int *far = (const int *)((uintptr_t)word + nth * 128 * 1024);
+        CHECK(eraser_freeing(detector, far, sizeof *far) == ERASER_QUIET && other(far, true, NULL, NULL) == ERASER_QUIET);
+        renew(word);
+        settle(word, true);
+        CHECK(use(far, true) == ERASER_RACE);
+    }
     /* A bracket. */
     settle(word, true);
     CHECK(eraser_ignore_begin(detector) == ERASER_QUIET && use(word, true) == ERASER_IGNORED && eraser_ignore_begin(detector) == ERASER_QUIET);
