@@ -52,10 +52,11 @@ static void check_sorts(void)
     eraser_shard shard = {0, NULL}, empty = {0, NULL};
     eraser_thread thread = {0, NULL}, none = {0, NULL};
     uint64_t race = 5;
+    uint8_t kept = 1;
     CHECK(eraser_shard_new(&shard, 10) == ERASER_QUIET && eraser_thread_new(&thread, 0) == ERASER_QUIET);
     CHECK(eraser_seat_new(&none, NAME, 1u << 30) == ERASER_TOO_MANY_THREADS && none.kind == 0);
     CHECK(eraser_access(&shards[0], &thread, 8192, true) == ERASER_WRONG_HANDLE && eraser_access(&shard, &seats[0], 8192, true) == ERASER_WRONG_HANDLE);
-    CHECK(eraser_access_span(&shards[0], &thread, 8192, 8, true, &race) == ERASER_WRONG_HANDLE && race == UINT64_MAX);
+    CHECK(eraser_access_span(&shards[0], &thread, 8192, 8, true, &race, &kept) == ERASER_WRONG_HANDLE && race == UINT64_MAX && kept == 0);
     CHECK(eraser_reset(&shards[0], 8192, 8) == ERASER_WRONG_HANDLE);
     CHECK(eraser_record(&shard, &seats[0], 0, 8192, true) == ERASER_WRONG_HANDLE && eraser_record(&shards[0], &thread, 0, 8192, true) == ERASER_WRONG_HANDLE);
     CHECK(eraser_record(&empty, &seats[0], 0, 8192, true) == ERASER_EMPTY_HANDLE && eraser_record(&shards[0], &none, 0, 8192, true) == ERASER_EMPTY_HANDLE);
