@@ -31,7 +31,7 @@ complete -c eraser-record -n __eraser_record_before_program -l format -x -a 'tex
 complete -c eraser-record -n __eraser_record_before_program -l strict -d 'End the replay with 2 if the trace is damaged, and write no report'
 complete -c eraser-record -n __eraser_record_before_program -l until-fault -d 'Report the steps before the first faulty line of the trace, and then its fault'
 complete -c eraser-record -n __eraser_record_before_program -l exit-status -x -a 'program report' -d 'End with the status of the program (the default) or of the report'
-complete -c eraser-record -n __eraser_record_before_program -l online -d 'Watch the program while it runs, without a trace: a race is reported when it happens. The memory grows with new memory, threads and sets of locks alone'
+complete -c eraser-record -n __eraser_record_before_program -l online -d 'Watch the program while it runs, without a trace: a race is reported when it happens'
 complete -c eraser-record -n __eraser_record_before_program -l stop-at-race -d 'With --online: a thread whose race is reported gets SIGTRAP right after that, for a debugger'
 complete -c eraser-record -n __eraser_record_before_program -l shake -d 'Let threads wait for short random times before they acquire, signal or start, so that more of them meet; --shake=SEED repeats them'
 complete -c eraser-record -n __eraser_record_before_program -l runs -x -d 'Run the program N times, and report of each site in how many of the runs it was reported'

@@ -78,7 +78,7 @@ def takes_race(rule, race):
         return reference.takes(rule, step.site.encode(), step.words.start)
     if isinstance(rule, bytes):
         return rule == step.site.encode() != b"-"
-    if isinstance(rule, reference.Pattern):
+    if isinstance(rule, (reference.Pattern, reference.FactPattern)):
         return rule.takes(step.site.encode())
     return rule[0] <= race.words[0] and race.words[-1] <= rule[1]
 

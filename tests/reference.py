@@ -182,7 +182,7 @@ class Pattern(collections.namedtuple("Pattern", "text")):
         return site != b"-" and re.fullmatch(b".*".join(pieces), site, re.DOTALL) is not None
 
 
-class FactPattern(Pattern):
+class FactPattern(collections.namedtuple("FactPattern", "kind text")):
     """A pattern of what a trace 4 may say of a race: no site tells it."""
 
     def takes(self, site):
@@ -205,7 +205,7 @@ def rule_of(line, words, is_second):
         if not is_site(operands[0], b"3"):
             raise Fault(line, "bad name")
         if words[0] in FACTS:
-            return FactPattern(operands[0])
+            return FactPattern(words[0], operands[0])
         return Pattern(operands[0]) if is_second and b"*" in operands[0] else operands[0]
     address, size = number(operands[0]), number(operands[1])
     if address is None or size is None:
@@ -228,7 +228,7 @@ def rules_of(text):
 
 
 def takes(rule, site, word):
-    if isinstance(rule, Pattern):
+    if isinstance(rule, (Pattern, FactPattern)):
         return rule.takes(site)
     return rule == site if isinstance(rule, bytes) else rule[0] <= word <= rule[1]
 

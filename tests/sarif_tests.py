@@ -118,6 +118,8 @@ def rule_text(rule):
         return f"site {rule.decode()}"
     if isinstance(rule, reference.Pattern):
         return f"site {rule.text.decode()}"
+    if isinstance(rule, reference.FactPattern):
+        return f"{rule.kind.decode()} {rule.text.decode()}"
     first, last = rule
     return f"words 0x{4 * first:012x} {4 * (last + 1 - first)}" if first <= last else "words 0 0"
 

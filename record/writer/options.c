@@ -50,7 +50,7 @@ static const char usage[] =
     "      --strict            end the replay with 2 if the trace is damaged, and write no report\n"
     "      --until-fault       report the steps before the first faulty line of the trace, and then its fault\n"
     "      --exit-status WHOSE end with the status of the `program` (the default) or of the `report`\n"
-    "      --online            watch the program while it runs, without a trace: a race is reported when it happens. The memory grows with new memory, threads and sets of locks alone. Then --output and --report name the file of the report, and --suppress takes rules of sites and words\n"
+    "      --online            watch the program while it runs, without a trace: a race is reported when it happens\n"
     "      --stop-at-race      with --online: a thread whose race is reported gets SIGTRAP right after that, for a debugger\n"
     "      --shake             let threads wait for short random times before they acquire, signal or start, so that more of them meet; --shake=SEED repeats them\n"
     "      --runs N            run the program N times, and report of each site in how many of the runs it was reported\n"
@@ -73,7 +73,10 @@ static const char usage[] =
     "If RULES has rules by frame, function or variable, the trace is kept in a temporary file as well, as by --stacks unless --trace is given.\n"
     "\n"
     "It ends with the program's exit status, or 128 and the number of the signal that ended it; 125 if the recorder failed, 126 or 127\n"
-    "if the program cannot be started. Without --online the report comes on standard error when the program has ended. --online refuses\n"
+    "if the program cannot be started. Without --online the report comes on standard error when the program has ended.\n"
+    "\n"
+    "With --online the memory grows with new memory, threads and sets of locks alone, --output and --report name the file of the report,\n"
+    "and --suppress takes rules of sites and words. It refuses\n"
     "--explain, --strict, --until-fault, --workers, --replay, --trace, --stacks, --order, --flow, --limit, --runs, and other analyses and forms.\n"
     "\n"
     "With --exit-status report: 0 if the program ended with 0, all of it was recorded and there is no race; 1 if there is a race; 125 if\n"
@@ -202,7 +205,7 @@ static bool ask_facts(const char *path)
 static const char *rules_of(const char *path)
 {
     struct stat found;
-    char part[4096], *kept;
+    char part[4096], *kept = NULL;
     if (stat(path, &found) != 0 || S_ISREG(found.st_mode) || S_ISDIR(found.st_mode))
         return path;
     int from = open(path, O_RDONLY | O_CLOEXEC), to = memfd_create("eraser-rules", MFD_CLOEXEC);
@@ -276,7 +279,8 @@ static void print_usage(const char *name, FILE *to)
 /* Ends the recorder, of which nothing but a text was wanted. */
 static void end_printed(void)
 {
-    if (fflush(stdout) != 0)
+    bool has_failed = ferror(stdout); /* a part of a long text may have gone out before */
+    if (fflush(stdout) != 0 || has_failed)
         fail("cannot write", "standard output");
     exit(0);
 }
