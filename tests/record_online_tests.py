@@ -158,7 +158,7 @@ def cut(folder, findings):
     for compiler, level in WAYS:
         program = made(folder, findings, PROGRAMS / "cut.c", compiler, level)
         watched = Watched(folder, program.name, program)
-        is_right = (watched.done.returncode, watched.done.stdout) == (0, "1\n") and totals(watched.report).get("threads") == 201
+        is_right = (watched.done.returncode, watched.done.stdout) == (0, "1\n") and totals(watched.report).get("threads") == 21
         findings.check(f"{program.name} online", is_right and " events watched, 0 lost" in watched.done.stderr, f"{watched.done} {watched.report}")
 
 

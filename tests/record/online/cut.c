@@ -5,6 +5,7 @@
 #include <signal.h>
 #include <sys/time.h>
 
+enum { ROUNDS = 20 };
 static int words[4096];
 static volatile sig_atomic_t rounds;
 static sigjmp_buf back;
@@ -35,7 +36,7 @@ static void use_all(void)
 int main(void)
 {
     signal(SIGALRM, leave);
-    for (; rounds < 200; rounds++) {
+    for (; rounds < ROUNDS; rounds++) {
         pthread_t thread;
         if (pthread_create(&thread, NULL, count, NULL) != 0)
             exit(99);
@@ -46,10 +47,10 @@ int main(void)
     rounds = 0;
     setitimer(ITIMER_REAL, &(struct itimerval){{0, 300}, {0, 300}}, NULL);
     sigsetjmp(back, 1);
-    while (rounds < 200)
+    while (rounds < ROUNDS)
         use_all();
     setitimer(ITIMER_REAL, &(struct itimerval){{0, 0}, {0, 0}}, NULL);
     use_all();
-    printf("%d\n", rounds >= 200);
+    printf("%d\n", rounds >= ROUNDS);
     return 0;
 }
