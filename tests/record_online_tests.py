@@ -250,7 +250,8 @@ def children(folder, findings):
     is_told = "record: the program forked 1 time: a child is recorded from its first thread on\n" in watched.done.stderr
     heads = re.findall(r"^(.*)race: ", watched.report, re.M)
     of_child = re.compile(rf"{re.escape(program.name)}, process \d+: ")
-    is_right = len(heads) == 2 and "" in heads and any(of_child.fullmatch(head) for head in heads)
+    # The parent's race comes before the child begins, and may be written behind that.
+    is_right = len(set(heads)) == len(heads) == 2 and all(not head or of_child.fullmatch(head) for head in heads)
     findings.check("a child online", fault is None and is_told and is_right, f"{fault} {watched.report} {watched.done.stderr}")
 
 
