@@ -163,7 +163,7 @@ void eraser_print(void *context, const struct eraser_race *race);
 
 /* ---- 2. The proved calls ----
  *
- * A handle is 16 bytes of the program's. It is empty if it is zeroed. `new` fills it, and `free` leaves it empty: both take a handle of either sort, and
+ * A handle is 16 bytes of the program's. It is empty if it is zeroed. `new` fills it, and `free` leaves it empty: both take a handle of any sort, and
  * free what it had. It isn't copied while it is filled, and isn't null; nobody else writes to it. There is one call at a time for each handle: a lock of the
  * program's is held for each call on a shard, and a thread's handle is its thread's own. No call is made from a signal handler that interrupted another one.
  * They allocate by rattle_alloc, rattle_realloc and rattle_dealloc (eraser_memory.c). A shard

@@ -260,8 +260,8 @@ APART static uint32_t find_self(eraser_detector *e)
     return status;
 }
 
-/* Begins a call: finds the thread's own record. If it is ERASER_QUIET, `end` ends the call. */
-static inline uint32_t enter(eraser_detector *e, struct self **found)
+/* Begins a call. If it is ERASER_QUIET, `end` ends the call. */
+static inline uint32_t begin(const eraser_detector *e)
 {
     if (!e)
         return ERASER_EMPTY_HANDLE;
@@ -269,7 +269,16 @@ static inline uint32_t enter(eraser_detector *e, struct self **found)
         return ERASER_BUSY;
     busy = CALL;
     atomic_signal_fence(memory_order_seq_cst);
-    uint32_t status = mine.start == e->start ? ERASER_QUIET : find_self(e);
+    return ERASER_QUIET;
+}
+
+/* Begins a call that is of the thread's own record, and finds that. */
+static inline uint32_t enter(eraser_detector *e, struct self **found)
+{
+    uint32_t status = begin(e);
+    if (status != ERASER_QUIET)
+        return status;
+    status = mine.start == e->start ? ERASER_QUIET : find_self(e);
     if (status != ERASER_QUIET)
         return end(status);
     *found = mine.self;
@@ -893,14 +902,11 @@ static uint32_t settle(eraser_detector *e, uint64_t *steps)
 uint32_t eraser_settle(eraser_detector *e, uint64_t *steps)
 {
     uint64_t none;
-    if (!e)
-        return ERASER_EMPTY_HANDLE;
-    if (busy)
-        return ERASER_BUSY;
-    busy = CALL;
-    atomic_signal_fence(memory_order_seq_cst);
+    uint32_t status = begin(e);
+    if (status != ERASER_QUIET)
+        return status;
     take(&e->crowd);
-    uint32_t status = settle(e, steps ? steps : &none);
+    status = settle(e, steps ? steps : &none);
     leave(&e->crowd);
     return end(status);
 }
