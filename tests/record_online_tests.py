@@ -154,11 +154,12 @@ def at_once(folder, findings):
 
 
 def cut(folder, findings):
-    """A thread that is cancelled at any instruction, or a handler that leaves by longjmp, leaves no part of the detector locked, and no event is lost."""
+    """A thread that is cancelled at any instruction, also in a handler, or a handler that leaves by longjmp, leaves no part of the detector locked, and no
+    event is lost."""
     for compiler, level in WAYS:
         program = made(folder, findings, PROGRAMS / "cut.c", compiler, level)
         watched = Watched(folder, program.name, program)
-        is_right = (watched.done.returncode, watched.done.stdout) == (0, "1\n") and totals(watched.report).get("threads") == 21
+        is_right = (watched.done.returncode, watched.done.stdout) == (0, "1\n") and totals(watched.report).get("threads") == 41
         findings.check(f"{program.name} online", is_right and " events watched, 0 lost" in watched.done.stderr, f"{watched.done} {watched.report}")
 
 

@@ -56,7 +56,8 @@ static __thread struct {
     struct own *own;
     bool is_inside;  /* the detector is at work on an event */
     bool has_ended;  /* the thread counts as ended, and what it still does is not watched */
-    bool may_be_cancelled; /* at any instruction */
+    bool may_be_cancelled; /* at any instruction, as it has asked */
+    bool handles;          /* it is in a handler, or has left one by longjmp. If it interrupted a call that waits, it may be cancelled there too */
 } mine __attribute__((tls_model("initial-exec")));
 
 static eraser_detector *detector;
@@ -199,11 +200,11 @@ static void set_mask(const sigset_t *mask)
     syscall(SYS_rt_sigprocmask, SIG_SETMASK, mask, NULL, NSIG / 8);
 }
 
-/* Gives what was blocked before. */
+/* Nor is the thread cancelled then, by a signal that sigfillset leaves out. Gives what was blocked before. */
 static sigset_t block_signals(void)
 {
     sigset_t all, before;
-    sigfillset(&all);
+    memset(&all, 0xff, sizeof all);
     syscall(SYS_rt_sigprocmask, SIG_SETMASK, &all, &before, NSIG / 8);
     return before;
 }
@@ -309,7 +310,10 @@ static void call_handler(int number, siginfo_t *info, void *context, const sigse
     if (!(flags & SA_NODEFER))
         sigaddset(&mask, number);
     set_mask(&mask);
+    bool handled = mine.handles;
+    mine.handles = true;
     handler(number, info, context);
+    mine.handles = handled;
 }
 
 /* If the system takes no more signals, the handler is called from here. */
@@ -560,7 +564,8 @@ void online_take(enum event_kind kind, uint32_t size, uint64_t first, uint64_t s
         leave_out(ring, kind);
         return;
     }
-    if (UNLIKELY(mine.may_be_cancelled))
+    bool is_cancelled_anywhere = mine.may_be_cancelled || mine.handles;
+    if (UNLIKELY(is_cancelled_anywhere))
         find_pthread_setcanceltype()(PTHREAD_CANCEL_DEFERRED, &type);
     set_inside(true);
     mine.own->pointer = pointer;
@@ -570,8 +575,8 @@ void online_take(enum event_kind kind, uint32_t size, uint64_t first, uint64_t s
         count_lost(ring);
     if (UNLIKELY(status == ERASER_RACE))
         stop(second, kind == EVENT_WRITE);
-    if (UNLIKELY(mine.may_be_cancelled))
-        find_pthread_setcanceltype()(PTHREAD_CANCEL_ASYNCHRONOUS, &type);
+    if (UNLIKELY(is_cancelled_anywhere))
+        find_pthread_setcanceltype()(type, &type);
     if (UNLIKELY(mine.own->deferred.number))
         deliver();
 }

@@ -416,13 +416,15 @@ void stack_clear(void)
             clear(stack);
 }
 
+/* A handler that comes in between may go on on a stack that isn't given back yet. */
 void stack_end(void)
 {
-    stack_now = NULL;
     mine.has_ended = true;
     while (mine.all) {
         struct stack *stack = mine.all;
         mine.all = stack->next;
+        __atomic_signal_fence(__ATOMIC_SEQ_CST);
+        stack_now = NULL;
         syscall(SYS_munmap, stack, sizeof *stack);
     }
     if (mine.known)

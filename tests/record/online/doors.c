@@ -76,8 +76,8 @@ static void go_through(const char *name, sighandler_t (*by)(int, sighandler_t))
     door = by;
     rounds = 0;
     check(name, door(SIGALRM, leave) == SIG_DFL && door(SIGALRM, leave) == leave);
-    ask_for_signal();
-    sigsetjmp(back, 1);
+    if (sigsetjmp(back, 1) == 0)
+        ask_for_signal();
     while (rounds < ROUNDS)
         use_all();
     use_all();

@@ -23,8 +23,8 @@ int main(int count, char **words)
     void (*use)(void) = plugin ? (void (*)(void))dlsym(plugin, "use") : NULL;
     if (!use)
         return 99;
-    setitimer(ITIMER_REAL, &(struct itimerval){{0, 300}, {0, 300}}, NULL);
-    sigsetjmp(back, 1);
+    if (sigsetjmp(back, 1) == 0)
+        setitimer(ITIMER_REAL, &(struct itimerval){{0, 300}, {0, 300}}, NULL);
     while (rounds < 100)
         use();
     setitimer(ITIMER_REAL, &(struct itimerval){{0, 0}, {0, 0}}, NULL);
