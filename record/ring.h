@@ -64,17 +64,19 @@ enum event_kind {
     EVENT_STORED,     /* first: atomic, stored by an operation that doesn't release, in a thread that has released by a fence, or if the ring asks for flow */
     EVENT_LET_GO,     /* first: object that a holder lets go, size: enum object_kind: it signals and awaits it, if anybody has signalled it before */
     EVENT_LOADED,     /* first: atomic, loaded by an operation that doesn't acquire, size: LOADS_FOR_FENCES, LOADS_FOR_FLOW or both */
-    EVENT_TAKEN,      /* as EVENT_REUSE, of memory that a call gives to the program, or of a new thread's stack, which has no place: a fact of the trace. Recorded only with --stacks */
+    EVENT_TAKEN,      /* as EVENT_REUSE, of memory that a call gives to the program, or of a new thread's stack, which has no place: a fact of the trace. Recorded only with --stacks, and known online */
+    EVENT_TAKEN_ANEW, /* online: a block as EVENT_FREE has it gets another size, or is moved */
     EVENT_THREAD_END, /* the thread runs no more of the program's code, and its pthread_t may become another's */
-    /* Of --online, a race: first its word, then each lock that the thread holds, last the access. */
+    /* Of --online, a race: first its word, then its block, if one is known, and each lock that the thread holds, last the access. */
     EVENT_RACE_WORD,  /* first: the word, size: the number of the other thread, 0 if it isn't known, second: the lane that gets the answer */
+    EVENT_RACE_BLOCK, /* as EVENT_TAKEN */
     EVENT_RACE_LOCK,  /* first: lock, second: program counter of the call that took it, or 0, size: 1 if it is held to write, 0 to read */
     EVENT_RACE_READ,  /* as EVENT_READ */
     EVENT_RACE_WRITE,
 };
 
 /* Online these go to the detector in the program, and all others into the ring. */
-#define IS_FOR_DETECTOR(kind) ((kind) <= EVENT_IGNORE_OFF)
+#define IS_FOR_DETECTOR(kind) ((kind) <= EVENT_IGNORE_OFF || (kind) == EVENT_TAKEN || (kind) == EVENT_TAKEN_ANEW)
 
 /* Of these events `second` is the program counter of a call, or 0. */
 #define KINDS_WITH_PLACES (1u << EVENT_LOCK | 1u << EVENT_READ_LOCK | 1u << EVENT_UNLOCK | 1u << EVENT_LOCK_TWICE | 1u << EVENT_LOCK_BEGIN               \

@@ -134,6 +134,25 @@ def told(folder, findings):
     findings.check("the last line online", {**numbers, "memory": 0} == {"races": 1, "suppressed": 0, "accesses": 4, "threads": 3, "memory": 0}, f"{report}")
 
 
+def blocks(folder, findings):
+    """A race in a block of memory has its name, as a race in a recorded trace has."""
+    source = PROGRAMS / "blocks.cpp"
+    lines = source.read_text().splitlines()
+    marks = {match[1]: number for number, line in enumerate(lines, 1) if (match := re.search(r"// @(\w+)$", line))}
+    wanted = {}
+    for number, line in enumerate(lines, 1):
+        if match := re.search(r"// RACE (\d+) of (\d+) (\w+)$", line):
+            wanted[number] = f"byte {match[1]} of a block of {match[2]} bytes allocated at blocks.cpp:{marks[match[3]]}"
+        elif line.endswith("// RACE"):
+            wanted[number] = ""
+    for compiler, level in WAYS:
+        program = made(folder, findings, source, compiler, level)
+        watched = Watched(folder, program.name, program)
+        told = re.findall(r"^race: blocks.cpp:(\d+): t\d+ (?:reads|writes) (?:(.*), )?\d+ bytes? at ", watched.report, re.M)
+        found = {int(number): memory for number, memory in told}
+        findings.check(f"{program.name} online", watched.done.returncode == 0 and found == wanted, f"{found} {wanted} {watched.report}")
+
+
 def at_once(folder, findings):
     """A race is written while the program runs: its parent reads it, and only then ends the program."""
     program = made(folder, findings, SOURCES / "ends.c", "gcc", "-O1")
@@ -365,7 +384,7 @@ def tests(record):
     with tempfile.TemporaryDirectory() as name, concurrent.futures.ThreadPoolExecutor(WORKERS) as pool:
         folder = pathlib.Path(name)
         parts = []
-        for number, part in enumerate((ends, hosts, standard_library, told, at_once, cut, doors, early_handler, lookups, rounds, crowd, handed, refused_lock, late_ends,
+        for number, part in enumerate((ends, hosts, standard_library, told, blocks, at_once, cut, doors, early_handler, lookups, rounds, crowd, handed, refused_lock, late_ends,
             fork_storm, children, stops, rules, refused, statuses)):
             (folder / str(number)).mkdir()
             parts.append(pool.submit(part, folder / str(number), findings))

@@ -21,8 +21,8 @@
 #ifndef IS_ONLINE
 #define IS_ONLINE 0
 #endif
-/* Blocks that the program gets are recorded: a detector has no use for them. */
-#define KEEPS_BLOCKS (KEEPS_STACKS && !IS_ONLINE)
+/* Blocks that the program gets are recorded, or known for the reports of --online. */
+#define KEEPS_BLOCKS KEEPS_STACKS
 #define CALLER ((uint64_t)(uintptr_t)__builtin_return_address(0))
 
 /* Where this process records. It stands in a page that the kernel clears in a forked child, which so records nothing, however it was

@@ -161,6 +161,8 @@ static void *shrink(void *block, size_t had, size_t size, uint64_t place)
     void *(*real)(void *, size_t) = REAL(realloc);
     size_t kept = (size + 15) & ~(size_t)15, moves = had < kept ? had : kept;
     struct draft draft;
+    if (IS_ONLINE)
+        emit(EVENT_TAKEN_ANEW, (uint32_t)had, packed(block, had), place);
     if (had > kept)
         emit_memory((char *)block + kept, had - kept, place);
     bool is_drawn = emit_draw(&draft);
@@ -210,7 +212,7 @@ HOOK void *reallocarray(void *block, size_t count, size_t size)
 
 /* ---- Pages ---- */
 
-#if KEEPS_BLOCKS
+#if KEEPS_BLOCKS && !IS_ONLINE
 /* Only that of the program's own calls: what an allocator gets here it gives out in blocks. Memory that a mapping takes the place of is the program's
  * already. */
 HOOK void *mmap(void *wanted, size_t size, int protection, int how, int file, off_t begin)

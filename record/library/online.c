@@ -17,6 +17,7 @@
 #include "../../capi/eraser_detector.h"
 #define ERASER_OWN_PAGES
 #include "../../capi/eraser_memory.h"
+#include "blocks.h"
 #include "marks.h"
 #include "releases.h"
 
@@ -230,7 +231,10 @@ static void on_race(void *nothing, const struct eraser_race *race)
     (void)nothing;
     if (!self.number)
         self.number = race->thread;
+    struct block block;
     send(EVENT_RACE_WORD, 0, race->other, (uintptr_t)race->word, 0);
+    if (blocks_find((uintptr_t)race->address, &block))
+        send(EVENT_RACE_BLOCK, block.stack, (uint32_t)block.size, packed(at(block.begin), block.size), block.place);
     for (size_t nth = 0; nth < race->lock_count; nth++) {
         const struct held *held = find_held((uintptr_t)race->locks[nth]);
         send(EVENT_RACE_LOCK, held ? held->stack : 0, race->lock_writes[nth], (uintptr_t)race->locks[nth], held ? held->place : 0);
@@ -489,6 +493,24 @@ HOOK sighandler_t sigset(int number, sighandler_t handler)
 
 /* ---- Events ---- */
 
+/* Memory of an event, whose size has its upper bits beside the address. */
+static uint64_t whole_size(uint32_t size, uint64_t first)
+{
+    return (first >> REUSE_BITS) << 32 | size;
+}
+
+static uint32_t know_block(uint64_t begin, uint64_t size, uint64_t place)
+{
+    blocks_add((struct block){begin, size, place, place ? stack_look_from(mine.own->pointer, place) : 0});
+    return ERASER_QUIET;
+}
+
+static uint32_t forget_block(uint64_t begin, uint64_t size)
+{
+    blocks_forget(begin, size);
+    return ERASER_QUIET;
+}
+
 static uint32_t take(enum event_kind kind, uint32_t size, uint64_t first, uint64_t second)
 {
     switch (kind) {
@@ -500,7 +522,11 @@ static uint32_t take(enum event_kind kind, uint32_t size, uint64_t first, uint64
     case EVENT_LOCK_BEGIN:
     case EVENT_LOCK_END: return end_lock(first);
     case EVENT_REUSE:
-    case EVENT_FREE: return take_reuse(first & REUSE_MASK, (first >> REUSE_BITS) << 32 | size);
+    case EVENT_FREE:
+        blocks_forget(first & REUSE_MASK, whole_size(size, first));
+        return take_reuse(first & REUSE_MASK, whole_size(size, first));
+    case EVENT_TAKEN: return know_block(first & REUSE_MASK, whole_size(size, first), second);
+    case EVENT_TAKEN_ANEW: return forget_block(first & REUSE_MASK, whole_size(size, first));
     case EVENT_IGNORE_ON: return change_ignoring(true);
     case EVENT_IGNORE_OFF: return change_ignoring(false);
     default: return ERASER_QUIET; /* a thread that waits for its own lock holds it as before */
@@ -512,12 +538,12 @@ static void count_lost(struct ring *ring)
     atomic_fetch_add_explicit(&ring->lost[self.number % LOST_COUNTERS].count, 1, memory_order_relaxed);
 }
 
-/* Only this thread counts in its lane, so it takes no atomic operation. */
-static inline void count(struct ring *ring, bool is_access)
+/* Only this thread counts in its lane, so it takes no atomic operation. A block that it gets is no event. */
+static inline void count(struct ring *ring, enum event_kind kind)
 {
     const struct course *course = &self.courses[0];
-    if (LIKELY(course->slots != NULL))
-        ring->lanes[course->lane].watched[!is_access]++;
+    if (LIKELY(course->slots != NULL && kind <= EVENT_IGNORE_OFF))
+        ring->lanes[course->lane].watched[kind > EVENT_WRITE]++;
 }
 
 /* At a thread's first event. */
@@ -539,7 +565,7 @@ static uint32_t call(struct ring *ring, enum event_kind kind, uint32_t size, uin
     uint64_t released = atomic_load_explicit(&release_count, memory_order_acquire);
     if (UNLIKELY(released != mine.own->released))
         look_at_releases(released);
-    count(ring, kind <= EVENT_WRITE);
+    count(ring, kind);
     mine.own->site = second;
     uint32_t status = take(kind, size, first, second);
     errno = error;
@@ -547,10 +573,15 @@ static uint32_t call(struct ring *ring, enum event_kind kind, uint32_t size, uin
 }
 
 /* An access of a thread that counts as ended is lost. What else it does, its allocator does as well. */
-static __attribute__((noinline)) void leave_out(struct ring *ring, enum event_kind kind)
+static __attribute__((noinline)) void leave_out(struct ring *ring, enum event_kind kind, uint32_t size, uint64_t first)
 {
-    if (!mine.has_ended || kind <= EVENT_WRITE)
+    if (kind <= EVENT_WRITE || (!mine.has_ended && kind <= EVENT_IGNORE_OFF))
         count_lost(ring);
+    if (mine.has_ended && (kind == EVENT_FREE || kind == EVENT_REUSE || kind == EVENT_TAKEN_ANEW)) {
+        sigset_t before = block_signals();
+        blocks_forget(first & REUSE_MASK, whole_size(size, first));
+        set_mask(&before);
+    }
 }
 
 /* A handler may leave what it interrupts by longjmp, so what comes last is its signal. */
@@ -561,7 +592,7 @@ void online_take(enum event_kind kind, uint32_t size, uint64_t first, uint64_t s
     if (kind == EVENT_VOID || !ring)
         return;
     if (UNLIKELY(mine.has_ended || mine.is_inside || (!mine.own && !has_own()))) {
-        leave_out(ring, kind);
+        leave_out(ring, kind, size, first);
         return;
     }
     bool is_cancelled_anywhere = mine.may_be_cancelled || mine.handles;
@@ -626,6 +657,7 @@ bool online_begin(struct ring *ring)
     /* It may have been forked without the handlers of forks. */
     forget_parent();
     marks_forget();
+    blocks_begin();
     memset(places, 0, sizeof places);
     if (!watches_forks)
         pthread_atfork(NULL, NULL, forget_parent);

@@ -322,6 +322,7 @@ static void take_rare(const struct slot *slot)
     case EVENT_STORED: store_atomic(slot); break;
     case EVENT_LOADED: load_atomic(slot); break;
     case EVENT_RACE_WORD:
+    case EVENT_RACE_BLOCK:
     case EVENT_RACE_LOCK:
     case EVENT_RACE_READ:
     case EVENT_RACE_WRITE: online_take(slot); break;

@@ -29,6 +29,7 @@ struct race {
     uint32_t thread, other, lane;
     uint64_t word;
     bool has_word; /* its first part has come */
+    struct slot block; /* of 0 bytes if none is known */
     unsigned count;
     struct lock locks[MOST_HELD];
 };
@@ -213,9 +214,26 @@ static bool say_variable(uint64_t address)
     return true;
 }
 
-static void say_memory(uint64_t address, uint32_t bytes)
+/* The block that an access is in, if it is known, and the nearest line of the program's own that got it. */
+static bool say_block(const struct slot *block, uint64_t address)
 {
-    if (say_variable(address))
+    uint64_t size = reuse_size(block), place = block->second;
+    uint32_t node = slot_stack(block) & ~STACK_CUT;
+    if (!size)
+        return false;
+    for (; !sites_has_instrumented(place) && node_of(node); node = caller_of(node))
+        place = node_of(node)->call;
+    say("byte %" PRIu64 " of a block of %" PRIu64 " byte%s", address - (block->first & REUSE_MASK), size, size == 1 ? "" : "s");
+    if (sites_has_instrumented(place)) {
+        say(" allocated at ");
+        say_site(site_of_access(place, node, &node));
+    }
+    return true;
+}
+
+static void say_memory(const struct slot *block, uint64_t address, uint32_t bytes)
+{
+    if (say_variable(address) || say_block(block, address))
         say(", ");
     say("%" PRIu32 " byte%s at 0x%" PRIx64, bytes, bytes == 1 ? "" : "s", address);
 }
@@ -262,7 +280,7 @@ static enum race_answer report(const struct race *race, const struct slot *slot)
     say(": ");
     say_thread(race->thread);
     say(" %s ", writes ? "writes" : "reads");
-    say_memory(slot->first, slot->size);
+    say_memory(&race->block, slot->first, slot->size);
     if (race->other) {
         say(", which ");
         say_thread(race->other);
@@ -288,6 +306,10 @@ void online_take(const struct slot *slot)
         race->other = slot->size;
         race->lane = (uint32_t)(slot->second % LANES);
         race->count = 0;
+        race->block = (struct slot){0};
+        break;
+    case EVENT_RACE_BLOCK:
+        race->block = *slot;
         break;
     case EVENT_RACE_LOCK:
         if (race->count < MOST_HELD)
