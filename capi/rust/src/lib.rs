@@ -3,9 +3,8 @@
 //!
 //! Safe Rust has no data race. These calls are for what is not safe Rust: interpreters, emulators and runtimes that run other code's threads, and
 //! `unsafe` code with locks of its own.
-#![no_std]
 
-use core::ffi::{c_char, c_int, c_uint, c_void};
+use std::os::raw::{c_char, c_int, c_uint, c_void};
 
 /// A detector. Only pointers to one are used.
 #[repr(C)]
@@ -94,4 +93,4 @@ extern "C" {
 }
 
 // The size of a C `int` is that of the field `shards`.
-const _: () = assert!(core::mem::size_of::<c_int>() == 4);
+const _: () = assert!(std::mem::size_of::<c_int>() == 4);
