@@ -320,7 +320,7 @@ PROGRAMS = {
     "settled": (["16", "20"], ["4", "5"]),
 }
 # Those that are run in audit mode too, which keeps each call.
-AUDITED = {"audits": [], "crowd": []}
+AUDITED = {"audits": [], "crowd": [], "handles": []}
 # What a program is linked with besides.
 LINKED = {"settled": ["-Wl,--wrap=eraser_access_span"]}
 BUILDS = {
