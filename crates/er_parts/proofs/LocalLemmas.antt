@@ -1,16 +1,14 @@
 -- Step by step, what a part keeps leaves its words and all threads as the whole list does, so each step that is kept has the same answer.
-use Rattle.std.proofs.Common.{◌≡◌, ◌+◌, ◌==◌, ◌/◌, ◌<◌, ◌≤◌, ℕ, zero, suc, nat_le, nat_lt, Bool, true, false, cond, ◌&&◌, List, [], ◌∷◌, ◌++◌, length, Option, Some, None, is_some, Result, refl, sym, ap, subst, ◌∙◌, arith}
-use Rattle.std.proofs.lemmas.Bool.{eq-eqb, eqb-true}
+use Rattle.std.proofs.Common.{◌≡◌, ◌==◌, ◌/◌, ◌≤◌, ℕ, nat_lt, Bool, true, false, cond, List, [], ◌∷◌, ◌++◌, length, Option, Some, None, is_some, refl, sym, ap, subst, ◌∙◌, arith}
+use Rattle.std.proofs.lemmas.Bool.{eqb-true}
 use Rattle.std.proofs.lemmas.List.{append-nil, append_assoc}
 use Rattle.std.proofs.lemmas.List.Elements.{filter-append}
 use Rattle.std.specs.List.{filter}
 use Rattle.er_event.specs.Span.{page_of}
 use Rattle.er_event.specs.declared.addresses.PageRange.{PageRange}
-use Rattle.er_event.specs.declared.refusals.Refusal.{Refusal}
 use Rattle.er_event.specs.declared.steps.Event.{Event}
 use Rattle.er_event.specs.declared.steps.Event.TheVariants.{Acquire, Release, Access, Reuse, IgnoreOn, IgnoreOff, Show, Level, Sync}
 use Rattle.er_event.specs.declared.steps.Kind.{Kind}
-use Rattle.er_event.specs.declared.steps.Reply.{Reply}
 use Rattle.er_event.specs.declared.steps.Step.{Step}
 use Rattle.er_event.specs.declared.steps.WordState.{WordState}
 use Rattle.er_event.specs.declared.steps.WordState.TheVariants.{Virgin}
@@ -24,7 +22,7 @@ use Rattle.er_model.specs.Words.{Counted, Nothing, is_within}
 use Rattle.er_parts.proofs.KeepLemmas.{kept-append}
 use Rattle.er_parts.specs.Parts.{PartView, has_page, kept_beside, page_in, takes, takes_page}
 
-cond-same : {A : Type 0} (b : Bool) (x : A) → cond b x x ≡ x
+pub cond-same : {A : Type 0} (b : Bool) (x : A) → cond b x x ≡ x
 cond-same true x = refl
 cond-same false x = refl
 
@@ -45,7 +43,7 @@ idle-event h IgnoreOff of = cc
 idle-event h (Level n) of = cc
 idle-event h (Sync sync) of = cc
 
-idle : (part : PartView) (h : Holdings) (t : ℕ) (s : Step) → takes part s ≡ false → after_step h t s ≡ h
+pub idle : (part : PartView) (h : Holdings) (t : ℕ) (s : Step) → takes part s ≡ false → after_step h t s ≡ h
 unfolding takes
 idle part h t s left = ap (λ g. cond (s.thread == t) g h) (idle-event h s.event (left-page part (page_in s.event) left)) ∙ cond-same (s.thread == t) h
 
@@ -55,7 +53,7 @@ other-word : (part : PartView) (word w : ℕ) (a b : WordState) (same : Bool) �
 other-word part word w a b true is left has = absurd (let known : word ≡ w = eqb-true word w is in let page : has_page part (page_of word) ≡ has_page part (page_of w) = ap (λ v. has_page part (page_of v)) known in cc)
 other-word part word w a b false is left has = refl
 
-one-page : (lo hi w : ℕ) → lo ≤ w → w ≤ hi → lo / 1024 ≡ hi / 1024 → w / 1024 ≡ lo / 1024
+pub one-page : (lo hi w : ℕ) → lo ≤ w → w ≤ hi → lo / 1024 ≡ hi / 1024 → w / 1024 ≡ lo / 1024
 one-page lo hi w above below same = omega arith
 
 other-range : (part : PartView) (range : PageRange) (w : ℕ) (b : WordState) (within : Bool) → is_within w range ≡ within → has_page part (page_of range.lo) ≡ false → has_page part (page_of w) ≡ true
@@ -71,7 +69,7 @@ other-access : (part : PartView) (before : WordState) (w t word : ℕ) (kind : K
 other-access part before w t word kind cover true left has = refl
 other-access part before w t word kind cover false left has = other-word part word w (advanced before t kind cover) before (word == w) refl left has
 
-other-event : (part : PartView) (h : Holdings) (before : WordState) (w t : ℕ) (e : Event) → takes_page part (page_in e) ≡ false → has_page part (page_of w) ≡ true
+pub other-event : (part : PartView) (h : Holdings) (before : WordState) (w t : ℕ) (e : Event) → takes_page part (page_in e) ≡ false → has_page part (page_of w) ≡ true
     → state_after h before w (record { thread = t; event = e }) ≡ before
 other-event part h before w t (Access kind word site) left has = other-access part before w t word kind (locks_for h kind) (nat_lt 0 h.depth) left has
 other-event part h before w t (Reuse range) left has = other-range part range w before (is_within w range) refl left has
@@ -84,7 +82,7 @@ other-event part h before w t (Level n) left has = refl
 other-event part h before w t (Sync sync) left has = refl
 
 -- a step that is kept is answered by the words of the part alone
-own-event : (part : PartView) (h : Holdings) (f g : ℕ → WordState) (t : ℕ) (e : Event) → takes_page part (page_in e) ≡ true
+pub own-event : (part : PartView) (h : Holdings) (f g : ℕ → WordState) (t : ℕ) (e : Event) → takes_page part (page_in e) ≡ true
     → ((w : ℕ) → has_page part (page_of w) ≡ true → f w ≡ g w)
     → answered h f (record { thread = t; event = e }) ≡ answered h g (record { thread = t; event = e })
 own-event part h f g t (Access kind word site) own same = rw (same word own) refl

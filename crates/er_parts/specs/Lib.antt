@@ -1,3 +1,4 @@
 pub mod Given
 pub mod Merged
+pub mod Ordered
 pub mod Parts

@@ -1,5 +1,5 @@
 -- Reports of parts, merged into one.
-use Rattle.std.specs.Prelude.{ℕ, ◌==◌, nat_le, nat_lt, Bool, ◌&&◌, ◌||◌, cond, List, [], ◌∷◌, flat_map, length, map, slice_index, sum, Option, None}
+use Rattle.std.specs.Prelude.{ℕ, ◌≡◌, ◌≤◌, ◌==◌, nat_le, nat_lt, Bool, ◌&&◌, ◌||◌, cond, List, [], ◌∷◌, count_by, flat_map, length, map, slice_index, sum, Option, None}
 use Rattle.std.specs.List.{range_with_len}
 use Rattle.er_report.specs.Lines.{LineView, RacedView, RefusedView, ShownView}
 use Rattle.er_report.specs.Report.{Summary}
@@ -59,3 +59,7 @@ merged reports =
       refused = sum (map (λ report. report.refused) reports);
       lost = lost_in reports;
     }
+
+-- each of so many parts is in the list, once
+abbrev pub HasEachPart : ℕ → List ℕ → Type 0
+HasEachPart count parts = (i : ℕ) → 1 ≤ i → i ≤ count → count_by (λ part. i == part) parts ≡ 1

@@ -1,9 +1,17 @@
 //! The laws of parts: each function does nothing, and its contract is proved of the definitions.
-ghost use Rattle.std.specs.Prelude.{◌≡◌, ℕ, true, List, filter};
+ghost use Rattle.std.specs.List.{range_with_len};
+ghost use Rattle.std.specs.Prelude.{◌≡◌, ◌≤◌, ℕ, Bool, true, List, filter, map};
 ghost use Rattle.er_event.specs.Span.{page_of};
 ghost use Rattle.er_event.specs.declared.steps.Step.{Step};
 ghost use Rattle.er_model.specs.Answers.{answers, state_end};
 ghost use Rattle.er_model.specs.Holdings.{holdings_end};
+ghost use Rattle.er_report.specs.Report.{report_of};
+ghost use Rattle.er_rules.specs.Rules.{Target};
+ghost use Rattle.er_text.specs.Trace.{IsTrace};
+ghost use Rattle.er_trace.specs.Trace.{Recording};
+ghost use Rattle.er_parts.specs.Given.{part_report};
+ghost use Rattle.er_parts.specs.Merged.{HasEachPart, merged};
+ghost use Rattle.er_parts.specs.Ordered.{IsOrdered};
 ghost use Rattle.er_parts.specs.Parts.{PartView, has_page, kept_beside, takes};
 
 /// What a part keeps is answered as it is among all steps, and leaves each thread and each word of the part as all steps do.
@@ -12,4 +20,17 @@ pub fn a_part_answers_as_the_whole()
     ensures holdings { (part : PartView) (steps : List Step) (t : ℕ) → holdings_end (filter (takes part) steps) t ≡ holdings_end steps t }
     ensures states { (part : PartView) (steps : List Step) (w : ℕ) → has_page part (page_of w) ≡ true
         → state_end (filter (takes part) steps) w ≡ state_end steps w }
+{}
+
+/// The reports of all parts of a recording, merged in whatever order they are in, are the report of the recording: without reasons and with them.
+pub fn parts_make_the_whole()
+    ensures any_order { (r : Recording) (rules : List Target) (explain : Bool) (n : ℕ) (parts : List ℕ) → IsOrdered r → 1 ≤ n → HasEachPart n parts
+        → merged (map (λ i. part_report (Some (record { index = i; count = n })) r rules explain) parts) ≡ report_of r rules explain None }
+    ensures in_turn { (r : Recording) (rules : List Target) (explain : Bool) (n : ℕ) → IsOrdered r → 1 ≤ n
+        → merged (map (λ i. part_report (Some (record { index = i; count = n })) r rules explain) (range_with_len 1 n)) ≡ report_of r rules explain None }
+{}
+
+/// The recording of a text is in the order of the text.
+pub fn a_trace_is_ordered()
+    ensures { (text : List ℕ) (limit : ℕ) (r : Recording) → IsTrace text limit r → IsOrdered r }
 {}
