@@ -1,0 +1,17 @@
+//! One trace on many machines: which steps each of several parts answers.
+//!
+//! Begin with [`Part`]. It says which steps of a trace are of use to one of so many parts, and keeps these alone. What a word is answered depends on
+//! its own accesses and the locks of their threads, so a part needs the accesses of its own pages and every event that is of no page.
+//!
+//! What it promises, by the names of clauses: a part keeps the steps that `kept` names, each with its line and its site (`kept`).
+//!
+//! ```
+//! // Pages 0, 4, 8 .. are those of the first of four parts. The word at 0x1000 is on page 1.
+//! let part = Part::new(1, 4)?;
+//! part.keep(&mut steps, &mut lines, &mut sites);
+//! ```
+#![tactic(auto)]
+
+pub use part::Part;
+
+mod part;
