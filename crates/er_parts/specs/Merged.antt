@@ -1,5 +1,5 @@
 -- Reports of parts, merged into one.
-use Rattle.std.specs.Prelude.{ℕ, ◌+◌, ◌==◌, nat_le, nat_lt, Bool, ◌&&◌, ◌||◌, cond, List, [], ◌∷◌, flat_map, length, map, slice_index, sum, Option, Some, None}
+use Rattle.std.specs.Prelude.{ℕ, ◌==◌, nat_le, nat_lt, Bool, ◌&&◌, ◌||◌, cond, List, [], ◌∷◌, flat_map, length, map, slice_index, sum, Option, None}
 use Rattle.std.specs.List.{range_with_len}
 use Rattle.er_report.specs.Lines.{LineView, RacedView, RefusedView, ShownView}
 use Rattle.er_report.specs.Report.{Summary}

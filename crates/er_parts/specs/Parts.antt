@@ -1,13 +1,10 @@
 -- Parts of a recording. Pages are dealt out to so many parts, and each part answers the accesses, reuses and shows of its own pages. Every part
 -- follows the other events; the first part answers these too.
-use Rattle.std.specs.Prelude.{ℕ, ◌+◌, ◌%◌, ◌==◌, Bool, true, false, not, cond, List, [], ◌∷◌, filter, count_by, Option, Some, None, is_some}
+use Rattle.std.specs.Prelude.{ℕ, ◌+◌, ◌%◌, ◌==◌, Bool, true, cond, List, [], ◌∷◌, filter, Option, Some, None, is_some}
 use Rattle.er_event.specs.Span.{page_of}
 use Rattle.er_event.specs.declared.steps.Event.{Event}
 use Rattle.er_event.specs.declared.steps.Event.TheVariants.{Access, Reuse, Show}
 use Rattle.er_event.specs.declared.steps.Step.{Step}
-use Rattle.er_report.specs.Lines.{LineView, RacedView, RefusedView, ShownView}
-use Rattle.er_report.specs.Report.{Summary, report_of}
-use Rattle.er_rules.specs.Rules.{Target}
 use Rattle.er_trace.specs.Trace.{Recording}
 
 -- which part it is, counted from 1, and of how many
@@ -36,8 +33,8 @@ unfoldable pub takes : PartView → Step → Bool
 takes part step = takes_page part (page_in step.event)
 
 -- of what stands beside steps, what stands beside those that are of use to the part
-unfoldable pub kept_beside : PartView → List Step → List ℕ → List ℕ
-kept_beside part (step ∷ steps) (number ∷ numbers) = cond (takes part step) (number ∷ kept_beside part steps numbers) (kept_beside part steps numbers)
+unfoldable pub kept_beside : {A : Type 0} → PartView → List Step → List A → List A
+kept_beside part (step ∷ steps) (a ∷ others) = cond (takes part step) (a ∷ kept_beside part steps others) (kept_beside part steps others)
 kept_beside part _ _ = []
 
 -- the recording with the steps alone that are of use to the part, each with its line and site; without a part the recording itself
@@ -48,19 +45,3 @@ kept (Some part) r = record r { steps = filter (takes part) r.steps; lines = kep
 -- the step is an access, a reuse or a show
 unfoldable pub is_of_page : Step → Bool
 is_of_page step = is_some (page_in step.event)
-
--- the line tells a refused step
-abbrev pub is_refusal : LineView → Bool
-is_refusal (RefusedView number step refusal) = true
-is_refusal (RacedView race) = false
-is_refusal (ShownView number word state) = false
-
--- a report of the steps that are kept, as a part gives it: the first part all of it, and another one without what it says of the steps of no page
-abbrev pub given_by : Option PartView → List Step → Summary → Summary
-given_by None steps report = report
-given_by (Some part) steps report =
-    cond (part.index == 1) report (record report { lines = filter (λ line. not (is_refusal line)) report.lines; steps = count_by is_of_page steps; refused = 0 })
-
--- the report that a part gives of the recording, under these rules, with reasons or without; without a part the report of the recording
-abbrev pub part_report : Option PartView → Recording → List Target → Bool → Summary
-part_report part r rules explain = given_by part (kept part r).steps (report_of (kept part r) rules explain None)

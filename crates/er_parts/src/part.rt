@@ -1,6 +1,6 @@
 //! Which part of a trace is replayed.
-ghost use Rattle.std.specs.Prelude.{◌≡◌, ◌≤◌, ◌<◌, ◌×◌, ℕ, filter, IfSome, IsSome, length};
-ghost use Rattle.er_parts.specs.Parts.{kept_beside, takes, is_of_page};
+ghost use Rattle.std.specs.Prelude.{◌≡◌, ◌≤◌, ◌==◌, ◌↔◌, filter, IfSome, IsSome, length};
+ghost use Rattle.er_parts.specs.Parts.{has_page, kept_beside, page_in, takes};
 
 use er_event::{Event, Site, Step};
 use std::marker::Model;
@@ -56,10 +56,76 @@ impl Part {
         self.count
     }
 
-    /// Whether the part is the one that also answers the events that are of no page.
+    /// Whether it also answers the events that are of no page.
     pub fn is_first(self) -> bool
         ensures { result ≡ (self.index == 1) }
     {
         self.index == 1
+    }
+
+    /// Whether the step is of use to the part: it is of no page, or of one of its pages.
+    #[tactic(auto, unfolding(crate::specs::Parts::takes))]
+    pub fn takes(self, step: &Step) -> bool
+        ensures { result ≡ takes self step.now }
+    {
+        match page_in(step.event) {
+            Some(page) => self.has_page(page),
+            None => true,
+        }
+    }
+
+    /// Keeps the steps that are of use to the part, and what stands beside these, in place.
+    pub fn keep(self, steps: &mut Vec<Step>, lines: &mut Vec<u64>, sites: &mut Vec<Site>)
+        requires lines { length lines.old.items ≡ length steps.old.items }
+        requires sites { length sites.old.items ≡ length steps.old.items }
+        ensures steps { steps.new.items ≡ filter (takes self) steps.old.items }
+        ensures lines { lines.new.items ≡ kept_beside self steps.old.items lines.old.items }
+        ensures sites { sites.new.items ≡ kept_beside self steps.old.items sites.old.items }
+    {
+        self.keep_beside(steps, lines);
+        self.keep_beside(steps, sites);
+        steps.retain(
+            |step| -> bool
+                ensures { result ≡ takes self step.now }
+            { self.takes(step) },
+        );
+    }
+
+    fn has_page(self, page: u64) -> bool
+        ensures { result ≡ has_page self page }
+    {
+        page % self.count + 1 == self.index
+    }
+
+    // Of what stands beside the steps, keeps what stands beside those that are of use.
+    fn keep_beside<T: Copy>(self, steps: &[Step], others: &mut Vec<T>)
+        requires { length others.old.items ≡ length steps.now }
+        ensures { others.new.items ≡ kept_beside self steps.now others.old.items }
+    {
+        let mut kept = 0;
+        for (i, step) in steps.iter().enumerate() {
+            let other = others[i];
+            if self.takes(step) {
+                others[kept] = other;
+                kept += 1;
+            }
+        }
+        others.truncate(kept);
+    }
+}
+
+// The page of an access, a reuse or a show; another event is of none.
+fn page_in(event: Event) -> Option<u64>
+    ensures { result ≡ page_in event }
+{
+    match event {
+        Event::Access(_, word, _) | Event::Show(word) => Some(word.page()),
+        Event::Reuse(range) => Some(range.page()),
+        Event::Acquire(..)
+        | Event::Release(..)
+        | Event::IgnoreOn
+        | Event::IgnoreOff
+        | Event::Level(_)
+        | Event::Sync(_) => None,
     }
 }

@@ -1,0 +1,76 @@
+-- What is kept of two pieces is what is kept of each, and how a loop keeps it in place.
+use Rattle.std.proofs.Common.{◌≡◌, ◌+◌, ◌<◌, ◌≤◌, ℕ, Bool, true, false, cond, List, [], ◌∷◌, ◌++◌, length, take, drop, set, get_or, refl, sym, ap, ◌∙◌, arith}
+use Rattle.std.proofs.lemmas.List.{append-nil, drop-drop, drop-set-lt, get_or-drop, length-set, length-take-le, take_more, take_more_set}
+use Rattle.er_event.specs.declared.steps.Step.{Step}
+use Rattle.er_parts.specs.Parts.{PartView, kept_beside, takes}
+
+-- with one more at the front, by whether its step is of use
+front : {A : Type 0} (b : Bool) (x : A) (xs ys : List A) → cond b (x ∷ (xs ++ ys)) (xs ++ ys) ≡ cond b (x ∷ xs) xs ++ ys
+front true x xs ys = refl
+front false x xs ys = refl
+
+pub kept-append : {A : Type 0} (part : PartView) (steps more : List Step) (xs ys : List A) → length xs ≡ length steps
+    → kept_beside part (steps ++ more) (xs ++ ys) ≡ kept_beside part steps xs ++ kept_beside part more ys
+unfolding kept_beside
+kept-append part [] more [] ys long = refl
+kept-append part [] more (x ∷ xs) ys long = absurd (omega (arith, long))
+kept-append part (s ∷ steps) more [] ys long = absurd (omega (arith, long))
+kept-append part (s ∷ steps) more (x ∷ xs) ys long =
+    let rest : length xs ≡ length steps = omega (arith, long) in
+    ap (λ zs. cond (takes part s) (x ∷ zs) zs) (kept-append part steps more xs ys rest)
+    ∙ front (takes part s) x (kept_beside part steps xs) (kept_beside part more ys)
+
+-- one step is kept or not
+kept-single : {A : Type 0} (part : PartView) (s : Step) (x : A) → kept_beside part (s ∷ []) (x ∷ []) ≡ cond (takes part s) (x ∷ []) []
+unfolding kept_beside
+kept-single part s x = refl
+
+pub kept-next : {A : Type 0} (part : PartView) (steps : List Step) (xs : List A) (i : ℕ) (s : Step) (x : A) → length xs ≡ length steps → i < length steps
+    → s ≡ get_or steps i s → x ≡ get_or xs i x
+    → kept_beside part (take (i + 1) steps) (take (i + 1) xs) ≡ kept_beside part (take i steps) (take i xs) ++ cond (takes part s) (x ∷ []) []
+kept-next part steps xs i s x long below step this =
+    let here : i < length xs = omega (arith, long, below) in
+    let same : length (take i xs) ≡ length (take i steps) = length-take-le i xs (omega (arith, here)) ∙ sym (length-take-le i steps (omega (arith, below))) in
+    ap (λ zs. kept_beside part zs (take (i + 1) xs)) (take_more steps i s below ∙ ap (λ s. take i steps ++ s ∷ []) (sym step))
+    ∙ ap (λ zs. kept_beside part (take i steps ++ s ∷ []) zs) (take_more xs i x here ∙ ap (λ x. take i xs ++ x ∷ []) (sym this))
+    ∙ kept-append part (take i steps) (s ∷ []) (take i xs) (x ∷ []) same
+    ∙ ap (λ zs. kept_beside part (take i steps) (take i xs) ++ zs) (kept-single part s x)
+
+-- lists that are the same from a place on
+same-next : {A : Type 0} (i : ℕ) (xs ys : List A) → drop i xs ≡ drop i ys → drop (i + 1) xs ≡ drop (i + 1) ys
+same-next i xs ys same = sym (drop-drop 1 i xs) ∙ ap (drop 1) same ∙ drop-drop 1 i ys
+
+same-first : {A : Type 0} (i : ℕ) (xs ys : List A) (d : A) → drop i xs ≡ drop i ys → get_or xs i d ≡ get_or ys i d
+same-first i xs ys d same =
+    let at : i + 0 ≡ i = omega arith in
+    ap (λ j. get_or xs j d) (sym at) ∙ sym (get_or-drop i xs 0 d) ∙ ap (λ zs. get_or zs 0 d) same ∙ get_or-drop i ys 0 d ∙ ap (λ j. get_or ys j d) at
+
+-- what the loop keeps true when it has come to place i and kept so many
+abbrev pub IsKept : {A : Type 0} → PartView → List Step → List A → List A → ℕ → ℕ → Type 0
+IsKept part steps old items kept i =
+    (kept ≤ i) × (length items ≡ length steps) × (take kept items ≡ kept_beside part (take i steps) (take i old)) × (drop i items ≡ drop i old)
+
+module _ {A : Type 0} (part : PartView) (steps : List Step) (old items : List A) (kept i : ℕ) (s : Step) (x : A)
+    (long : length old ≡ length steps) (below : i < length steps) (step : s ≡ get_or steps i s) (this : x ≡ get_or items i x)
+    (so_far : IsKept part steps old items kept i) where
+  this-old : IsKept part steps old items kept i → x ≡ get_or old i x
+  this-old f = this ∙ same-first i items old x f.3
+
+  pub kept-then : takes part s ≡ true → IsKept part steps old (set items kept x) (kept + 1) (i + 1)
+  kept-then taken =
+      let within : kept < length items = (let l : length items ≡ length steps = so_far.1 in let k : kept ≤ i = so_far.0 in omega (arith, below)) in (
+        (let k : kept ≤ i = so_far.0 in omega (arith, k)),
+        length-set items kept x ∙ so_far.1,
+        take_more_set items kept x within ∙ ap (λ zs. zs ++ x ∷ []) so_far.2
+            ∙ sym (kept-next part steps old i s x long below step (this-old so_far) ∙ ap (λ b. kept_beside part (take i steps) (take i old) ++ cond b (x ∷ []) []) taken),
+        drop-set-lt (i + 1) items kept x (let k : kept ≤ i = so_far.0 in omega (arith, k)) ∙ same-next i items old so_far.3,
+      )
+
+  pub kept-else : takes part s ≡ false → IsKept part steps old items kept (i + 1)
+  kept-else left = (
+    (let k : kept ≤ i = so_far.0 in omega (arith, k)),
+    so_far.1,
+    so_far.2 ∙ sym (append-nil (kept_beside part (take i steps) (take i old)))
+        ∙ sym (kept-next part steps old i s x long below step (this-old so_far) ∙ ap (λ b. kept_beside part (take i steps) (take i old) ++ cond b (x ∷ []) []) left),
+    same-next i items old so_far.3,
+  )
