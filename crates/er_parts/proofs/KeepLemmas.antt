@@ -1,6 +1,9 @@
 -- What is kept of two pieces is what is kept of each, and how a loop keeps it in place.
-use Rattle.std.proofs.Common.{◌≡◌, ◌+◌, ◌<◌, ◌≤◌, ℕ, Bool, true, false, cond, List, [], ◌∷◌, ◌++◌, length, take, drop, set, get_or, refl, sym, ap, ◌∙◌, arith}
-use Rattle.std.proofs.lemmas.List.{append-nil, drop-drop, drop-set-lt, get_or-drop, length-set, length-take-le, take_more, take_more_set}
+use Rattle.std.proofs.Common.{suc, ◌≡◌, ◌+◌, ◌<◌, ◌≤◌, ℕ, Bool, true, false, cond, List, [], ◌∷◌, ◌++◌, length, take, drop, set, get_or, refl, sym, ap, ◌∙◌, arith}
+use Rattle.std.proofs.lemmas.List.{append-nil, drop-drop, drop-set-lt, get_or-drop, length-append, length-set, length-take-le, take_more, take_more_set}
+use Rattle.std.proofs.lemmas.List.Elements.{All-cons, All-head, All-nil, All-tail, filter-append}
+use Rattle.std.proofs.lemmas.List.Sums.{length-filter}
+use Rattle.std.specs.List.{All, count_by, filter}
 use Rattle.er_event.specs.declared.steps.Step.{Step}
 use Rattle.er_parts.specs.Parts.{PartView, kept_beside, takes}
 
@@ -74,3 +77,31 @@ module _ {A : Type 0} (part : PartView) (steps : List Step) (old items : List A)
         ∙ sym (kept-next part steps old i s x long below step (this-old so_far) ∙ ap (λ b. kept_beside part (take i steps) (take i old) ++ cond b (x ∷ []) []) left),
     same-next i items old so_far.3,
   )
+
+-- each that is kept is one of the others
+all-by : {A : Type 0} (P : A → Type 0) (b : Bool) (x : A) (xs : List A) → P x → All P xs → All P (cond b (x ∷ xs) xs)
+all-by P true x xs this all = All-cons P x xs this all
+all-by P false x xs this all = all
+
+pub kept-all : {A : Type 0} (P : A → Type 0) (part : PartView) (steps : List Step) (xs : List A) → All P xs → All P (kept_beside part steps xs)
+unfolding kept_beside
+kept-all P part [] xs all = All-nil P
+kept-all P part (s ∷ steps) [] all = All-nil P
+kept-all P part (s ∷ steps) (x ∷ xs) all = all-by P (takes part s) x (kept_beside part steps xs) (All-head P x xs all) (kept-all P part steps xs (All-tail P x xs all))
+
+-- and there are as many as steps that are kept
+long-by : {A : Type 0} (b : Bool) (x : A) (xs : List A) (s : Step) (steps : List Step) → length xs ≡ length steps → length (cond b (x ∷ xs) xs) ≡ length (cond b (s ∷ steps) steps)
+long-by true x xs s steps same = ap suc same
+long-by false x xs s steps same = same
+
+pub kept-long : {A : Type 0} (part : PartView) (steps : List Step) (xs : List A) → length xs ≡ length steps → length (kept_beside part steps xs) ≡ length (filter (takes part) steps)
+unfolding kept_beside
+kept-long part [] [] long = refl
+kept-long part [] (x ∷ xs) long = absurd (omega (arith, long))
+kept-long part (s ∷ steps) [] long = absurd (omega (arith, long))
+kept-long part (s ∷ steps) (x ∷ xs) long = long-by (takes part s) x (kept_beside part steps xs) s (filter (takes part) steps) (kept-long part steps xs (omega (arith, long)))
+
+pub count-append : {A : Type 0} (p : A → Bool) (xs ys : List A) → count_by p (xs ++ ys) ≡ count_by p xs + count_by p ys
+count-append p xs ys =
+    sym (length-filter p (xs ++ ys)) ∙ ap length (filter-append p xs ys) ∙ length-append (filter p xs) (filter p ys)
+    ∙ ap (λ n. n + length (filter p ys)) (length-filter p xs) ∙ ap (λ n. count_by p xs + n) (length-filter p ys)

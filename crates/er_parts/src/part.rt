@@ -1,6 +1,6 @@
 //! Which part of a trace is replayed.
-ghost use Rattle.std.specs.Prelude.{◌≡◌, ◌≤◌, ◌==◌, ◌↔◌, filter, IfSome, IsSome, length};
-ghost use Rattle.er_parts.specs.Parts.{has_page, kept_beside, page_in, takes};
+ghost use Rattle.std.specs.Prelude.{◌≡◌, ◌≤◌, ◌==◌, ◌↔◌, count_by, filter, IfSome, IsSome, length};
+ghost use Rattle.er_parts.specs.Parts.{has_page, is_of_page, kept_beside, page_in, takes};
 
 use er_event::{Event, Site, Step};
 use std::marker::Model;
@@ -74,13 +74,19 @@ impl Part {
         }
     }
 
-    /// Keeps the steps that are of use to the part, and what stands beside these, in place.
-    pub fn keep(self, steps: &mut Vec<Step>, lines: &mut Vec<u64>, sites: &mut Vec<Site>)
+    /// Keeps the steps that are of use to the part, and what stands beside these, in place. Returns how many of them are accesses, reuses or shows.
+    pub fn keep(
+        self,
+        steps: &mut Vec<Step>,
+        lines: &mut Vec<u64>,
+        sites: &mut Vec<Site>,
+    ) -> u64
         requires lines { length lines.old.items ≡ length steps.old.items }
         requires sites { length sites.old.items ≡ length steps.old.items }
         ensures steps { steps.new.items ≡ filter (takes self) steps.old.items }
         ensures lines { lines.new.items ≡ kept_beside self steps.old.items lines.old.items }
         ensures sites { sites.new.items ≡ kept_beside self steps.old.items sites.old.items }
+        ensures counted { result ≡ count_by is_of_page steps.new.items }
     {
         self.keep_beside(steps, lines);
         self.keep_beside(steps, sites);
@@ -89,6 +95,7 @@ impl Part {
                 ensures { result ≡ takes self step.now }
             { self.takes(step) },
         );
+        count_of_pages(steps)
     }
 
     fn has_page(self, page: u64) -> bool
@@ -112,6 +119,21 @@ impl Part {
         }
         others.truncate(kept);
     }
+}
+
+// How many of the steps are accesses, reuses or shows.
+fn count_of_pages(steps: &[Step]) -> u64
+    ensures { result ≡ count_by is_of_page steps.now }
+{
+    steps.iter().filter(|step| is_of_page(step)).count() as u64
+}
+
+// Whether the step is an access, a reuse or a show.
+#[tactic(auto, unfolding(crate::specs::Parts::is_of_page))]
+fn is_of_page(step: &Step) -> bool
+    ensures { result ≡ is_of_page step.now }
+{
+    page_in(step.event).is_some()
 }
 
 // The page of an access, a reuse or a show; another event is of none.
