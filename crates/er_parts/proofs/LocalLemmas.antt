@@ -112,18 +112,18 @@ module _ (part : PartView) (past : List Step) (s : Step) (alike : IsAlike part p
   alike-by true own =
       record {
         holdings = λ t. ap (λ steps. holdings_end steps t) (kept-one true own) ∙ holdings-grow (filter (takes part) past) s t
-          ∙ ap (λ h. after_step h t s) (alike.holdings t) ∙ sym (holdings-grow past s t);
+            ∙ ap (λ h. after_step h t s) (alike.holdings t) ∙ sym (holdings-grow past s t);
         states = λ w has. ap (λ steps. state_end steps w) (kept-one true own) ∙ state-grow (filter (takes part) past) s w
-          ∙ ap (λ h. state_after h (state_end (filter (takes part) past) w) w s) (alike.holdings s.thread)
-          ∙ ap (λ before. state_after (holdings_end past s.thread) before w s) (alike.states w has)
-          ∙ sym (state-grow past s w);
+            ∙ ap (λ h. state_after h (state_end (filter (takes part) past) w) w s) (alike.holdings s.thread)
+            ∙ ap (λ before. state_after (holdings_end past s.thread) before w s) (alike.states w has)
+            ∙ sym (state-grow past s w);
       }
   alike-by false left =
       record {
         holdings = λ t. ap (λ steps. holdings_end steps t) (kept-one false left ∙ append-nil (filter (takes part) past)) ∙ alike.holdings t
-          ∙ sym (idle part (holdings_end past t) t s left) ∙ sym (holdings-grow past s t);
+            ∙ sym (idle part (holdings_end past t) t s left) ∙ sym (holdings-grow past s t);
         states = λ w has. ap (λ steps. state_end steps w) (kept-one false left ∙ append-nil (filter (takes part) past)) ∙ alike.states w has
-          ∙ sym (other-event part (holdings_end past s.thread) (state_end past w) w s.thread s.event left has) ∙ sym (state-grow past s w);
+            ∙ sym (other-event part (holdings_end past s.thread) (state_end past w) w s.thread s.event left has) ∙ sym (state-grow past s w);
       }
 
   alike-next : IsAlike part (past ++ s ∷ [])

@@ -75,12 +75,7 @@ impl Part {
     }
 
     /// Keeps the steps that are of use to the part, and what stands beside these, in place. Returns how many of them are accesses, reuses or shows.
-    pub fn keep(
-        self,
-        steps: &mut Vec<Step>,
-        lines: &mut Vec<u64>,
-        sites: &mut Vec<Site>,
-    ) -> u64
+    pub fn keep(self, steps: &mut Vec<Step>, lines: &mut Vec<u64>, sites: &mut Vec<Site>) -> u64
         requires lines { length lines.old.items ≡ length steps.old.items }
         requires sites { length sites.old.items ≡ length steps.old.items }
         ensures steps { steps.new.items ≡ filter (takes self) steps.old.items }
