@@ -18,6 +18,8 @@ use Rattle.er_merge.specs.declared.faults.MergeFault.{MergeFault}
 use Rattle.er_merge.specs.declared.faults.MergeFault.TheVariants.{Line, Other, Twice, Missing, CountsTooLarge, Memory}
 use Rattle.er_merge.specs.declared.merging.Figure.{Figure}
 use Rattle.er_merge.specs.declared.merging.Figure.TheVariants.{Steps, Races, Suppressed, Refused, Rule}
+use Rattle.er_merge.specs.declared.merging.Gap.{Gap}
+use Rattle.er_merge.specs.declared.merging.Gap.TheVariants as gap
 use Rattle.er_merge.specs.declared.merging.Merged.{Merged}
 use Rattle.er_merge.specs.declared.parts.Entry.{Entry}
 use Rattle.er_merge.specs.declared.parts.PartReport.{PartReport}
@@ -53,11 +55,11 @@ is_like first part =
     && nat_eq first.content.totals.lost part.content.totals.lost
 
 -- the first that is not, numbered from here
-abbrev pub other_from : ℕ → PartReport → List PartReport → Option MergeFault
+abbrev pub other_from : ℕ → PartReport → List PartReport → Option ℕ
 other_from number first [] = None
-other_from number first (part ∷ parts) = if is_like first part then other_from (number + 1) first parts else Some (Other number)
+other_from number first (part ∷ parts) = if is_like first part then other_from (number + 1) first parts else Some number
 
-abbrev pub other_in : List PartReport → Option MergeFault
+abbrev pub other_in : List PartReport → Option ℕ
 other_in [] = None
 other_in (first ∷ others) = other_from 2 first others
 
@@ -69,17 +71,17 @@ abbrev pub places_of : List PartReport → List ℕ
 places_of parts = map (λ (part : PartReport). part.heading.part) parts
 
 -- of rising numbers, which should be those from this one on up to the number of parts: the first that is there twice or missing
-abbrev pub gap_from : ℕ → ℕ → List ℕ → Option MergeFault
-gap_from parts next [] = if nat_le next parts then Some (Missing next) else None
+abbrev pub gap_from : ℕ → ℕ → List ℕ → Option Gap
+gap_from parts next [] = if nat_le next parts then Some (gap.Missing next) else None
 gap_from parts next (place ∷ places) =
-    if nat_lt place next then Some (Twice place) else if nat_lt next place then Some (Missing next) else gap_from parts (next + 1) places
+    if nat_lt place next then Some (gap.Twice place) else if nat_lt next place then Some (gap.Missing next) else gap_from parts (next + 1) places
 
 -- the same of numbers in any order
-pub record IsPlaceFault (parts : ℕ) (places : List ℕ) (fault : Option MergeFault) : Type 0 where
+pub record IsGap (parts : ℕ) (places : List ℕ) (gap : Option Gap) : Type 0 where
   pub rising : List ℕ
   pub permutation : IsPermutation places rising
   pub sorted : IsNonDecreasing rising
-  pub is : fault ≡ gap_from parts 1 rising
+  pub is : gap ≡ gap_from parts 1 rising
 
 -- what a report counts
 abbrev pub figure_of : Figure → PartReport → ℕ
@@ -179,7 +181,7 @@ pub record GivesText (parts : List PartReport) (end : Report) (text : List ℕ) 
 -- each part is there once, all are of one trace, and this is the text of their lines in their order, and then of their sums
 pub record IsMerged (parts : List PartReport) (merged : Merged) : Type 0 where
   pub like : other_in parts ≡ None
-  pub each : IsPlaceFault (number_of_parts parts) (places_of parts) None
+  pub each : IsGap (number_of_parts parts) (places_of parts) None
   pub entries : List Entry
   pub order : IsInOrder (flat_map entries_in parts) entries
   pub text : merged.text.items ≡ flat_map entry_text entries ++ end_text (kind_of parts) (sums_of parts)
@@ -188,10 +190,10 @@ pub record IsMerged (parts : List PartReport) (merged : Merged) : Type 0 where
 -- why these reports make no one report
 abbrev pub Refuses : List PartReport → MergeFault → Type 0
 Refuses parts (Line number line fault) = ⊥
-Refuses parts (Other number) = other_in parts ≡ Some (Other number)
-Refuses parts (Twice part) = (other_in parts ≡ None) × IsPlaceFault (number_of_parts parts) (places_of parts) (Some (Twice part))
-Refuses parts (Missing part) = (other_in parts ≡ None) × IsPlaceFault (number_of_parts parts) (places_of parts) (Some (Missing part))
-Refuses parts CountsTooLarge = (other_in parts ≡ None) × IsPlaceFault (number_of_parts parts) (places_of parts) None × HasLargeSum parts
+Refuses parts (Other number) = other_in parts ≡ Some number
+Refuses parts (Twice part) = (other_in parts ≡ None) × IsGap (number_of_parts parts) (places_of parts) (Some (gap.Twice part))
+Refuses parts (Missing part) = (other_in parts ≡ None) × IsGap (number_of_parts parts) (places_of parts) (Some (gap.Missing part))
+Refuses parts CountsTooLarge = (other_in parts ≡ None) × IsGap (number_of_parts parts) (places_of parts) None × HasLargeSum parts
 Refuses parts Memory = Unit {0}
 
 abbrev pub MergesParts : List PartReport → Result Merged MergeFault → Type 0

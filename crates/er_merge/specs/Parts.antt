@@ -1,6 +1,7 @@
 -- The report of one part, by the lines of its text.
-use Rattle.std.specs.Prelude.{◌≡◌, ℕ, zero, suc, ◌+◌, ◌-◌, ◌==◌, ◌||◌, Bool, List, [], ◌∷◌, ◌++◌, Option, Some, None, Result, Ok, Err, length, map, codes, nat_eq, nat_lt, is_some, if◌then◌else◌}
+use Rattle.std.specs.Prelude.{◌≡◌, ℕ, zero, suc, ◌+◌, ◌-◌, ◌<◌, ◌⊎◌, true, false, ◌==◌, ◌||◌, Bool, List, [], ◌∷◌, ◌++◌, Option, Some, None, Result, Ok, Err, length, map, codes, nat_eq, nat_lt, is_some, if◌then◌else◌}
 use Rattle.std.specs.Option.{option_and_then}
+use denote.Ref.{Bor}
 use Rattle.er_lines.specs.Lines.{Line, lines_of}
 use Rattle.er_merge.specs.Lines.{number_behind, report_line}
 use Rattle.er_merge.specs.declared.faults.LineFault.{LineFault}
@@ -152,3 +153,8 @@ Reads view number is (Err (merging.Twice n)) = ⊥
 Reads view number is (Err (merging.Missing n)) = ⊥
 Reads view number is (Err merging.CountsTooLarge) = ⊥
 Reads view number is (Err merging.Memory) = Unit {0}
+
+-- the first line of a text, without its LF, and what follows it; none if the text has no LF
+abbrev pub IsFirstLine : List ℕ → Option (Bor (List ℕ) × Bor (List ℕ)) → Type 0
+IsFirstLine text None = (text ≡ []) ⊎ (lines_of text ≡ record { bytes = text; ended = false } ∷ [])
+IsFirstLine text (Some found) = (lines_of text ≡ record { bytes = found.0.now; ended = true } ∷ lines_of found.1.now) × (length found.1.now < length text)

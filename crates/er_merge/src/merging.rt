@@ -1,7 +1,8 @@
 //! The one report of a trace, of the reports of its parts.
-ghost use Rattle.std.specs.Prelude.{◌≡◌, ◌++◌, ℕ, IfOk, OnOk, flat_map, map, vec_items};
+ghost use Rattle.std.specs.Prelude.{◌≡◌, [], ◌∷◌, ◌++◌, None, IfOk, OnOk, flat_map, map, vec_items};
 ghost use Rattle.std.specs.List.{range_with_len};
-ghost use Rattle.er_merge.specs.Merging.{Sums, GivesSums, EndsAs, GivesText, IsInOrder, IsPlaceFault, Merges, MergesParts, ReadsAll, entries_in, entry_text, figure_of, gap_from, is_like, kind_of, lost_of, number_of_parts, other_in, place_order, places_of, rule_sum, rules_in, text_of_entries};
+ghost use Rattle.er_merge.specs.Merging.{Sums, GivesSums, EndsAs, GivesText, IsInOrder, IsGap, Merges, MergesParts, ReadsAll, entries_in, entry_text, figure_of, gap_from, is_like, kind_of, lost_of, number_of_parts, other_in, place_order, places_of, rule_sum, rules_in, sums_of, text_of_entries};
+ghost use Rattle.er_report.specs.Report.{told};
 ghost use Rattle.er_merge.specs.declared.faults.MergeFault.TheVariants.{Memory};
 
 use crate::faults::MergeFault;
@@ -43,36 +44,69 @@ fn read_parts(alloc: Global, texts: &[Vec<u8>]) -> Result<Vec<PartReport<'_>>, M
 {
     let mut parts = Vec::new(alloc);
     for (place, text) in texts.iter().enumerate() {
-        let part = read_part(alloc, place as u64 + 1, text)?;
-        parts.push(part).map_err(AllocError::from)?;
+        match read_part(alloc, place as u64 + 1, text) {
+            Ok(part) => push_part(&mut parts, part)?,
+            Err(fault) => return Err(fault),
+        }
     }
     Ok(parts)
+}
+
+fn push_part<'a>(parts: &mut Vec<PartReport<'a>>, part: PartReport<'a>) -> Result<(), AllocError>
+    ensures { OnOk result (parts.new.items ≡ parts.old.items ++ part.entry ∷ []) }
+{
+    parts.push(part)?;
+    Ok(())
 }
 
 fn merge_parts(alloc: Global, parts: &[PartReport<'_>]) -> Result<Merged, MergeFault>
     ensures { MergesParts parts.now result }
 {
-    if let Some(fault) = other_in(parts) {
-        return Err(fault);
+    if let Some(number) = other_in(parts) {
+        return Err(MergeFault::Other(number));
     }
-    if let Some(fault) = place_fault(alloc, parts)? {
-        return Err(fault);
+    match gap_of(alloc, parts) {
+        Ok(None) => sum_up(alloc, parts),
+        Ok(Some(Gap::Twice(part))) => Err(MergeFault::Twice(part)),
+        Ok(Some(Gap::Missing(part))) => Err(MergeFault::Missing(part)),
+        Err(_) => Err(MergeFault::Memory),
     }
-    let end = end_of(alloc, parts)?;
+}
+
+fn sum_up(alloc: Global, parts: &[PartReport<'_>]) -> Result<Merged, MergeFault>
+    requires like { other_in parts.now ≡ None }
+    requires each { IsGap (number_of_parts parts.now) (places_of parts.now) None }
+    ensures { MergesParts parts.now result }
+{
+    match end_of(alloc, parts) {
+        Ok(end) => merge_with(alloc, parts, end),
+        Err(fault) => Err(fault),
+    }
+}
+
+fn merge_with(alloc: Global, parts: &[PartReport<'_>], end: Report) -> Result<Merged, MergeFault>
+    requires like { other_in parts.now ≡ None }
+    requires each { IsGap (number_of_parts parts.now) (places_of parts.now) None }
+    requires end { told end ≡ sums_of parts.now }
+    ensures { MergesParts parts.now result }
+{
     let text = text_of(alloc, parts, &end);
     let races = end.races;
     drop(end);
-    Ok(Merged { text: text?, races })
+    match text {
+        Ok(text) => Ok(Merged { text, races }),
+        Err(_) => Err(MergeFault::Memory),
+    }
 }
 
 // The first report that is of another trace than the first.
-fn other_in(parts: &[PartReport<'_>]) -> Option<MergeFault>
+fn other_in(parts: &[PartReport<'_>]) -> Option<u64>
     ensures { result ≡ other_in parts.now }
 {
     let (first, others) = parts.split_first()?;
     for (place, part) in others.iter().enumerate() {
         if !is_like(first, part) {
-            return Some(MergeFault::Other(place as u64 + 2));
+            return Some(place as u64 + 2);
         }
     }
     None
@@ -88,15 +122,30 @@ fn is_like(first: &PartReport<'_>, part: &PartReport<'_>) -> bool
         && first.content.totals.lost == part.content.totals.lost
 }
 
+// What is wrong with the numbers of parts.
+#[derive(Clone, Copy, Drop)]
+enum Gap {
+    // This part is given twice.
+    Twice(u64),
+    // This part is missing.
+    Missing(u64),
+}
+
 // The first part, by its number, that is given twice or missing.
-fn place_fault(alloc: Global, parts: &[PartReport<'_>]) -> Result<Option<MergeFault>, AllocError>
-    ensures { IfOk result (IsPlaceFault (number_of_parts parts.now) (places_of parts.now)) }
+fn gap_of(alloc: Global, parts: &[PartReport<'_>]) -> Result<Option<Gap>, AllocError>
+    ensures { IfOk result (IsGap (number_of_parts parts.now) (places_of parts.now)) }
 {
-    let mut places: Vec<u64> = parts.iter().map(|part| part.heading.part).collect(alloc)?;
+    let mut places = places_of(alloc, parts)?;
     places.sort_unstable();
-    let fault = gap_in(&places, number_of_parts(parts));
+    let gap = gap_in(&places, number_of_parts(parts));
     drop(places);
-    Ok(fault)
+    Ok(gap)
+}
+
+fn places_of(alloc: Global, parts: &[PartReport<'_>]) -> Result<Vec<u64>, AllocError>
+    ensures { IfOk result (λ places. places.items ≡ places_of parts.now) }
+{
+    parts.iter().map(|part| part.heading.part).collect(alloc)
 }
 
 fn number_of_parts(parts: &[PartReport<'_>]) -> u64
@@ -108,20 +157,20 @@ fn number_of_parts(parts: &[PartReport<'_>]) -> u64
     }
 }
 
-fn gap_in(places: &[u64], parts: u64) -> Option<MergeFault>
+fn gap_in(places: &[u64], parts: u64) -> Option<Gap>
     ensures { result ≡ gap_from parts 1 places.now }
 {
     for (before, place) in places.iter().enumerate() {
         let next = before as u64 + 1;
         if *place < next {
-            return Some(MergeFault::Twice(*place));
+            return Some(Gap::Twice(*place));
         }
         if next < *place {
-            return Some(MergeFault::Missing(next));
+            return Some(Gap::Missing(next));
         }
     }
     let next = places.len() as u64 + 1;
-    (next <= parts).then_some(MergeFault::Missing(next))
+    (next <= parts).then_some(Gap::Missing(next))
 }
 
 // What the reports count.
@@ -196,9 +245,16 @@ fn rule_sums(alloc: Global, parts: &[PartReport<'_>], rules: usize) -> Result<Ve
     let mut sums = Vec::new(alloc);
     for place in 0..rules {
         let sum = sum_of(parts, Figure::Rule(place))?;
-        sums.push(sum).map_err(AllocError::from)?;
+        push_sum(&mut sums, sum)?;
     }
     Ok(sums)
+}
+
+fn push_sum(sums: &mut Vec<u64>, sum: u64) -> Result<(), AllocError>
+    ensures { OnOk result (sums.new.items ≡ sums.old.items ++ sum ∷ []) }
+{
+    sums.push(sum)?;
+    Ok(())
 }
 
 fn lost_of(parts: &[PartReport<'_>]) -> Option<u64>

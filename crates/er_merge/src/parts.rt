@@ -1,7 +1,7 @@
 //! The report of one part, read.
 ghost use Rattle.std.specs.Prelude.{◌≡◌, ℕ, List};
 ghost use Rattle.er_lines.specs.Lines.{lines_of};
-ghost use Rattle.er_merge.specs.Parts.{Adds, Reads, body_from, body_view, content_view, empty_body, entry_view, heading_in, part_of, part_view, seen_heading, with_count, with_entry, with_kind, with_line};
+ghost use Rattle.er_merge.specs.Parts.{Adds, IsFirstLine, Reads, body_from, body_view, content_view, empty_body, heading_in, part_of, part_view, seen_heading, with_count, with_entry, with_kind, with_line, whole};
 
 use crate::faults::{LineFault, MergeFault};
 use crate::lines::{Place, ReportLine, Totals, number_behind, report_line};
@@ -117,19 +117,23 @@ impl<'a> Body<'a> {
 }
 
 /// The report of a part, which has this number among the reports that are given.
-#[tactic(auto, unfolding(crate::specs::Parts::part_of))]
-pub(crate) fn read_part(alloc: Global, number: u64, text: &[u8]) -> Result<PartReport<'_>, MergeFault>
+pub(crate) fn read_part(
+    alloc: Global,
+    number: u64,
+    text: &[u8],
+) -> Result<PartReport<'_>, MergeFault>
     ensures { Reads part_view number (part_of text.now) result }
 {
-    let len = line_len(text);
-    if len == text.len() {
-        return Err(MergeFault::Line(number, 1, LineFault::NoPart));
-    }
-    let Some(heading) = heading_in(&text[..len]) else {
+    let Some((line, rest)) = first_line(text) else {
         return Err(MergeFault::Line(number, 1, LineFault::NoPart));
     };
-    let content = read_content(alloc, number, &text[len + 1..])?;
-    Ok(PartReport { heading, content })
+    let Some(heading) = heading_in(line) else {
+        return Err(MergeFault::Line(number, 1, LineFault::NoPart));
+    };
+    match read_content(alloc, number, rest) {
+        Ok(content) => Ok(PartReport { heading, content }),
+        Err(fault) => Err(fault),
+    }
 }
 
 fn heading_in(line: &[u8]) -> Option<Heading<'_>>
@@ -150,31 +154,47 @@ fn read_content(alloc: Global, number: u64, text: &[u8]) -> Result<Content<'_>, 
     let mut body = Body::new(alloc);
     let mut line = 2u64;
     let mut rest = text;
-    while !rest.is_empty() {
-        let len = line_len(rest);
-        if len == rest.len() {
-            return Err(MergeFault::Line(number, line, LineFault::CutOff));
-        }
-        match body.add(&rest[..len]) {
+    while let Some((next, behind)) = first_line(rest) {
+        match body.add(next) {
             Ok(None) => {}
             Ok(Some(fault)) => return Err(MergeFault::Line(number, line, fault)),
             Err(_) => return Err(MergeFault::Memory),
         }
-        rest = &rest[len + 1..];
+        rest = behind;
         line += 1;
     }
+    if !rest.is_empty() {
+        return Err(MergeFault::Line(number, line, LineFault::CutOff));
+    }
+    whole(number, line, body)
+}
+
+fn whole(number: u64, line: u64, body: Body<'_>) -> Result<Content<'_>, MergeFault>
+    ensures { Reads content_view number (whole line (body_view body.entry) body.entry.totals) result }
+{
     let Body {
         entries,
         counts,
         totals,
         ..
     } = body;
-    let Some(totals) = totals else {
-        return Err(MergeFault::Line(number, line, LineFault::CutOff));
-    };
-    Ok(Content {
-        entries,
-        counts,
-        totals,
-    })
+    match totals {
+        Some(totals) => Ok(Content {
+            entries,
+            counts,
+            totals,
+        }),
+        None => Err(MergeFault::Line(number, line, LineFault::CutOff)),
+    }
+}
+
+// The first line, without its line feed, and what follows it.
+fn first_line(text: &[u8]) -> Option<(&[u8], &[u8])>
+    ensures { IsFirstLine text.now result }
+{
+    let len = line_len(text);
+    if len >= text.len() {
+        return None;
+    }
+    Some((&text[..len], &text[len + 1..]))
 }
