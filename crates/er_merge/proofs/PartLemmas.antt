@@ -2,7 +2,7 @@
 use Rattle.std.proofs.Common.{◌≡◌, ◌⊎◌, ℕ, zero, suc, ◌+◌, ◌-◌, ◌<◌, ◌≤◌, Bool, true, false, List, [], ◌∷◌, ◌++◌, length, map, take, get_or, Option, Some, None, Result, Ok, Err, refl, sym, ap, subst, ◌∙◌, inl, inr, arith}
 use Rattle.std.proofs.lemmas.List.{map_push, take_more}
 use Rattle.er_lines.specs.Lines.{Line, lines_of}
-use Rattle.er_merge.specs.Merging.{AreParts, IsFirstFault, ReadsAll}
+use Rattle.er_merge.specs.Merging.{AreParts, FailsToRead, IsFirstFault}
 use Rattle.er_merge.specs.Parts.{BodyView, ContentView, HeadingView, PartView, IsFirstLine, Reads, body_from, content_view, empty_body, go_on, headed, headed_by, heading_in, part_in, part_of, part_view, with_line}
 use Rattle.er_merge.specs.declared.faults.LineFault.{LineFault}
 use Rattle.er_merge.specs.declared.faults.LineFault.TheVariants.{CutOff, NoPart}
@@ -86,11 +86,11 @@ first_fault texts k n line text parts fault number within here before wrong =
     }
 
 -- the first text that is no report
-pub not_read : (A : Type 0) {X : Type 0} (view : X → PartView) (texts : List (List ℕ)) (k : ℕ) (text : List ℕ) (parts : List PartReport) (fault : MergeFault) → k < length texts → get_or texts k [] ≡ text
-    → AreParts (take k texts) parts → Reads view (k + 1) (part_of text) (Err fault) → ReadsAll {A = A} texts (Err fault)
-not_read A view texts k text parts (merging.Line n line fault) within here before wrong = first_fault texts k n line text parts fault wrong.0 within here before wrong.1
-not_read A view texts k text parts (merging.Other n) within here before wrong = wrong
-not_read A view texts k text parts (merging.Twice n) within here before wrong = wrong
-not_read A view texts k text parts (merging.Missing n) within here before wrong = wrong
-not_read A view texts k text parts merging.CountsTooLarge within here before wrong = wrong
-not_read A view texts k text parts merging.Memory within here before wrong = tt
+pub not_read : {X : Type 0} (view : X → PartView) (texts : List (List ℕ)) (k : ℕ) (text : List ℕ) (parts : List PartReport) (fault : MergeFault) → k < length texts → get_or texts k [] ≡ text
+    → AreParts (take k texts) parts → Reads view (k + 1) (part_of text) (Err fault) → FailsToRead texts fault
+not_read view texts k text parts (merging.Line n line fault) within here before wrong = first_fault texts k n line text parts fault wrong.0 within here before wrong.1
+not_read view texts k text parts (merging.Other n) within here before wrong = wrong
+not_read view texts k text parts (merging.Twice n) within here before wrong = wrong
+not_read view texts k text parts (merging.Missing n) within here before wrong = wrong
+not_read view texts k text parts merging.CountsTooLarge within here before wrong = wrong
+not_read view texts k text parts merging.Memory within here before wrong = tt

@@ -36,15 +36,19 @@ pub record IsFirstFault (texts : List (List ℕ)) (number line : ℕ) (fault : L
   pub before : AreParts (take (number - 1) texts) parts
   pub here : part_of (slice_index_or texts (number - 1) []) ≡ Err (line, fault)
 
+-- one of them is none
+abbrev pub FailsToRead : List (List ℕ) → MergeFault → Type 0
+FailsToRead texts (Line number line fault) = IsFirstFault texts number line fault
+FailsToRead texts (Other n) = ⊥
+FailsToRead texts (Twice n) = ⊥
+FailsToRead texts (Missing n) = ⊥
+FailsToRead texts CountsTooLarge = ⊥
+FailsToRead texts Memory = Unit {0}
+
 -- all are reports, or one is none
 abbrev pub ReadsAll : {A : Type 0} → List (List ℕ) → Result (Vec PartReport A) MergeFault → Type 0
 ReadsAll texts (Ok parts) = AreParts texts parts.items
-ReadsAll texts (Err (Line number line fault)) = IsFirstFault texts number line fault
-ReadsAll texts (Err (Other n)) = ⊥
-ReadsAll texts (Err (Twice n)) = ⊥
-ReadsAll texts (Err (Missing n)) = ⊥
-ReadsAll texts (Err CountsTooLarge) = ⊥
-ReadsAll texts (Err Memory) = Unit {0}
+ReadsAll texts (Err fault) = FailsToRead texts fault
 
 -- a report is of the same trace as the first one, in as many parts, and was made as that was
 abbrev pub is_like : PartReport → PartReport → Bool

@@ -12,8 +12,8 @@ returns-in-Err c =
     let same : length texts ≡ length c.args.texts.now = length-map c.args.texts.now vec_items in
     let inside = c.loop-place-test.true in
     let within : c.loop-place.place < length texts = omega (arith, same, inside) in
-    let here : get_or texts c.loop-place.place [] ≡ c.deref.result.now = at_map vec_items c.args.texts.now c.loop-place.place _ inside c.index-texts-place.is ∙ sym c.deref.ensures.value in
-    not_read _ part_view texts c.loop-place.place c.deref.result.now c.loop-place.parts.items c.in-Err.fault within here c.loop-place.invariant c.in-Err.ensures
+    let here : get_or texts c.loop-place.place [] ≡ c.deref.result.now = at_map vec_items c.args.texts.now c.loop-place.place c.index-texts-place.result inside c.index-texts-place.is ∙ sym c.deref.ensures.value in
+    not_read part_view texts c.loop-place.place c.deref.result.now c.loop-place.parts.items c.in-Err.fault within here c.loop-place.invariant c.in-Err.ensures
 
 pub loop-place-preserved : goal.loop-place-preserved
 loop-place-preserved c =
@@ -21,5 +21,5 @@ loop-place-preserved c =
     let same : length texts ≡ length c.args.texts.now = length-map c.args.texts.now vec_items in
     let inside = c.loop-place-test.true in
     let within : c.loop-place.place < length texts = omega (arith, same, inside) in
-    let here : get_or texts c.loop-place.place [] ≡ c.deref.result.now = at_map vec_items c.args.texts.now c.loop-place.place _ inside c.index-texts-place.is ∙ sym c.deref.ensures.value in
+    let here : get_or texts c.loop-place.place [] ≡ c.deref.result.now = at_map vec_items c.args.texts.now c.loop-place.place c.index-texts-place.result inside c.index-texts-place.is ∙ sym c.deref.ensures.value in
     one_part_more texts c.loop-place.place c.deref.result.now c.loop-place.parts.items c.push_part.new.parts.items c.in-Ok.part within here c.loop-place.invariant c.in-Ok.ensures c.in_ok-push_part-in-Ok.ensures
