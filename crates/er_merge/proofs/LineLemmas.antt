@@ -1,7 +1,7 @@
 -- The first line of a text, by the place of its LF.
 use Rattle.std.proofs.Common.{◌≡◌, ◌⊎◌, ℕ, ◌+◌, ◌-◌, ◌<◌, ◌≤◌, true, false, refl, inl, inr, List, ◌∷◌, [], length, take, drop, sym, ap, ◌∙◌, append-nil, arith}
 use Rattle.std.specs.List.{position_or_len}
-use Rattle.er_lines.specs.Lines.{Line, is_end, lines_of}
+use Rattle.er_lines.specs.Lines.{is_end, lines_of}
 use Rattle.std.proofs.lemmas.List.{take_all, length-drop}
 use Rattle.er_lines.proofs.WordLemmas.{place_le}
 use Rattle.er_lines.proofs.LineLemmas.{lines_last, lines_whole}

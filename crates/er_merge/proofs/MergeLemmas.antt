@@ -1,5 +1,5 @@
 -- The one report, by what its pieces are.
-use Rattle.std.proofs.Common.{◌≡◌, ◌++◌, ◌∙◌, ℕ, List, None, ap, flat_map}
+use Rattle.std.proofs.Common.{◌≡◌, ◌++◌, ◌∙◌, List, None, ap, flat_map}
 use Rattle.er_print.specs.Printed.{end_text}
 use Rattle.er_report.specs.Report.{Summary, told}
 use Rattle.er_report.specs.declared.report.Report.{Report}

@@ -1,5 +1,5 @@
 -- Entries that were sorted by a closure that answers by their order.
-use Rattle.std.proofs.Common.{◌≡◌, ℕ, Bool, List, ap}
+use Rattle.std.proofs.Common.{◌≡◌, Bool, List, ap}
 use Rattle.std.specs.Cmp.{IsStrictWeakOrder}
 use Rattle.std.specs.Ordering.{is_lt}
 use Rattle.std.specs.Fn.{Called, ComparesAs}

@@ -1,9 +1,9 @@
 -- The lines of a report, one by one.
-use Rattle.std.proofs.Common.{◌≡◌, ◌⊎◌, ℕ, zero, suc, ◌+◌, ◌-◌, ◌<◌, ◌≤◌, Bool, true, false, List, [], ◌∷◌, ◌++◌, length, map, take, get_or, Option, Some, None, Result, Ok, Err, refl, sym, ap, subst, ◌∙◌, inl, inr, arith}
+use Rattle.std.proofs.Common.{◌≡◌, ◌⊎◌, ℕ, zero, suc, ◌+◌, ◌-◌, ◌<◌, true, false, List, [], ◌∷◌, ◌++◌, length, map, take, get_or, Option, Result, Ok, Err, refl, sym, ap, subst, ◌∙◌, inl, inr, arith}
 use Rattle.std.proofs.lemmas.List.{map_push, take_more}
 use Rattle.er_lines.specs.Lines.{Line, lines_of}
 use Rattle.er_merge.specs.Merging.{AreParts, FailsToRead, IsFirstFault}
-use Rattle.er_merge.specs.Parts.{BodyView, ContentView, HeadingView, PartView, IsFirstLine, Reads, body_from, content_view, empty_body, go_on, headed, headed_by, heading_in, part_in, part_of, part_view, with_line}
+use Rattle.er_merge.specs.Parts.{BodyView, ContentView, HeadingView, PartView, Reads, body_from, go_on, headed, headed_by, heading_in, part_in, part_of, part_view, with_line}
 use Rattle.er_merge.specs.declared.faults.LineFault.{LineFault}
 use Rattle.er_merge.specs.declared.faults.LineFault.TheVariants.{CutOff, NoPart}
 use Rattle.er_merge.specs.declared.faults.MergeFault.{MergeFault}

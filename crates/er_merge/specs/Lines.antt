@@ -1,5 +1,5 @@
 -- What a line of a report is, by its bytes.
-use Rattle.std.specs.Prelude.{ℕ, ◌+◌, ◌||◌, ◌&&◌, Bool, true, false, not, List, [], ◌∷◌, Option, Some, None, length, take, drop, codes, nat_eq, nat_le, option_map, if◌then◌else◌}
+use Rattle.std.specs.Prelude.{ℕ, ◌||◌, ◌&&◌, Bool, true, false, not, List, [], ◌∷◌, Option, Some, None, length, take, drop, codes, nat_eq, nat_le, option_map, if◌then◌else◌}
 use Rattle.std.specs.List.{position_or_len, starts_with}
 use Rattle.std.specs.Option.{option_and_then}
 use denote.Ref.{Bor}

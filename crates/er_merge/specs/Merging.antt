@@ -1,5 +1,5 @@
 -- The one report of a trace, by the reports of its parts.
-use Rattle.std.specs.Prelude.{◌≡◌, ℕ, ◌+◌, ◌-◌, ◌*◌, ◌^◌, ◌<◌, ◌≤◌, ◌==◌, ◌&&◌, Bool, true, false, List, [], ◌∷◌, ◌++◌, Option, Some, None, Result, Ok, Err, length, map, take, flat_map, nat_eq, nat_lt, nat_le, slice_index, slice_index_or, if◌then◌else◌}
+use Rattle.std.specs.Prelude.{◌≡◌, ℕ, ◌+◌, ◌-◌, ◌^◌, ◌<◌, ◌≤◌, ◌&&◌, Bool, true, false, List, [], ◌∷◌, ◌++◌, Option, Some, None, Result, Ok, Err, length, map, take, flat_map, nat_eq, nat_lt, nat_le, slice_index, slice_index_or, if◌then◌else◌}
 use Rattle.std.specs.Bool.{beq}
 use Rattle.std.specs.List.{range_with_len, sum_by}
 use Rattle.std.specs.List.Sorted.{IsNonDecreasing, IsPermutation, IsSorted, IsStable}
@@ -12,7 +12,7 @@ use Rattle.er_print.specs.declared.lines.ReportKind.{ReportKind}
 use Rattle.er_print.specs.declared.lines.ReportKind.TheVariants.{Lockset, Unordered}
 use Rattle.er_report.specs.Report.{Summary, told}
 use Rattle.er_report.specs.declared.report.Report.{Report}
-use Rattle.er_merge.specs.Parts.{PartView, part_of, part_view}
+use Rattle.er_merge.specs.Parts.{part_of, part_view}
 use Rattle.er_merge.specs.declared.faults.LineFault.{LineFault}
 use Rattle.er_merge.specs.declared.faults.MergeFault.{MergeFault}
 use Rattle.er_merge.specs.declared.faults.MergeFault.TheVariants.{Line, Other, Twice, Missing, CountsTooLarge, Memory}

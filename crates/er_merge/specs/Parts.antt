@@ -1,5 +1,5 @@
 -- The report of one part, by the lines of its text.
-use Rattle.std.specs.Prelude.{◌≡◌, ℕ, zero, suc, ◌+◌, ◌-◌, ◌<◌, ◌⊎◌, true, false, ◌==◌, ◌||◌, Bool, List, [], ◌∷◌, ◌++◌, Option, Some, None, Result, Ok, Err, length, map, codes, nat_eq, nat_lt, is_some, if◌then◌else◌}
+use Rattle.std.specs.Prelude.{◌≡◌, ℕ, ◌+◌, ◌<◌, ◌⊎◌, true, false, ◌==◌, ◌||◌, List, [], ◌∷◌, ◌++◌, Option, Some, None, Result, Ok, Err, length, map, codes, nat_lt, is_some, if◌then◌else◌}
 use Rattle.std.specs.Option.{option_and_then}
 use denote.Ref.{Bor}
 use Rattle.er_lines.specs.Lines.{Line, lines_of}

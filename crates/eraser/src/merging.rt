@@ -58,8 +58,7 @@ fn write_merged<O: Write>(
     }
 }
 
-fn texts_of<R: Files + AllocGlobal>(rt: &R, paths: &[&str]) -> Result<Vec<Vec<u8>>, Fault>
-{
+fn texts_of<R: Files + AllocGlobal>(rt: &R, paths: &[&str]) -> Result<Vec<Vec<u8>>, Fault> {
     let mut texts = Vec::new(rt.alloc());
     for (place, path) in paths.iter().enumerate() {
         let text = text_at(rt, path, place as u64 + 1)?;

@@ -1,8 +1,8 @@
 -- The place of the first byte that is no digit.
-use Rattle.std.proofs.Common.{◌≡◌, length, not, position, unwrap_or, ap, ◌∙◌, arith, rules, tests}
+use Rattle.std.proofs.Common.{◌≡◌, length, position, unwrap_or, ap, ◌∙◌, rules, tests}
 use Rattle.std.proofs.lemmas.Iterator.{YieldsList-from_slice}
 use Rattle.std.proofs.lemmas.Iterator.Search.{position_from_yields_List}
-use Rattle.er_lines.proofs.WordLemmas.{place_of, place_le}
+use Rattle.er_lines.proofs.WordLemmas.{place_of}
 use Rattle.er_merge.specs.Lines.{is_no_digit}
 use Rattle.er_merge.proofs.lines.digits_len.Goals as goal
 

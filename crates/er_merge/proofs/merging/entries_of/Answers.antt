@@ -1,5 +1,5 @@
 -- The entries of all reports, in their order.
-use Rattle.std.proofs.Common.{◌≡◌, ◌∙◌, List, ap, subst, flat_map, rules, arith}
+use Rattle.std.proofs.Common.{◌≡◌, ◌∙◌, List, ap, subst, flat_map, rules}
 use Rattle.std.specs.List.Sorted.{IsPermutation, IsStable}
 use Rattle.std.proofs.lemmas.List.{take_all}
 use Rattle.er_merge.specs.Merging.{entries_in, place_order}

@@ -1,6 +1,6 @@
 -- Each line that was added is one less to come, and the first that was not is the fault.
 use Rattle.std.proofs.Common.{◌∙◌, refl, sym, arith}
-use Rattle.er_merge.proofs.PartLemmas.{cut_line, ended_all, next_line, wrong_line}
+use Rattle.er_merge.proofs.PartLemmas.{next_line, wrong_line}
 use Rattle.er_merge.proofs.parts.read_content.Goals as goal
 
 pub returns-in-Ok-Some : goal.returns-in-Ok-Some
