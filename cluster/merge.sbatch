@@ -1,6 +1,6 @@
 #!/bin/sh
-# Merges the reports of all parts, once their job array has ended well.
-#   sbatch --dependency=afterok:JOB cluster/merge.sbatch FOLDER
+# Merges the reports of all parts, once their job array has ended. If a part has no report, the merge says which.
+#   sbatch --dependency=afterany:JOB cluster/merge.sbatch FOLDER
 # FOLDER gets the file `report`, and the file `status` with the exit status: 0 without races, 1 with some.
 #SBATCH --job-name=eraser-merge
 #SBATCH --requeue
