@@ -1,0 +1,4 @@
+pub mod LineLemmas
+pub mod MergeLemmas
+pub mod OrderLemmas
+pub mod PartLemmas

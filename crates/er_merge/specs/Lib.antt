@@ -1,0 +1,5 @@
+pub mod Faults
+pub mod Headings
+pub mod Lines
+pub mod Parts
+pub mod Merging
