@@ -1,5 +1,5 @@
 -- What stands for the steps of a text goes on with each batch, and with the last one it stands for the whole text.
-use Rattle.std.proofs.Common.{◌≡◌, ◌+◌, ◌-◌, ◌^◌, ◌++◌, ℕ, min, List, [], length, Option, Some, None, IfSome, Ok, refl, sym, ap, subst, ◌∙◌, arith}
+use Rattle.std.proofs.Common.{◌≡◌, ◌+◌, ◌-◌, ◌^◌, ◌++◌, ℕ, min, List, [], length, Option, Some, None, IfSome, Ok, refl, sym, ap, ◌∙◌, arith}
 use Rattle.std.proofs.lemmas.List.{length-append}
 use Rattle.std.proofs.lemmas.List.Elements.{All-filter, filter-append}
 use Rattle.std.specs.List.{All, count_by, filter}
@@ -136,8 +136,8 @@ module _ (Before Later : Recording → Type 0) (old mid new : NameTable) (last :
   on (Some part) step counts past lines sites stands =
       record {
         stands =
-          rw (filter-append (takes part) past last, kept-append part past last lines numbers stands.long, kept-append part past last sites places stands.one_each)
-          (step (filter (takes part) past) (kept_beside part past lines) (kept_beside part past sites) stands.stands);
+            rw (filter-append (takes part) past last, kept-append part past last lines numbers stands.long, kept-append part past last sites places stands.one_each)
+            (step (filter (takes part) past) (kept_beside part past lines) (kept_beside part past sites) stands.stands);
         counted = rw (filter-append (takes part) past last) (counts (filter (takes part) past) stands.counted);
         long = both-long lines numbers past last stands.long long;
         one_each = both-long sites places past last stands.one_each one_each;
@@ -179,6 +179,7 @@ answered-by part Stands count told limit used ended =
     by : (o : Option (List ℕ)) → IfSome o (λ text. IsTrace text limit ended.recording) → IfSome o (λ text. IsPartOf part text limit (kept part ended.recording))
     by None trace = tt
     by (Some text) trace = record { whole = ended.recording; trace = trace; kept = refl }
+
     same : (o : Option PartView) → ended.recording.names ≡ (kept o ended.recording).names
     same None = refl
     same (Some one) = refl

@@ -22,9 +22,9 @@ pub record IsPartOf (part : Option PartView) (text : List ℕ) (limit : ℕ) (re
   pub trace : IsTrace text limit whole
   pub kept : recording ≡ kept part whole
 
--- a run of the text's trace, which stopped at one of its steps for want of room that it may want, or not at all
-pub record IsRunOf (text : List ℕ) (limit : ℕ) (recording : Recording) (stop : Option Stopped) : Type 0 where
-  pub trace : IsTrace text limit recording
+-- a run of the text's trace, or of a part of it, which stopped at one of its steps for want of room that it may want, or not at all
+pub record IsRunOf (part : Option PartView) (text : List ℕ) (limit : ℕ) (recording : Recording) (stop : Option Stopped) : Type 0 where
+  pub trace : IsPartOf part text limit recording
   pub within : IfSome stop (λ s. s.at < length recording.steps)
   pub cause : IfSome stop (λ s. MayStopAt recording.steps s)
 

@@ -3,7 +3,7 @@ ghost use Rattle.std.specs.Prelude.{◌≡◌, ◌+◌, ◌++◌, ◌<◌, ◌�
 ghost use Rattle.std.specs.Thread.{IsSync};
 ghost use Rattle.er_batch.specs.Analysts.{Asked, HasCounted, IsAnswered, IsFaultOfReading};
 ghost use Rattle.er_batch.specs.Inner.Passes.{HasCome, HasEnded, StandsFor};
-ghost use Rattle.er_batch.specs.Limits.{bytes_past_limit, most_bytes};
+ghost use Rattle.er_batch.specs.Limits.{bytes_past_limit};
 ghost use Rattle.er_batch.specs.Runs.{IsWellFormed, recorded};
 ghost use Rattle.er_device.specs.Device.{inner_of, has_failed, taken_of};
 ghost use Rattle.er_event.specs.declared.steps.Step.{Step as Steps};
@@ -13,7 +13,7 @@ ghost use Rattle.er_text.specs.Named.{KeepsNames};
 ghost use Rattle.er_lines.specs.Lending.{taken_by};
 ghost use Rattle.er_lines.specs.Faults.{HasFailedBy};
 ghost use Rattle.er_trace.specs.Names.{NameTable};
-ghost use Rattle.er_trace.specs.Trace.{Recording, no_steps, without_steps};
+ghost use Rattle.er_trace.specs.Trace.{no_steps, without_steps};
 
 use crate::{Analyst, Options, Progress, Watch};
 use er_device::Device;

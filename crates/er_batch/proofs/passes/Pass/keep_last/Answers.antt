@@ -1,5 +1,5 @@
 -- What is kept keeps its form, and its steps of pages are counted.
-use Rattle.std.proofs.Common.{rules, Some}
+use Rattle.std.proofs.Common.{rules}
 use Rattle.er_batch.proofs.PassLemmas.{counted-more, kept-formed}
 use Rattle.er_batch.proofs.passes.Pass.keep_last.Goals as goal
 

@@ -1,5 +1,5 @@
 -- The batch that was read takes the place of the one that is answered, and the last one is answered too.
-use Rattle.std.proofs.Common.{rules, ◌≡◌, ◌++◌, ℕ, List, Option, Ok, ap, ◌∙◌}
+use Rattle.std.proofs.Common.{rules, ◌≡◌, ℕ, List, Option, Ok, ap, ◌∙◌}
 use Rattle.er_batch.proofs.PassLemmas.{ended-on, ends-on, moved, on-kept, part, still-formed, whole}
 use Rattle.er_batch.specs.Inner.Passes.{StandsFor}
 use Rattle.er_batch.specs.Runs.{recorded}
