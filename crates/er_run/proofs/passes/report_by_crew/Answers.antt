@@ -7,7 +7,7 @@ use Rattle.er_rules.specs.Rules.{targets_of}
 use Rattle.er_run.specs.Inner.Outcomes.{asked_by}
 use Rattle.er_run.specs.declared.fault.RunFault.TheVariants.{Read}
 use Rattle.er_run.proofs.OutcomeLemmas.{failed-outcome}
-use Rattle.er_run.proofs.PassLemmas.{of-reading}
+use Rattle.er_run.proofs.PassLemmas.{of-reading, only-whole}
 use Rattle.er_run.proofs.passes.report_by_crew.Goals as goal
 
 pub returns-in-Ok : goal.returns-in-Ok
@@ -16,7 +16,7 @@ returns-in-Ok g c =
     let asked : Asked = asked_by c.args.options.now (targets_of c.args.suppressions.now) Lockset in
     record {
       replay = record {
-        outcome = c.end_crew.ensures.outcome asked told c.args.options.now.byte_limit refl (c.in-Ok.ensures.answered asked (c.in_ok-crew.ensures.stands asked refl refl, c.new-inspection.ensures)) (c.in-Ok.ensures.ending asked (c.in_ok-crew.ensures.stands asked refl refl, c.new-inspection.ensures));
+        outcome = c.end_crew.ensures.outcome asked told c.args.options.now.byte_limit refl (only-whole c.args.options.now) (c.in-Ok.ensures.answered asked (c.in_ok-crew.ensures.stands asked refl refl, c.new-inspection.ensures)) (c.in-Ok.ensures.ending asked (c.in_ok-crew.ensures.stands asked refl refl, c.new-inspection.ensures));
         failed = search rules;
         taken = search rules;
       };
@@ -29,7 +29,7 @@ returns-in-Err g c =
     let asked : Asked = asked_by c.args.options.now (targets_of c.args.suppressions.now) Lockset in
     record {
       replay = record {
-        outcome = failed-outcome told c.args.options.now.byte_limit asked (Read c.in-Err.why) (of-reading Lockset told c.args.options.now.byte_limit c.in-Err.why (c.in-Err.ensures.fault asked (c.in_ok-crew.ensures.stands asked refl refl, c.new-inspection.ensures))) (λ lenient. tt);
+        outcome = failed-outcome c.args.options.now.part told c.args.options.now.byte_limit asked (Read c.in-Err.why) (of-reading c.args.options.now.part Lockset told c.args.options.now.byte_limit c.in-Err.why (c.in-Err.ensures.fault asked (c.in_ok-crew.ensures.stands asked refl refl, c.new-inspection.ensures))) (λ lenient. tt);
         failed = search rules;
         taken = search rules;
       };

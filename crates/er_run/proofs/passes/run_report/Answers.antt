@@ -6,8 +6,8 @@ use Rattle.er_run.proofs.PassLemmas.{run-built}
 use Rattle.er_run.proofs.passes.run_report.Goals as goal
 
 pub returns-in-None-clause-built : goal.returns-in-None-clause-built
-returns-in-None-clause-built c = λ asked r same stands.
+returns-in-None-clause-built c = λ part asked r same stands.
     let there : true ≡ asks_locks asked.analysis = subst (λ (o : Option Ran). is_some o ≡ asks_locks asked.analysis) c.in-Some.is stands.there in
     let inside : HasRunFor c.in-Some.lockset asked r = subst (λ (o : Option Ran). IfSome o (λ one. HasRunFor one asked r)) c.in-Some.is stands.stands in
-    run-built asked r c.in-Some.lockset inside c.finish.result (sym there) (λ orders. sym c.stop.ensures ∙ c.cause_beside.ensures.none c.in-None.is (sym same ∙ orders))
+    run-built part asked r c.in-Some.lockset inside c.finish.result (sym there) (λ unstopped. sym c.stop.ensures ∙ c.cause_if.ensures.none c.in-None.is (sym same ∙ unstopped))
     (c.finish.ensures.report asked r inside) (c.finish.ensures.named asked r inside)
