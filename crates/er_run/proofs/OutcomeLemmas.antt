@@ -61,15 +61,15 @@ counted-all None of_pages steps later counted few = absurd (cc)
 counted-all (Some part) of_pages steps later counted few = counted ∙ min-eq_left (omega (arith, count_by-le-length is_of_page steps, few))
 
 -- what a part gives of a report, as the definitions say it
-module _ (part : Option PartView) (of_pages : ℕ) (lost : Option ℕ) (old new : Report) (is : IsGivenOf part of_pages lost old new) where
+module _ (part : Option PartView) (of_pages : ℕ) (lost : Option ℕ) (old new : Report) (is : IsGivenOf (is_later part) of_pages lost old new) where
   says-given : (steps : List Step) (s : Summary) → HasCounted part of_pages steps → summary old ≡ s → (is_some part ≡ true → s.steps ≡ length steps)
       → summary new ≡ record (given_by part steps s) { lost = lost }
   says-given steps s counted says long = by (is_later part) refl
     where
       by : (b : Bool) → is_later part ≡ b → summary new ≡ record (given_by part steps s) { lost = lost }
-      by false first = ap summary (is.first first) ∙ ap (λ (t : Summary). record t { lost = lost }) (says ∙ sym ((given part steps s).0 first))
+      by false first = ap summary (is.whole first) ∙ ap (λ (t : Summary). record t { lost = lost }) (says ∙ sym ((given part steps s).0 first))
       by true later =
-          let mine = is.later later in
+          let mine = is.own later in
           let same : old.steps ≡ length steps = ap (λ (t : Summary). t.steps) says ∙ long (later-some part later) in
           ap summary mine.others
           ∙ ap (λ (items : List Line). record (summary old) { lines = map line_view items; steps = of_pages; refused = 0; lost = lost }) mine.lines
@@ -81,32 +81,29 @@ module _ (part : Option PartView) (of_pages : ℕ) (lost : Option ℕ) (old new 
   names-given names named = by (is_later part) refl
     where
       by : (b : Bool) → is_later part ≡ b → All (HasNames names) new.lines.items
-      by false first = subst (λ (x : Report). All (HasNames names) x.lines.items) (sym (is.first first)) named
-      by true later = subst (All (HasNames names)) (sym (is.later later).lines) (All-filter is_own (HasNames names) old.lines.items named)
+      by false first = subst (λ (x : Report). All (HasNames names) x.lines.items) (sym (is.whole first)) named
+      by true later = subst (All (HasNames names)) (sym (is.own later).lines) (All-filter is_own (HasNames names) old.lines.items named)
 
-  stop-given : new.stop ≡ old.stop
-  stop-given = by (is_later part) refl
-    where
-      by : (b : Bool) → is_later part ≡ b → new.stop ≡ old.stop
-      by false first = ap (λ (x : Report). x.stop) (is.first first)
-      by true later = ap (λ (x : Report). x.stop) (is.later later).others
+stop-given : (later : Bool) (of_pages : ℕ) (lost : Option ℕ) (old new : Report) → IsGivenOf later of_pages lost old new → new.stop ≡ old.stop
+stop-given false of_pages lost old new is = ap (λ (x : Report). x.stop) (is.whole refl)
+stop-given true of_pages lost old new is = ap (λ (x : Report). x.stop) (is.own refl).others
 
 -- and of a report that may be there
 module _ (part : Option PartView) (of_pages : ℕ) (lost : Option ℕ) where
-  still-there : (o p : Option Report) → IsGivenIf part of_pages lost o p → is_some p ≡ is_some o
+  still-there : (o p : Option Report) → IsGivenIf (is_later part) of_pages lost o p → is_some p ≡ is_some o
   still-there None None is = refl
   still-there (Some old) (Some new) is = refl
   still-there None (Some new) is = absurd is
   still-there (Some old) None is = absurd is
 
-  still-named : (names : NameTable) (o p : Option Report) → IsGivenIf part of_pages lost o p → IfSome o (λ one. All (HasNames names) one.lines.items) → IfSome p (λ one. All (HasNames names) one.lines.items)
+  still-named : (names : NameTable) (o p : Option Report) → IsGivenIf (is_later part) of_pages lost o p → IfSome o (λ one. All (HasNames names) one.lines.items) → IfSome p (λ one. All (HasNames names) one.lines.items)
   still-named names None None is named = tt
   still-named names (Some old) (Some new) is named = names-given part of_pages lost old new is names named
   still-named names None (Some new) is named = absurd is
   still-named names (Some old) None is named = tt
 
   run-given : (unstopped : Bool) (told : Option ℕ) (r : Recording) (rules : List Target) (explain : Bool) (o p : Option Report) → lost ≡ told → (is_some part ≡ true → unstopped ≡ true)
-      → HasCounted part of_pages r.steps → IsGivenIf part of_pages lost o p → IfSome o (λ one. IsReportOfRun None unstopped None r rules explain one)
+      → HasCounted part of_pages r.steps → IsGivenIf (is_later part) of_pages lost o p → IfSome o (λ one. IsReportOfRun None unstopped None r rules explain one)
       → IfSome p (λ one. IsReportOfRun part unstopped told r rules explain one)
   run-given unstopped told r rules explain None None same whole counted is says = tt
   run-given unstopped told r rules explain None (Some new) same whole counted is says = absurd is
@@ -120,7 +117,7 @@ module _ (part : Option PartView) (of_pages : ℕ) (lost : Option ℕ) where
         ∙ ap (λ (l : Option ℕ). report_with part l r rules explain says.stop) same;
   }
 
-  order-given : (told : Option ℕ) (r : Recording) (rules : List Target) (explain : Bool) (o p : Option Report) → lost ≡ told → HasCounted part of_pages r.steps → IsGivenIf part of_pages lost o p
+  order-given : (told : Option ℕ) (r : Recording) (rules : List Target) (explain : Bool) (o p : Option Report) → lost ≡ told → HasCounted part of_pages r.steps → IsGivenIf (is_later part) of_pages lost o p
       → IfSome o (λ one. summary one ≡ unordered_report r rules explain) → IfSome p (λ one. summary one ≡ unordered_with part told r rules explain)
   order-given told r rules explain None None same counted is says = tt
   order-given told r rules explain None (Some new) same counted is says = absurd is
@@ -128,18 +125,18 @@ module _ (part : Option PartView) (of_pages : ℕ) (lost : Option ℕ) where
   order-given told r rules explain (Some old) (Some new) same counted is says =
       says-given part of_pages lost old new is r.steps (unordered_report r rules explain) counted says (λ some. refl) ∙ ap (λ (l : Option ℕ). unordered_with part l r rules explain) same
 
-  pub unstopped : (r : Recording) (rules : List Target) (explain : Bool) (o p : Option Report) → IsGivenIf part of_pages lost o p → IfSome o (λ one. IsReportOfRun None true None r rules explain one)
+  pub unstopped : (r : Recording) (rules : List Target) (explain : Bool) (o p : Option Report) → IsGivenIf (is_later part) of_pages lost o p → IfSome o (λ one. IsReportOfRun None true None r rules explain one)
       → IfSome p (λ one. one.stop ≡ None)
   unstopped r rules explain None None is says = tt
   unstopped r rules explain None (Some new) is says = absurd is
   unstopped r rules explain (Some old) None is says = tt
-  unstopped r rules explain (Some old) (Some new) is says = stop-given part of_pages lost old new is ∙ ap (λ (s : Summary). s.stop) says.says ∙ ap (stop_line r) (says.whole refl)
+  unstopped r rules explain (Some old) (Some new) is says = stop-given (is_later part) of_pages lost old new is ∙ ap (λ (s : Summary). s.stop) says.says ∙ ap (stop_line r) (says.whole refl)
 
-  pub still-whole : (o p : Option Report) → IsGivenIf part of_pages lost o p → IfSome o (λ one. one.stop ≡ None) → IfSome p (λ one. one.stop ≡ None)
-  still-whole None None is none = tt
-  still-whole None (Some new) is none = absurd is
-  still-whole (Some old) None is none = tt
-  still-whole (Some old) (Some new) is none = stop-given part of_pages lost old new is ∙ none
+pub still-whole : (later : Bool) (of_pages : ℕ) (lost : Option ℕ) (o p : Option Report) → IsGivenIf later of_pages lost o p → IfSome o (λ one. one.stop ≡ None) → IfSome p (λ one. one.stop ≡ None)
+still-whole later of_pages lost None None is none = tt
+still-whole later of_pages lost None (Some new) is none = absurd is
+still-whole later of_pages lost (Some old) None is none = tt
+still-whole later of_pages lost (Some old) (Some new) is none = stop-given later of_pages lost old new is ∙ none
 
 -- the number of lost events is what the text says
 lost-of : (told : Option (List ℕ)) (ending : Ending) → IfSome told (λ text. IsEndingOf text ending) → IfSome told (λ text. lost_if ending.is_text_3 ending.lost ≡ lost_told text)
@@ -153,7 +150,7 @@ module _ (part : Option PartView) (of_pages : ℕ) (told : Option (List ℕ)) (l
   abbrev lost : Option ℕ
   lost = lost_if ending.is_text_3 ending.lost
 
-  module _ (lockset : IsGivenIf part of_pages lost reports.lockset left.lockset) (unordered : IsGivenIf part of_pages lost reports.unordered left.unordered) where
+  module _ (lockset : IsGivenIf (is_later part) of_pages lost reports.lockset left.lockset) (unordered : IsGivenIf (is_later part) of_pages lost reports.unordered left.unordered) where
     reports-by : (o : Option (List ℕ)) → IfSome o (λ text. IsPartOf part text limit r) → IfSome o (λ text. lost ≡ lost_told text)
         → IfSome o (λ text. AreReportsOfText part asked.analysis text limit asked.rules asked.explain trace.names left)
     reports-by None read is = tt

@@ -54,6 +54,10 @@ part-unstopped part analysis some = ap (λ (b : Bool). b || asks_order analysis)
 pub beside-unstopped : (part : Option PartView) (analysis : Analysis) → asks_order analysis ≡ true → is_unstopped part analysis ≡ true
 beside-unstopped part analysis orders = ap (λ (b : Bool). is_some part || b) orders ∙ or-true (is_some part)
 
+pub same-unstopped : (part : Option PartView) (analysis : Analysis) (there beside unstopped : Bool) → there ≡ asks_order analysis → beside ≡ there → unstopped ≡ (is_some part || beside)
+    → is_unstopped part analysis ≡ unstopped
+same-unstopped part analysis there beside unstopped orders same is = ap (λ (b : Bool). is_some part || b) (sym orders ∙ sym same) ∙ sym is
+
 -- and without them there is neither
 pub alone-whole : (part : Option PartView) (analysis : Analysis) → is_unstopped part analysis ≡ false → part ≡ None
 alone-whole None analysis none = refl

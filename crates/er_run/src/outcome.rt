@@ -1,9 +1,9 @@
 //! What a replay comes to before a byte is written.
-ghost use Rattle.std.specs.Prelude.{◌≡◌};
+ghost use Rattle.std.specs.Prelude.{◌≡◌, ◌<◌, ◌^◌};
 ghost use Rattle.er_run.specs.Inner.Outcomes.{IsGivenIf, IsGivenOf, IsOwnOf, is_later, is_own};
 ghost use Rattle.er_text.specs.Ending.{lost_if};
 
-use er_parts::Part;
+use er_batch::Options;
 use er_report::{Line, Report, Reports};
 use er_text::Ending;
 use er_trace::Trace;
@@ -26,22 +26,23 @@ pub struct ReplayedTrace {
 /// many events the text lost.
 pub(crate) fn outcome(
     reports: Reports,
-    part: Option<Part>,
+    options: &Options,
     of_pages: u64,
     has_order: bool,
     trace: Trace,
     ending: Ending,
 ) -> ReplayedTrace
-    ensures lockset { IsGivenIf part of_pages (lost_if ending.is_text_3 ending.lost) reports.lockset result.reports.lockset }
-    ensures unordered { IsGivenIf part of_pages (lost_if ending.is_text_3 ending.lost) reports.unordered result.reports.unordered }
+    ensures lockset { IsGivenIf (is_later options.now.part) of_pages (lost_if ending.is_text_3 ending.lost) reports.lockset result.reports.lockset }
+    ensures unordered { IsGivenIf (is_later options.now.part) of_pages (lost_if ending.is_text_3 ending.lost) reports.unordered result.reports.unordered }
     ensures others { result ≡ (record { reports = result.reports; trace = trace; ending = ending; has_order = has_order }) }
 {
     let lost = ending.lost_events();
+    let later = is_later(options);
     let Reports { lockset, unordered } = reports;
     ReplayedTrace {
         reports: Reports {
-            lockset: given_if(lockset, part, of_pages, lost),
-            unordered: given_if(unordered, part, of_pages, lost),
+            lockset: given_if(lockset, later, of_pages, lost),
+            unordered: given_if(unordered, later, of_pages, lost),
         },
         trace,
         ending,
@@ -49,26 +50,26 @@ pub(crate) fn outcome(
     }
 }
 
-// What the part gives of a report, if there is one.
+// What a part, a later one or not, gives of a report, if there is one.
 fn given_if(
     report: Option<Report>,
-    part: Option<Part>,
+    later: bool,
     of_pages: u64,
     lost: Option<u64>,
 ) -> Option<Report>
-    ensures { IsGivenIf part of_pages lost report result }
+    ensures { IsGivenIf later of_pages lost report result }
 {
     let Some(report) = report else {
         return None;
     };
-    Some(given(report, part, of_pages, lost))
+    Some(given(report, later, of_pages, lost))
 }
 
-// What the part gives of a report, with so many lost events.
-fn given(mut report: Report, part: Option<Part>, of_pages: u64, lost: Option<u64>) -> Report
-    ensures { IsGivenOf part of_pages lost report result }
+// What a part gives of a report, with so many lost events.
+fn given(mut report: Report, later: bool, of_pages: u64, lost: Option<u64>) -> Report
+    ensures { IsGivenOf later of_pages lost report result }
 {
-    if is_later(part) {
+    if later {
         return own_of(report, of_pages, lost);
     }
     report.lost = lost;
@@ -84,17 +85,25 @@ fn own_of(mut report: Report, of_pages: u64, lost: Option<u64>) -> Report
             ensures { result ≡ is_own line.now }
         { is_own(line) },
     );
-    report.steps = of_pages;
+    report.steps = of_pages_in(report.steps, of_pages);
     report.refused = 0;
     report.lost = lost;
     report
 }
 
-// Whether it is a part other than the first, which says nothing of the steps of no page.
-fn is_later(part: Option<Part>) -> bool
-    ensures { result ≡ is_later part }
+// How many of these steps are of pages. That a number of steps is less than 2^64 is known of a number that is passed.
+fn of_pages_in(steps: u64, of_pages: u64) -> u64
+    ensures value { result ≡ of_pages }
+    ensures few { steps < 2 ^ 64 }
 {
-    match part {
+    of_pages
+}
+
+// Whether a part other than the first is replayed, which says nothing of the steps of no page.
+fn is_later(options: &Options) -> bool
+    ensures { result ≡ is_later options.now.part }
+{
+    match options.part {
         Some(part) => !part.is_first(),
         None => false,
     }

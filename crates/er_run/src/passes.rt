@@ -1,5 +1,5 @@
 //! A replay in one pass, by one worker or several.
-ghost use Rattle.std.specs.Prelude.{◌≡◌, ℕ, Option, List, IfSome, IfOk, IfErr, IsOk, Some, None, false, true, is_some};
+ghost use Rattle.std.specs.Prelude.{◌≡◌, ◌||◌, ℕ, Option, List, IfSome, IfOk, IfErr, IsOk, Some, None, false, true, is_some};
 ghost use Rattle.er_batch.specs.Analysts.{Asked, HasCounted, HasRunFor, IsAnswered, Ran, StandsIf};
 ghost use Rattle.er_batch.specs.Runs.{IsPartOf};
 ghost use Rattle.er_device.specs.Device.{inner_of, has_failed, taken_of};
@@ -22,7 +22,6 @@ use er_batch::{Analysed, CrewAnalyst, LocksetAnalyst, Pair, analyse};
 use er_device::Device;
 use er_event::NoRoom;
 use er_lines::Shortcut;
-use er_parts::Part;
 use er_report::{Analysis, Report, Reports};
 use er_rules::Suppressions;
 use er_table::LocksetTable;
@@ -63,7 +62,7 @@ pub(crate) fn report_by_crew<R: Threads + Wait + Sync, D: Read, S: Shortcut<D>, 
         second: inspection,
     };
     match analyse(rt, alloc, reader, shortcut, options, readers, all, watcher) {
-        Ok(found) => end_crew(found, options.part),
+        Ok(found) => end_crew(found, options),
         Err(why) => Err(RunFault::Read(why)),
     }
 }
@@ -71,10 +70,10 @@ pub(crate) fn report_by_crew<R: Threads + Wait + Sync, D: Read, S: Shortcut<D>, 
 // The report of the text that was read, or its damage, if the replay is strict and there is any, or why the workers have stopped.
 fn end_crew(
     found: Analysed<Pair<CrewAnalyst<'_, '_>, Inspection>>,
-    part: Option<Part>,
+    options: &Options,
 ) -> Result<ReplayedTrace, RunFault>
-    ensures outcome { (asked : Asked) (told : Option (List ℕ)) (limit : ℕ) → asked.analysis ≡ Lockset → (asked.strict ≡ true → part ≡ None) → IsAnswered (λ r. CrewStands found.entry.analyst.first found.entry.analyst.second.inspector asked r × HasCounted part found.entry.of_pages r.steps) part told limit found.entry.trace.names
-        → IfSome told (λ text. IsEndingOf text found.entry.ending) → IsOutcomeOf part told limit asked result }
+    ensures outcome { (asked : Asked) (told : Option (List ℕ)) (limit : ℕ) → asked.analysis ≡ Lockset → (asked.strict ≡ true → options.now.part ≡ None) → IsAnswered (λ r. CrewStands found.entry.analyst.first found.entry.analyst.second.inspector asked r × HasCounted options.now.part found.entry.of_pages r.steps) options.now.part told limit found.entry.trace.names
+        → IfSome told (λ text. IsEndingOf text found.entry.ending) → IsOutcomeOf options.now.part told limit asked result }
     ensures failed { FailsBy false false result }
     ensures whole { IfOk result (λ found. IfSome found.reports.lockset (λ report. report.stop ≡ None)) }
 {
@@ -101,7 +100,7 @@ fn end_crew(
                 lockset: Some(report),
                 unordered: None,
             };
-            Ok(outcome(reports, part, of_pages, false, trace, ending))
+            Ok(outcome(reports, options, of_pages, false, trace, ending))
         }
         Err(why) => {
             drop(trace);
@@ -129,7 +128,7 @@ pub(crate) fn reports_by_one<R: Threads + Wait + Sync, D: Read, S: Shortcut<D>, 
     let all = analysts_of(alloc, table, suppressions, options, analysis)?;
     let readers = options.workers;
     match analyse(rt, alloc, reader, shortcut, options, readers, all, watcher) {
-        Ok(found) => end(found, options.part),
+        Ok(found) => end(found, options),
         Err(why) => Err(RunFault::Read(why)),
     }
 }
@@ -201,11 +200,11 @@ fn ordering_if<'r>(
 // The reports of the text that was read, or its damage, if the replay is strict and there is any, or why an analysis has stopped.
 fn end(
     found: Analysed<Analysts<'_, '_>>,
-    part: Option<Part>,
+    options: &Options,
 ) -> Result<ReplayedTrace, RunFault>
-    ensures outcome { (asked : Asked) (told : Option (List ℕ)) (limit : ℕ) → (asked.strict ≡ true → part ≡ None) → IsAnswered (λ r. AllStand found.entry.analyst.first.first found.entry.analyst.first.second found.entry.analyst.second.inspector asked r × HasCounted part found.entry.of_pages r.steps) part told limit found.entry.trace.names
-        → IfSome told (λ text. IsEndingOf text found.entry.ending) → IsOutcomeOf part told limit asked result }
-    ensures alone { part ≡ None → is_some found.entry.analyst.first.second ≡ false → IfErr result IsOfReading }
+    ensures outcome { (asked : Asked) (told : Option (List ℕ)) (limit : ℕ) → (asked.strict ≡ true → options.now.part ≡ None) → IsAnswered (λ r. AllStand found.entry.analyst.first.first found.entry.analyst.first.second found.entry.analyst.second.inspector asked r × HasCounted options.now.part found.entry.of_pages r.steps) options.now.part told limit found.entry.trace.names
+        → IfSome told (λ text. IsEndingOf text found.entry.ending) → IsOutcomeOf options.now.part told limit asked result }
+    ensures alone { options.now.part ≡ None → is_some found.entry.analyst.first.second ≡ false → IfErr result IsOfReading }
     ensures failed { FailsBy false false result }
 {
     let Analysed {
@@ -225,9 +224,9 @@ fn end(
         drop(trace);
         return Err(RunFault::Damaged(damage));
     }
-    match reports_of(first, part) {
+    match reports_of(first, options) {
         Ok((reports, has_order)) => {
-            Ok(outcome(reports, part, of_pages, has_order, trace, ending))
+            Ok(outcome(reports, options, of_pages, has_order, trace, ending))
         }
         Err(why) => {
             drop(trace);
@@ -239,14 +238,14 @@ fn end(
 // The reports of the steps that were answered, and whether one of these is an order event, or why they weren't all answered.
 fn reports_of(
     analysts: Pair<Option<LocksetAnalyst<'_, '_>>, Option<OrderAnalyst<'_>>>,
-    part: Option<Part>,
+    options: &Options,
 ) -> Result<(Reports, bool), RunFault>
     ensures built { (asked : Asked) (r : Recording) → StandsIf (λ (one : Ran). HasRunFor one asked r) (asks_locks asked.analysis) analysts.entry.first → StandsIf (λ (one : OrderRan). HasOrdered one asked r) (asks_order asked.analysis) analysts.entry.second
-        → IfOk result (λ found. AreBuilt part asked r found.0 found.1) }
-    ensures fault { (asked : Asked) (told : Option (List ℕ)) (limit : ℕ) (r : Recording) → IfSome told (λ text. IsPartOf part text limit r)
+        → IfOk result (λ found. AreBuilt options.now.part asked r found.0 found.1) }
+    ensures fault { (asked : Asked) (told : Option (List ℕ)) (limit : ℕ) (r : Recording) → IfSome told (λ text. IsPartOf options.now.part text limit r)
         → StandsIf (λ (one : Ran). HasRunFor one asked r) (asks_locks asked.analysis) analysts.entry.first → StandsIf (λ (one : OrderRan). HasOrdered one asked r) (asks_order asked.analysis) analysts.entry.second
-        → IfErr result (λ why. IsFaultOfText part asked.analysis told limit why) }
-    ensures alone { part ≡ None → is_some analysts.entry.second ≡ false → IsOk result }
+        → IfErr result (λ why. IsFaultOfText options.now.part asked.analysis told limit why) }
+    ensures alone { options.now.part ≡ None → is_some analysts.entry.second ≡ false → IsOk result }
     ensures failed { FailsBy false false result }
     ensures undamaged { IfErr result IsNoDamage }
 {
@@ -254,7 +253,8 @@ fn reports_of(
         first: lockset,
         second: ordering,
     } = analysts;
-    let unstopped = part.is_some() || ordering.is_some();
+    let beside = ordering.is_some();
+    let unstopped = is_unstopped(options, beside);
     let (unordered, has_order) = match order_report(ordering) {
         Ok(found) => found,
         Err(why) => {
@@ -269,6 +269,13 @@ fn reports_of(
             Err(why)
         }
     }
+}
+
+// Whether a stop of the lockset rule is a fault: of a part, or beside another report.
+fn is_unstopped(options: &Options, beside: bool) -> bool
+    ensures { result ≡ (is_some options.now.part || beside) }
+{
+    options.part.is_some() || beside
 }
 
 // The report by happens-before, if it is asked for, and whether some step is an order event.

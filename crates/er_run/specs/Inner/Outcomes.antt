@@ -70,16 +70,16 @@ pub record IsOwnOf (of_pages : ℕ) (lost : Option ℕ) (old new : Report) : Typ
   pub others : new ≡ record old { lines = new.lines; steps = of_pages; refused = 0; lost = lost }
   pub few : old.steps < 2 ^ 64
 
--- what a part gives of a report, with so many lost events
-pub record IsGivenOf (part : Option PartView) (of_pages : ℕ) (lost : Option ℕ) (old new : Report) : Type 0 where
-  pub first : is_later part ≡ false → new ≡ record old { lost = lost }
-  pub later : is_later part ≡ true → IsOwnOf of_pages lost old new
+-- what a part, a later one or not, gives of a report, with so many lost events
+pub record IsGivenOf (later : Bool) (of_pages : ℕ) (lost : Option ℕ) (old new : Report) : Type 0 where
+  pub whole : later ≡ false → new ≡ record old { lost = lost }
+  pub own : later ≡ true → IsOwnOf of_pages lost old new
 
 -- the same of a report that may be there
-abbrev pub IsGivenIf : Option PartView → ℕ → Option ℕ → Option Report → Option Report → Type 0
-IsGivenIf part of_pages lost None None = Unit {0}
-IsGivenIf part of_pages lost (Some old) (Some new) = IsGivenOf part of_pages lost old new
-IsGivenIf part of_pages lost old new = ⊥
+abbrev pub IsGivenIf : Bool → ℕ → Option ℕ → Option Report → Option Report → Type 0
+IsGivenIf later of_pages lost None None = Unit {0}
+IsGivenIf later of_pages lost (Some old) (Some new) = IsGivenOf later of_pages lost old new
+IsGivenIf later of_pages lost old new = ⊥
 
 -- what a replay of this text, or of a part of it, that is asked this may come to, before a byte is written: the text's reports and how the text ends, or a fault
 pub record IsOutcomeOf (part : Option PartView) (told : Option (List ℕ)) (limit : ℕ) (asked : Asked) (result : Result ReplayedTrace RunFault) : Type 0 where
