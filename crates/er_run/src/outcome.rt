@@ -51,12 +51,7 @@ pub(crate) fn outcome(
 }
 
 // What a part, a later one or not, gives of a report, if there is one.
-fn given_if(
-    report: Option<Report>,
-    later: bool,
-    of_pages: u64,
-    lost: Option<u64>,
-) -> Option<Report>
+fn given_if(report: Option<Report>, later: bool, of_pages: u64, lost: Option<u64>) -> Option<Report>
     ensures { IsGivenIf later of_pages lost report result }
 {
     let Some(report) = report else {

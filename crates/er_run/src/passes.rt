@@ -198,10 +198,7 @@ fn ordering_if<'r>(
 }
 
 // The reports of the text that was read, or its damage, if the replay is strict and there is any, or why an analysis has stopped.
-fn end(
-    found: Analysed<Analysts<'_, '_>>,
-    options: &Options,
-) -> Result<ReplayedTrace, RunFault>
+fn end(found: Analysed<Analysts<'_, '_>>, options: &Options) -> Result<ReplayedTrace, RunFault>
     ensures outcome { (asked : Asked) (told : Option (List ℕ)) (limit : ℕ) → (asked.strict ≡ true → options.now.part ≡ None) → IsAnswered (λ r. AllStand found.entry.analyst.first.first found.entry.analyst.first.second found.entry.analyst.second.inspector asked r × HasCounted options.now.part found.entry.of_pages r.steps) options.now.part told limit found.entry.trace.names
         → IfSome told (λ text. IsEndingOf text found.entry.ending) → IsOutcomeOf options.now.part told limit asked result }
     ensures alone { options.now.part ≡ None → is_some found.entry.analyst.first.second ≡ false → IfErr result IsOfReading }
