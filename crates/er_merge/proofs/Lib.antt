@@ -1,4 +1,5 @@
 pub mod LineLemmas
 pub mod MergeLemmas
+pub mod NumberLemmas
 pub mod OrderLemmas
 pub mod PartLemmas

@@ -16,6 +16,7 @@
 
 mod faults;
 mod headings;
+mod laws;
 mod lines;
 mod merging;
 mod parts;
