@@ -14,7 +14,7 @@ use Rattle.er_merge.specs.Merging.{place_order}
 use Rattle.er_merge.specs.declared.parts.Entry.{Entry}
 
 -- their order is one
-entries_ordered : IsStrictWeakOrder (λ (x y : Entry). is_lt (place_order x y))
+pub entries_ordered : IsStrictWeakOrder (λ (x y : Entry). is_lt (place_order x y))
 entries_ordered =
     ranks_by (then_total (on_total (λ (entry : Entry). entry.place.line) nat_cmp_total) (on_total (λ (entry : Entry). entry.place.address) nat_cmp_total)) (λ (entry : Entry). entry)
 

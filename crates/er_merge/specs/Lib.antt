@@ -3,3 +3,4 @@ pub mod Headings
 pub mod Lines
 pub mod Parts
 pub mod Merging
+pub mod Texts

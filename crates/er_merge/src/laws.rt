@@ -1,8 +1,15 @@
 //! The laws of merged reports: each function does nothing, and its contract is proved of the definitions.
-ghost use Rattle.std.specs.Prelude.{◌≡◌, ◌<◌, ◌++◌, [], ◌∷◌, ◌^◌, ℕ, List, Some, decimal};
-ghost use Rattle.er_merge.specs.Lines.{number_in_front};
+ghost use Rattle.std.specs.Prelude.{◌≡◌, List, flat_map, map};
+ghost use Rattle.er_report.specs.Lines.{LineView};
+ghost use Rattle.er_trace.specs.Names.{NameTable};
+ghost use Rattle.er_parts.specs.Merged.{in_order};
+ghost use Rattle.er_merge.specs.Merging.{IsInOrder};
+ghost use Rattle.er_merge.specs.Parts.{entry_view};
+ghost use Rattle.er_merge.specs.Texts.{AddressesFollow, entries_of};
+ghost use Rattle.er_merge.specs.declared.parts.Entry.{Entry};
 
-/// Scratch.
-pub fn numbers_read_back()
-    ensures { (n : ℕ) → n < 2 ^ 64 → number_in_front (decimal n ++ 58 ∷ []) ≡ Some (n, 58 ∷ []) }
+/// Lines that are sorted as bytes, by what is read of them, are in the order of what they report.
+pub fn bytes_are_sorted_as_lines()
+    ensures { (names : NameTable) (lines : List LineView) (old new : List Entry) → map entry_view old ≡ flat_map (entries_of names) lines
+        → IsInOrder old new → AddressesFollow names lines → map entry_view new ≡ flat_map (entries_of names) (in_order lines) }
 {}
