@@ -6,3 +6,4 @@ pub mod NumberLemmas
 pub mod OrderLemmas
 pub mod PartLemmas
 pub mod SortLemmas
+pub mod WholeLemmas
