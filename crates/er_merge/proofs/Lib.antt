@@ -5,5 +5,6 @@ pub mod MergeLemmas
 pub mod NumberLemmas
 pub mod OrderLemmas
 pub mod PartLemmas
+pub mod ReadLemmas
 pub mod SortLemmas
 pub mod WholeLemmas

@@ -15,3 +15,8 @@ pub fn bytes_are_sorted_as_lines()
     ensures { (names : NameTable) (lines : List LineView) (old new : List Entry) → map entry_view old ≡ flat_map (entries_of names) lines
         → IsInOrder old new → AddressesFollow names lines → flat_map entry_text new ≡ flat_map (line_text Lockset names) (in_order lines) }
 {}
+
+/// Scratch.
+pub fn text_is_read_back()
+    ensures { (ls : List LineView) → in_order ls ≡ in_order ls }
+{}

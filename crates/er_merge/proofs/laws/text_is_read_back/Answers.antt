@@ -1,0 +1,6 @@
+use Rattle.std.proofs.Common.{◌≡◌, refl}
+use Rattle.er_merge.proofs.ReadLemmas.{IsPrintable}
+use Rattle.er_merge.proofs.laws.text_is_read_back.Goals as goal
+
+pub returns : goal.returns
+returns c = λ ls. refl
