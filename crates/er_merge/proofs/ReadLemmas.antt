@@ -55,7 +55,7 @@ pub feed_line : (xs rest : List ℕ) → list_all no_feed xs ≡ true → lines_
 feed_line [] rest plain = refl
 feed_line (x ∷ xs) rest plain = feed_step x xs rest (is_end x) refl plain (feed_line xs rest)
 
-abbrev line_with : List (List ℕ) → Line
+abbrev pub line_with : List (List ℕ) → Line
 line_with pieces = record { bytes = joined pieces; ended = true }
 
 closed_line : (pieces : List (List ℕ)) (rest : List ℕ) → NoFeeds pieces → lines_of (closed pieces ++ rest) ≡ line_with pieces ∷ lines_of rest
@@ -71,7 +71,7 @@ pub record IsPrintable (names : NameTable) (line : LineView) : Type 0 where
   pub head : NoFeeds (head_pieces names line)
   pub reasons : ArePlain names (reasons_in line)
 
-abbrev reason_lines : NameTable → List Because → List Line
+abbrev pub reason_lines : NameTable → List Because → List Line
 reason_lines names reasons = map (λ (because : Because). line_with (reason_pieces names because)) reasons
 
 reasons_are : (names : NameTable) (reasons : List Because) → ArePlain names reasons → lines_of (flat_map (λ because. closed (reason_pieces names because)) reasons) ≡ reason_lines names reasons
@@ -80,12 +80,12 @@ reasons_are names (because ∷ reasons) plain =
     closed_line (reason_pieces names because) (flat_map (λ because. closed (reason_pieces names because)) reasons) plain.0
     ∙ ap (λ (lines : List Line). line_with (reason_pieces names because) ∷ lines) (reasons_are names reasons plain.1)
 
-lines_are : (names : NameTable) (line : LineView) → IsPrintable names line → lines_of (line_text Lockset names line) ≡ line_with (head_pieces names line) ∷ reason_lines names (reasons_in line)
+pub lines_are : (names : NameTable) (line : LineView) → IsPrintable names line → lines_of (line_text Lockset names line) ≡ line_with (head_pieces names line) ∷ reason_lines names (reasons_in line)
 lines_are names line plain =
     ap lines_of (line_pieces names line) ∙ closed_line (head_pieces names line) (flat_map (λ because. closed (reason_pieces names because)) (reasons_in line)) plain.head
     ∙ ap (λ (lines : List Line). line_with (head_pieces names line) ∷ lines) (reasons_are names (reasons_in line) plain.reasons)
 
-first_is : (names : NameTable) (line : LineView) → IsPrintable names line
+pub first_is : (names : NameTable) (line : LineView) → IsPrintable names line
     → take (position_or_len is_end (line_text Lockset names line)) (line_text Lockset names line) ≡ joined (head_pieces names line)
 first_is names line plain =
     let head = joined (head_pieces names line) in
@@ -100,7 +100,7 @@ place_read n rest small =
     let text : List ℕ = place_text n ++ rest in
     ap (or_step text) (ap number_in_front (append_assoc (decimal n) (codes ": ") rest) ∙ number_read n (codes ": " ++ rest) small refl)
 
-head_read : (names : NameTable) (line : LineView) → line_number line < 2 ^ 64
+pub head_read : (names : NameTable) (line : LineView) → line_number line < 2 ^ 64
     → report_line (joined (head_pieces names line)) ≡ is.Step (record { line = line_number line; address = address_in (joined (head_pieces names line)) })
 head_read names (RacedView race) small = place_read race.line _ small
 head_read names (RefusedView number step refusal) small = place_read number _ small

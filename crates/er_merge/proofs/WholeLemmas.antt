@@ -49,7 +49,7 @@ whole_of : (lines : List Line) → EndWhole lines → list_all (λ (l : Line). l
 whole_of [] whole = absurd whole
 whole_of (line ∷ lines) whole = whole
 
-whole_append : (a b : List ℕ) → AreWhole a → AreWhole b → AreWhole (a ++ b)
+pub whole_append : (a b : List ℕ) → AreWhole a → AreWhole b → AreWhole (a ++ b)
 whole_append a b first second =
     let ended : Line → Bool = λ (l : Line). l.ended in
     ap (list_all ended) (lines_append a b first) ∙ list_all-append ended (lines_of a) (lines_of b) ∙ (rw (first, second) refl)
