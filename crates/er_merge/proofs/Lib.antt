@@ -1,4 +1,6 @@
 pub mod BodyLemmas
+pub mod ContentLemmas
+pub mod EndLemmas
 pub mod EntryLemmas
 pub mod InOrderLemmas
 pub mod LineLemmas

@@ -58,7 +58,7 @@ feed_line (x ∷ xs) rest plain = feed_step x xs rest (is_end x) refl plain (fee
 abbrev pub line_with : List (List ℕ) → Line
 line_with pieces = record { bytes = joined pieces; ended = true }
 
-closed_line : (pieces : List (List ℕ)) (rest : List ℕ) → NoFeeds pieces → lines_of (closed pieces ++ rest) ≡ line_with pieces ∷ lines_of rest
+pub closed_line : (pieces : List (List ℕ)) (rest : List ℕ) → NoFeeds pieces → lines_of (closed pieces ++ rest) ≡ line_with pieces ∷ lines_of rest
 closed_line pieces rest plain = ap lines_of (closed_joined pieces rest) ∙ feed_line (joined pieces) rest (joined_plain pieces plain)
 
 -- no piece of a line and of its reasons has one

@@ -90,11 +90,11 @@ reasons_in (RefusedView number step refusal) = []
 reasons_in (ShownView number word state) = []
 
 -- the same, put together from the left
-abbrev closed_from : List ℕ → List (List ℕ) → List ℕ
+abbrev pub closed_from : List ℕ → List (List ℕ) → List ℕ
 closed_from front [] = front ++ 10 ∷ []
 closed_from front (piece ∷ pieces) = closed_from (front ++ piece) pieces
 
-closed_is : (front : List ℕ) (pieces : List (List ℕ)) → closed_from front pieces ≡ front ++ closed pieces
+pub closed_is : (front : List ℕ) (pieces : List (List ℕ)) → closed_from front pieces ≡ front ++ closed pieces
 closed_is front [] = refl
 closed_is front (piece ∷ pieces) = closed_is (front ++ piece) pieces ∙ append_assoc front piece (closed pieces)
 
