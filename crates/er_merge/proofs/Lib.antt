@@ -8,6 +8,7 @@ pub mod MergeLemmas
 pub mod NumberLemmas
 pub mod OrderLemmas
 pub mod PartLemmas
+pub mod PlainLemmas
 pub mod ReadLemmas
 pub mod SortLemmas
 pub mod WholeLemmas

@@ -1,16 +1,25 @@
 -- The lines of a report of the lockset rule, by what the report holds.
-use Rattle.std.specs.Prelude.{◌≡◌, ℕ, ◌+◌, ◌^◌, ◌<◌, nat_le, false, All, Contains, List, flat_map, length, map, take, Option, Some, None}
-use Rattle.std.specs.List.{position_or_len}
+use Rattle.std.specs.Prelude.{◌≡◌, ℕ, ◌+◌, ◌^◌, ◌<◌, nat_le, true, false, not, All, Contains, List, flat_map, length, map, take, Option, Some, None}
+use Rattle.std.specs.List.{list_all, position_or_len}
+use Rattle.er_event.specs.declared.steps.Event.{Event}
+use Rattle.er_event.specs.declared.steps.Event.TheVariants.{Acquire, Release, Access, Reuse, IgnoreOn, IgnoreOff, Show, Level, Sync}
+use Rattle.er_event.specs.declared.steps.WordState.{WordState}
+use Rattle.er_event.specs.declared.steps.WordState.TheVariants.{Virgin, Exclusive, Shared, SharedModified}
 use Rattle.er_lines.specs.Lines.{Line, is_end, lines_of}
 use Rattle.er_merge.specs.Lines.{address_in}
 use Rattle.er_merge.specs.Parts.{ContentView, EntryView}
 use Rattle.er_merge.specs.declared.lines.Place.{Place}
 use Rattle.er_merge.specs.declared.lines.Totals.{Totals}
 use Rattle.er_parts.specs.Merged.{line_number, line_word}
-use Rattle.er_print.specs.Printed.{line_text}
+use Rattle.er_print.specs.Printed.{bytes_between, line_text}
 use Rattle.er_print.specs.declared.lines.ReportKind.TheVariants.{Lockset}
-use Rattle.er_report.specs.Lines.{LineView}
+use Rattle.er_report.specs.Lines.{LineView, RacedView, RefusedView, ShownView}
 use Rattle.er_report.specs.Report.{Summary}
+use Rattle.er_report.specs.declared.report.Because.{Because}
+use Rattle.er_report.specs.declared.report.Deed.{Deed}
+use Rattle.er_report.specs.declared.report.Deed.TheVariants as deed
+use Rattle.er_report.specs.declared.report.Label.{Label}
+use Rattle.er_report.specs.declared.report.Label.TheVariants as label
 use Rattle.er_trace.specs.Names.{NameTable}
 
 -- the address that is read of what is printed for a line
@@ -53,3 +62,49 @@ pub record CountsFit (s : Summary) : Type 0 where
   pub suppressed : s.suppressed < 2 ^ 64
   pub refused : s.refused < 2 ^ 64
   pub lost : lost_number s.lost < 2 ^ 64
+
+-- no name has an LF
+pub record HasPlainNames (names : NameTable) : Type 0 where
+  pub threads : list_all (list_all (λ byte. not (is_end byte))) names.threads ≡ true
+  pub locks : list_all (list_all (λ byte. not (is_end byte))) names.locks ≡ true
+  pub sites : list_all (list_all (λ byte. not (is_end byte))) names.sites ≡ true
+
+abbrev pub Fits : ℕ → Type 0
+Fits n = n < 2 ^ 64
+
+abbrev pub DeedFits : Deed → Type 0
+DeedFits (deed.Access kind word) = Unit {0}
+DeedFits (deed.Reuse range) = Fits (bytes_between range.lo range.hi)
+
+abbrev pub LabelFits : Label → Type 0
+LabelFits label.First = Unit {0}
+LabelFits label.Joined = Unit {0}
+LabelFits label.Write = Unit {0}
+LabelFits (label.Uncovered lock) = Fits lock
+LabelFits label.Unordered = Unit {0}
+
+abbrev pub ReasonFits : Because → Type 0
+ReasonFits because = Fits because.line × LabelFits because.label
+
+abbrev pub EventFits : Event → Type 0
+EventFits (Acquire lock mode) = Fits lock
+EventFits (Release lock mode) = Fits lock
+EventFits (Access kind word site) = Unit {0}
+EventFits (Reuse range) = Unit {0}
+EventFits IgnoreOn = Unit {0}
+EventFits IgnoreOff = Unit {0}
+EventFits (Show word) = Unit {0}
+EventFits (Level level) = Unit {0}
+EventFits (Sync sync) = Unit {0}
+
+abbrev pub StateFits : WordState → Type 0
+StateFits Virgin = Unit {0}
+StateFits (Exclusive thread) = Unit {0}
+StateFits (Shared locks) = All Fits locks
+StateFits (SharedModified locks) = All Fits locks
+
+-- the numbers that are printed for a line fit in 64 bits
+abbrev pub LineFits : LineView → Type 0
+LineFits (RacedView race) = Fits race.line × DeedFits race.deed × All Fits race.held × All ReasonFits race.explained
+LineFits (RefusedView number step refusal) = Fits number × EventFits step.event
+LineFits (ShownView number word state) = Fits number × StateFits state
