@@ -10,5 +10,6 @@ pub mod OrderLemmas
 pub mod PartLemmas
 pub mod PlainLemmas
 pub mod ReadLemmas
+pub mod ReportLemmas
 pub mod SortLemmas
 pub mod WholeLemmas

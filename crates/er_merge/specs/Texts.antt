@@ -1,5 +1,5 @@
 -- The lines of a report of the lockset rule, by what the report holds.
-use Rattle.std.specs.Prelude.{◌≡◌, ℕ, ◌+◌, ◌^◌, ◌<◌, nat_le, true, false, not, All, Contains, List, flat_map, length, map, take, Option, Some, None}
+use Rattle.std.specs.Prelude.{◌≡◌, ℕ, ◌+◌, ◌^◌, ◌<◌, nat_le, true, false, not, All, Contains, List, [], ◌∷◌, ◌++◌, flat_map, length, map, take, Option, Some, None}
 use Rattle.std.specs.List.{list_all, position_or_len}
 use Rattle.er_event.specs.declared.steps.Event.{Event}
 use Rattle.er_event.specs.declared.steps.Event.TheVariants.{Acquire, Release, Access, Reuse, IgnoreOn, IgnoreOff, Show, Level, Sync}
@@ -7,11 +7,11 @@ use Rattle.er_event.specs.declared.steps.WordState.{WordState}
 use Rattle.er_event.specs.declared.steps.WordState.TheVariants.{Virgin, Exclusive, Shared, SharedModified}
 use Rattle.er_lines.specs.Lines.{Line, is_end, lines_of}
 use Rattle.er_merge.specs.Lines.{address_in}
-use Rattle.er_merge.specs.Parts.{ContentView, EntryView}
+use Rattle.er_merge.specs.Parts.{ContentView, EntryView, HeadingView, heading_in}
 use Rattle.er_merge.specs.declared.lines.Place.{Place}
 use Rattle.er_merge.specs.declared.lines.Totals.{Totals}
 use Rattle.er_parts.specs.Merged.{line_number, line_word}
-use Rattle.er_print.specs.Printed.{bytes_between, line_text}
+use Rattle.er_print.specs.Printed.{bytes_between, line_text, report_text}
 use Rattle.er_print.specs.declared.lines.ReportKind.TheVariants.{Lockset}
 use Rattle.er_report.specs.Lines.{LineView, RacedView, RefusedView, ShownView}
 use Rattle.er_report.specs.Report.{Summary}
@@ -108,3 +108,24 @@ abbrev pub LineFits : LineView → Type 0
 LineFits (RacedView race) = Fits race.line × DeedFits race.deed × All Fits race.held × All ReasonFits race.explained
 LineFits (RefusedView number step refusal) = Fits number × EventFits step.event
 LineFits (ShownView number word state) = Fits number × StateFits state
+
+-- a first line, and then what is printed for this report
+pub record IsPartText (names : NameTable) (s : Summary) (text : List ℕ) : Type 0 where
+  pub heading : HeadingView
+  pub line : List ℕ
+  pub one : list_all (λ byte. not (is_end byte)) line ≡ true
+  pub says : heading_in line ≡ Some heading
+  pub is : text ≡ line ++ 10 ∷ report_text names s
+  pub lines : All LineFits s.lines
+  pub counts : CountsFit s
+
+-- one such text for each report
+abbrev pub ArePartTexts : NameTable → List Summary → List (List ℕ) → Type 0
+ArePartTexts names [] [] = Unit {0}
+ArePartTexts names [] (text ∷ texts) = ⊥
+ArePartTexts names (s ∷ reports) [] = ⊥
+ArePartTexts names (s ∷ reports) (text ∷ texts) = IsPartText names s text × ArePartTexts names reports texts
+
+-- the lines of all reports
+abbrev pub all_lines : List Summary → List LineView
+all_lines reports = flat_map (λ (report : Summary). report.lines) reports

@@ -1,22 +1,23 @@
 //! The laws of merged reports: each function does nothing, and its contract is proved of the definitions.
-ghost use Rattle.std.specs.Prelude.{◌≡◌, List, flat_map, map};
-ghost use Rattle.er_report.specs.Lines.{LineView};
+ghost use Rattle.std.specs.Prelude.{◌≡◌, ℕ, List, Ok};
+ghost use Rattle.er_merge.specs.Merging.{Merges};
+ghost use Rattle.er_merge.specs.Parts.{part_of};
+ghost use Rattle.er_merge.specs.Texts.{AddressesFollow, ArePartTexts, HasPlainNames, IsPartText, all_lines, content_of};
+ghost use Rattle.er_merge.specs.declared.merging.Merged.{Merged};
+ghost use Rattle.er_parts.specs.Merged.{merged};
+ghost use Rattle.er_print.specs.Printed.{report_text};
+ghost use Rattle.er_report.specs.Report.{Summary};
 ghost use Rattle.er_trace.specs.Names.{NameTable};
-ghost use Rattle.er_print.specs.Printed.{line_text};
-ghost use Rattle.er_print.specs.declared.lines.ReportKind.TheVariants.{Lockset};
-ghost use Rattle.er_parts.specs.Merged.{in_order};
-ghost use Rattle.er_merge.specs.Merging.{IsInOrder, entry_text};
-ghost use Rattle.er_merge.specs.Parts.{entry_view};
-ghost use Rattle.er_merge.specs.Texts.{AddressesFollow, entries_of};
-ghost use Rattle.er_merge.specs.declared.parts.Entry.{Entry};
 
-/// Lines that are sorted as bytes, by what is read of them, are in the order of what they report.
-pub fn bytes_are_sorted_as_lines()
-    ensures { (names : NameTable) (lines : List LineView) (old new : List Entry) → map entry_view old ≡ flat_map (entries_of names) lines
-        → IsInOrder old new → AddressesFollow names lines → flat_map entry_text new ≡ flat_map (line_text Lockset names) (in_order lines) }
+/// What is printed for a part's report, behind a first line, is read back as the report.
+pub fn a_report_is_read_back()
+    ensures { (names : NameTable) (report : Summary) (text : List ℕ) (is : IsPartText names report text) → HasPlainNames names
+        → part_of text ≡ Ok (record { heading = is.heading; content = content_of names report }) }
 {}
 
-/// Scratch.
-pub fn text_is_read_back()
-    ensures { (ls : List LineView) → in_order ls ≡ in_order ls }
+/// The text that is merged of the texts of reports is the text of the merged reports.
+pub fn merged_texts_are_merged_reports()
+    ensures { (names : NameTable) (reports : List Summary) (texts : List (List ℕ)) (made : Merged) → HasPlainNames names
+        → ArePartTexts names reports texts → AddressesFollow names (all_lines reports) → Merges texts (Ok made)
+        → made.text.items ≡ report_text names (merged reports) }
 {}
