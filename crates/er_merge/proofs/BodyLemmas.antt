@@ -1,5 +1,5 @@
 -- The lines of a report, read one behind another.
-use Rattle.std.proofs.Common.{◌≡◌, ℕ, suc, ◌+◌, ◌^◌, ◌<◌, Bool, true, false, List, [], ◌∷◌, ◌++◌, Option, Some, None, Result, Ok, Err, length, map, flat_map, refl, sym, ap, ◌∙◌, subst, append_assoc, append-nil, arith}
+use Rattle.std.proofs.Common.{◌≡◌, ℕ, ◌+◌, true, List, [], ◌∷◌, ◌++◌, Option, Some, None, Result, Ok, map, flat_map, refl, sym, ap, ◌∙◌, subst, append_assoc, append-nil}
 use Rattle.er_lines.specs.Lines.{AreWhole, Line, lines_of}
 use Rattle.er_lines.proofs.WholeLemmas.{lines_append}
 use Rattle.er_parts.specs.Merged.{line_number}
@@ -9,13 +9,12 @@ use Rattle.er_report.specs.Lines.{LineView}
 use Rattle.er_report.specs.declared.report.Because.{Because}
 use Rattle.er_trace.specs.Names.{NameTable}
 use Rattle.er_merge.specs.Lines.{address_in, report_line}
-use Rattle.er_merge.specs.Parts.{BodyView, ContentView, EntryView, body_from, go_on, with_kind, with_line}
+use Rattle.er_merge.specs.Parts.{BodyView, EntryView, body_from, go_on, with_kind, with_line}
 use Rattle.er_merge.specs.Texts.{entries_of, place_of}
 use Rattle.er_merge.specs.declared.faults.LineFault.{LineFault}
 use Rattle.er_merge.specs.declared.lines.Place.{Place}
-use Rattle.er_merge.specs.declared.lines.ReportLine.{ReportLine}
 use Rattle.er_merge.specs.declared.lines.ReportLine.TheVariants as is
-use Rattle.er_merge.proofs.ReadLemmas.{ArePlain, IsPrintable, first_is, head_read, joined, line_with, lines_are, reason_lines}
+use Rattle.er_merge.proofs.ReadLemmas.{IsPrintable, first_is, head_read, joined, line_with, lines_are, reason_lines}
 use Rattle.er_merge.proofs.WholeLemmas.{head_pieces, line_whole, reason_pieces, reasons_in, whole_append}
 
 -- from what was read so far these lines lead there

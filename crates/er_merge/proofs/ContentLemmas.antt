@@ -1,15 +1,15 @@
 -- The whole text of a report is read back.
-use Rattle.std.proofs.Common.{◌≡◌, ℕ, ◌+◌, List, [], ◌∷◌, ◌++◌, Option, Some, None, Result, Ok, Err, flat_map, refl, sym, ap, ◌∙◌, append_assoc, append-nil, arith, true}
+use Rattle.std.proofs.Common.{◌≡◌, ℕ, ◌+◌, List, [], ◌∷◌, ◌++◌, Option, Some, None, Result, Ok, flat_map, refl, sym, ap, ◌∙◌, append-nil, true}
 use Rattle.std.specs.List.{list_all}
 use Rattle.er_event.specs.declared.refusals.NoRoom.{NoRoom}
 use Rattle.er_lines.specs.Lines.{Line, lines_of}
 use Rattle.er_lines.proofs.WholeLemmas.{lines_append}
-use Rattle.er_print.specs.Printed.{counts_text, end_text, line_text, report_text, stop_text, text_of_report, totals_text}
+use Rattle.er_print.specs.Printed.{counts_text, line_text, report_text, stop_text, text_of_report, totals_text}
 use Rattle.er_print.specs.declared.lines.ReportKind.TheVariants.{Lockset}
 use Rattle.er_report.specs.Report.{Summary}
 use Rattle.er_trace.specs.Names.{NameTable}
-use Rattle.er_merge.specs.Parts.{BodyView, ContentView, HeadingView, PartView, body_from, empty_body, go_on, headed, heading_in, part_in, part_of, headed_by, with_kind, with_line}
-use Rattle.er_merge.specs.Texts.{CountsFit, content_of, entries_of, totals_of}
+use Rattle.er_merge.specs.Parts.{BodyView, HeadingView, body_from, empty_body, go_on, headed, heading_in, part_in, part_of, headed_by, with_kind}
+use Rattle.er_merge.specs.Texts.{CountsFit, content_of, entries_of}
 use Rattle.er_merge.specs.declared.faults.LineFault.{LineFault}
 use Rattle.er_merge.proofs.BodyLemmas.{ArePrintable, last_after, lines_lead, lines_whole}
 use Rattle.er_merge.proofs.EndLemmas.{count_lines, counted, counts_are, counts_lead, totals_closed, totals_pieces, totals_plain, totals_read}

@@ -1,5 +1,5 @@
 -- What stands behind the lines of a report is read back: the counts of its rules, and its totals.
-use Rattle.std.proofs.Common.{◌≡◌, ℕ, suc, ◌+◌, ◌^◌, ◌<◌, ◌==◌, Bool, true, false, not, cond, List, [], ◌∷◌, ◌++◌, Option, Some, None, Result, Ok, Err, length, length-append, nat_lt, codes, decimal, refl, sym, ap, ◌∙◌, subst, append_assoc, append-nil, arith}
+use Rattle.std.proofs.Common.{◌≡◌, ℕ, suc, ◌+◌, ◌^◌, ◌<◌, ◌==◌, Bool, true, false, cond, List, [], ◌∷◌, ◌++◌, Option, Some, None, Ok, Err, length, length-append, nat_lt, codes, decimal, refl, sym, ap, ◌∙◌, subst, append_assoc, append-nil, arith}
 use Rattle.std.specs.List.{All, list_all, starts_with}
 use Rattle.std.specs.Option.{option_and_then}
 use Rattle.std.specs.Prelude.{nat_eq, option_map}
@@ -8,13 +8,11 @@ use Rattle.er_lines.specs.Lines.{Line, lines_of}
 use Rattle.er_print.specs.Printed.{count_text, counts_text, lost_text, totals_text}
 use Rattle.er_print.specs.declared.lines.ReportKind.TheVariants.{Lockset}
 use Rattle.er_report.specs.Report.{Summary}
-use Rattle.er_merge.specs.Lines.{count_behind, is_no_digit, lost_behind, lost_in, number_behind, number_in_front, or_count, races_label, report_line, totals_if, totals_in}
+use Rattle.er_merge.specs.Lines.{count_behind, is_no_digit, lost_behind, lost_in, number_behind, number_in_front, or_count, races_label, report_line, totals_if}
 use Rattle.er_merge.specs.Parts.{BodyView, EntryView, with_kind, with_line}
 use Rattle.er_merge.specs.Texts.{CountsFit, lost_number, totals_of}
-use Rattle.er_merge.specs.declared.faults.LineFault.{LineFault}
 use Rattle.er_merge.specs.declared.faults.LineFault.TheVariants.{Foreign}
 use Rattle.er_merge.specs.declared.lines.Place.{Place}
-use Rattle.er_merge.specs.declared.lines.ReportLine.{ReportLine}
 use Rattle.er_merge.specs.declared.lines.ReportLine.TheVariants as is
 use Rattle.er_merge.specs.declared.lines.Totals.{Totals}
 use Rattle.er_merge.proofs.BodyLemmas.{Leads, leads_one, leads_then}

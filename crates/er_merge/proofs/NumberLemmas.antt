@@ -1,16 +1,15 @@
 -- A number that was written in decimal digits is read back.
-use Rattle.std.proofs.Common.{◌≡◌, ℕ, suc, ◌+◌, ◌%◌, ◌/◌, ◌^◌, ◌<◌, ◌≤◌, Bool, true, false, not, ◌&&◌, cond, List, [], ◌∷◌, ◌++◌, Option, Some, None, length, take, drop, nat_lt, nat_le, codes, decimal, refl, sym, ap, ◌∙◌, subst, arith}
-use Rattle.std.specs.Char.{digit_value, is_digit}
+use Rattle.std.proofs.Common.{◌≡◌, ℕ, suc, ◌+◌, ◌%◌, ◌^◌, ◌<◌, Bool, true, false, not, List, [], ◌∷◌, ◌++◌, Some, length, take, drop, nat_lt, decimal, refl, sym, ap, ◌∙◌, arith}
+use Rattle.std.specs.Char.{is_digit}
 use Rattle.std.specs.List.{list_all, position_or_len}
 use Rattle.std.specs.Str.Parse.{digits_value}
 use Rattle.std.proofs.lemmas.Bool.Decides.{nat_tests}
 use Rattle.std.proofs.lemmas.Bool.{and_parts}
 use Rattle.std.proofs.lemmas.Fmt.{decimal_by_steps, decimal_is_IsNumeral}
-use Rattle.std.proofs.lemmas.List.{drop-append-le, take-append-le, take_all, drop_all}
 use Rattle.std.proofs.lemmas.List.Folds.{list_all-append}
 use Rattle.er_lines.specs.Lines.{has_bytes}
 use Rattle.er_lines.specs.Number.{value_in}
-use Rattle.er_merge.specs.Lines.{is_no_digit, number_behind, number_in_front}
+use Rattle.er_merge.specs.Lines.{is_no_digit, number_in_front}
 
 -- what all digits pass, the digits of a number pass
 pub digits_pass : (p : ℕ → Bool) → ((d : ℕ) → d < 10 → p (48 + d) ≡ true) → (n : ℕ) → n < 2 ^ 64 → list_all p (decimal n) ≡ true

@@ -1,5 +1,5 @@
 -- What is printed for a line has an LF at the end of each of its lines alone, if no name has one.
-use Rattle.std.proofs.Common.{◌≡◌, ℕ, zero, suc, ◌+◌, ◌-◌, ◌*◌, ◌%◌, ◌/◌, ◌^◌, ◌<◌, ◌≤◌, Bool, true, false, not, cond, List, [], ◌∷◌, ◌++◌, length, flat_map, get_or, codes, decimal, refl, sym, ap, ◌∙◌, arith}
+use Rattle.std.proofs.Common.{◌≡◌, ℕ, zero, suc, ◌-◌, ◌*◌, ◌%◌, ◌/◌, ◌<◌, Bool, true, false, cond, List, [], ◌∷◌, ◌++◌, codes, decimal, refl, ◌∙◌, arith}
 use Rattle.std.specs.Char.{digit_char}
 use Rattle.std.specs.List.{All, list_all}
 use Rattle.std.proofs.lemmas.Bool.{and_parts}
@@ -20,8 +20,8 @@ use Rattle.er_event.specs.declared.steps.Sync.TheVariants.{Start, Join, Signal, 
 use Rattle.er_event.specs.declared.steps.WordState.{WordState}
 use Rattle.er_event.specs.declared.steps.WordState.TheVariants.{Virgin, Exclusive, Shared, SharedModified}
 use Rattle.er_lines.specs.Number.{hex_digits}
-use Rattle.er_print.specs.Printed.{address_text, bytes_between, event_text, event_verb, kind_text, label_text, lock_text, locks_text, name_at, place_text, site_text, state_text}
-use Rattle.er_print.specs.Styles.{lock_in, named_site, spaced_in}
+use Rattle.er_print.specs.Printed.{bytes_between, event_text, event_verb, kind_text, label_text, lock_text, locks_text, name_at, place_text, site_text, state_text}
+use Rattle.er_print.specs.Styles.{lock_in, named_site}
 use Rattle.er_print.specs.Values.{more_text}
 use Rattle.er_print.specs.declared.styles.Style.TheVariants as style
 use Rattle.er_report.specs.Lines.{LineView, RaceView, RacedView, RefusedView, ShownView}
@@ -35,7 +35,7 @@ use Rattle.er_merge.specs.Texts.{DeedFits, EventFits, Fits, HasPlainNames, Label
 use Rattle.er_merge.proofs.BodyLemmas.{ArePrintable}
 use Rattle.er_merge.proofs.EndLemmas.{decimal_plain}
 use Rattle.er_merge.proofs.ReadLemmas.{ArePlain, IsPrintable, NoFeeds, no_feed}
-use Rattle.er_merge.proofs.WholeLemmas.{deed_pieces, head_pieces, reason_pieces}
+use Rattle.er_merge.proofs.WholeLemmas.{deed_pieces, reason_pieces}
 
 abbrev Plain : List ℕ → Type 0
 Plain text = list_all no_feed text ≡ true

@@ -1,26 +1,19 @@
 -- What is printed for the lines of a report is read back, line by line.
-use Rattle.std.proofs.Common.{◌≡◌, ℕ, zero, suc, ◌+◌, ◌^◌, ◌<◌, Bool, true, false, not, ◌&&◌, List, [], ◌∷◌, ◌++◌, Option, Some, None, Result, Ok, Err, length, map, take, flat_map, codes, decimal, refl, sym, ap, ◌∙◌, subst, append_assoc, append-nil, arith}
+use Rattle.std.proofs.Common.{◌≡◌, ℕ, ◌^◌, ◌<◌, Bool, true, false, not, List, [], ◌∷◌, ◌++◌, map, take, flat_map, codes, decimal, refl, sym, ap, ◌∙◌, append_assoc}
 use Rattle.std.specs.List.{list_all, position_or_len}
 use Rattle.std.proofs.lemmas.Bool.{and_parts}
 use Rattle.std.proofs.lemmas.List.Folds.{list_all-append}
 use Rattle.er_lines.specs.Lines.{Line, is_end, lines_of, onto_line}
-use Rattle.er_lines.proofs.WholeLemmas.{lines_append}
 use Rattle.er_parts.specs.Merged.{line_number}
 use Rattle.er_print.specs.Printed.{line_text, place_text}
 use Rattle.er_print.specs.declared.lines.ReportKind.TheVariants.{Lockset}
 use Rattle.er_report.specs.Lines.{LineView, RacedView, RefusedView, ShownView}
 use Rattle.er_report.specs.declared.report.Because.{Because}
-use Rattle.er_report.specs.declared.report.Deed.{Deed}
 use Rattle.er_trace.specs.Names.{NameTable}
 use Rattle.er_merge.specs.Lines.{address_in, number_in_front, or_step, report_line, step_line}
-use Rattle.er_merge.specs.Parts.{BodyView, ContentView, EntryView, body_from, go_on, with_kind, with_line}
-use Rattle.er_merge.specs.Texts.{address_of, entries_of, place_of}
-use Rattle.er_merge.specs.declared.faults.LineFault.{LineFault}
-use Rattle.er_merge.specs.declared.lines.Place.{Place}
-use Rattle.er_merge.specs.declared.lines.ReportLine.{ReportLine}
 use Rattle.er_merge.specs.declared.lines.ReportLine.TheVariants as is
 use Rattle.er_merge.proofs.NumberLemmas.{number_read, place_behind, take_front}
-use Rattle.er_merge.proofs.WholeLemmas.{closed, head_pieces, line_pieces, line_whole, reason_pieces, reasons_in}
+use Rattle.er_merge.proofs.WholeLemmas.{closed, head_pieces, line_pieces, reason_pieces, reasons_in}
 
 abbrev pub no_feed : ℕ → Bool
 no_feed byte = not (is_end byte)

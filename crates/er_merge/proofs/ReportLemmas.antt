@@ -1,8 +1,7 @@
 -- The merged text of the texts of parts is the text of their merged reports.
-use Rattle.std.proofs.Common.{◌≡◌, ℕ, suc, ◌+◌, ◌<◌, Bool, true, false, cond, List, [], ◌∷◌, ◌++◌, Option, Some, None, Result, Ok, Err, length, nat_lt, map, flat_map, codes, decimal, refl, sym, ap, ◌∙◌, subst, arith}
-use Rattle.std.specs.List.{range_with_len, sum, sum_by}
+use Rattle.std.proofs.Common.{◌≡◌, ℕ, List, [], ◌∷◌, ◌++◌, Option, Some, None, Ok, length, map, flat_map, codes, decimal, refl, sym, ap, ◌∙◌}
+use Rattle.std.specs.List.{range_with_len, sum}
 use Rattle.std.specs.Prelude.{slice_index}
-use Rattle.std.proofs.lemmas.Bool.Decides.{nat_tests}
 use Rattle.std.proofs.lemmas.List.{map-append}
 use Rattle.std.proofs.lemmas.List.Concat.{flat_map-append}
 use Rattle.std.proofs.lemmas.List.Sums.{sum-map}
@@ -10,20 +9,15 @@ use Rattle.er_parts.specs.Merged.{in_order, lost_in, merged, rules_in as rules_o
 use Rattle.er_print.specs.Printed.{counts_text, end_text, line_text, lost_text, report_text, text_of_report, totals_text}
 use Rattle.er_print.specs.declared.lines.ReportKind.{ReportKind}
 use Rattle.er_print.specs.declared.lines.ReportKind.TheVariants.{Lockset}
-use Rattle.er_report.specs.Lines.{LineView}
 use Rattle.er_report.specs.Report.{Summary}
 use Rattle.er_trace.specs.Names.{NameTable}
-use Rattle.er_merge.specs.Merging.{AreParts, IsMerged, Merges, entries_in, entry_text, figure_of, kind_if, kind_of, lost_of, rule_sum, rules_in, sum_in, sums_of}
+use Rattle.er_merge.specs.Merging.{AreParts, Merges, entries_in, figure_of, kind_if, kind_of, lost_of, rule_sum, rules_in, sum_in, sums_of}
 use Rattle.er_merge.specs.Parts.{ContentView, EntryView, PartView, content_view, entry_view, part_of, part_view}
-use Rattle.er_merge.specs.Texts.{AddressesFollow, ArePartTexts, HasPlainNames, IsPartText, all_lines, content_of, entries_of, lost_number, totals_of}
-use Rattle.er_merge.specs.declared.faults.LineFault.{LineFault}
+use Rattle.er_merge.specs.Texts.{AddressesFollow, ArePartTexts, HasPlainNames, IsPartText, all_lines, content_of, entries_of, lost_number}
 use Rattle.er_merge.specs.declared.merging.Figure.{Figure}
 use Rattle.er_merge.specs.declared.merging.Figure.TheVariants.{Steps, Races, Suppressed, Refused, Rule}
 use Rattle.er_merge.specs.declared.merging.Merged.{Merged}
-use Rattle.er_merge.specs.declared.parts.Content.{Content}
-use Rattle.er_merge.specs.declared.parts.Entry.{Entry}
 use Rattle.er_merge.specs.declared.parts.PartReport.{PartReport}
-use Rattle.er_merge.specs.declared.lines.Totals.{Totals}
 use Rattle.er_merge.proofs.ContentLemmas.{part_read}
 use Rattle.er_merge.proofs.EntryLemmas.{entries_in_order}
 use Rattle.er_merge.proofs.PlainLemmas.{all_printable}

@@ -1,9 +1,8 @@
 -- The text of a line is whole lines, which make it again.
-use Rattle.std.proofs.Common.{◌≡◌, ℕ, ◌+◌, Bool, true, false, ◌&&◌, List, [], ◌∷◌, ◌++◌, map, flat_map, refl, sym, ap, ◌∙◌, subst, append_assoc, append-nil, codes, decimal, arith}
+use Rattle.std.proofs.Common.{◌≡◌, ℕ, Bool, true, false, List, [], ◌∷◌, ◌++◌, map, flat_map, refl, sym, ap, ◌∙◌, subst, append_assoc, append-nil, codes, decimal, arith}
 use Rattle.std.specs.List.{list_all}
 use Rattle.std.proofs.lemmas.List.Concat.{flat_map-append}
 use Rattle.std.proofs.lemmas.List.Folds.{flat_map-map, list_all-append}
-use Rattle.er_event.specs.declared.steps.Step.{Step}
 use Rattle.er_event.specs.Refusal.{text_of}
 use Rattle.er_lines.specs.Lines.{AreWhole, Line, is_end, lines_of, onto_line}
 use Rattle.er_lines.proofs.WholeLemmas.{lines_append}
@@ -20,7 +19,6 @@ use Rattle.std.proofs.lemmas.Bool.Decides.{nat_tests}
 use Rattle.er_merge.specs.Merging.{entry_text}
 use Rattle.er_merge.specs.Parts.{EntryView, entry_view}
 use Rattle.er_merge.specs.Texts.{entries_of, place_of}
-use Rattle.er_merge.specs.declared.lines.Place.{Place}
 use Rattle.er_merge.specs.declared.parts.Entry.{Entry}
 
 -- one line or more, each with its LF
