@@ -1,3 +1,4 @@
+pub mod AddressLemmas
 pub mod BodyLemmas
 pub mod ContentLemmas
 pub mod EndLemmas

@@ -1,17 +1,17 @@
 -- The lines of a report of the lockset rule, by what the report holds.
-use Rattle.std.specs.Prelude.{◌≡◌, ℕ, ◌+◌, ◌^◌, ◌<◌, nat_le, true, false, not, All, Contains, List, [], ◌∷◌, ◌++◌, flat_map, length, map, take, Option, Some, None}
+use Rattle.std.specs.Prelude.{◌≡◌, ◌⊎◌, ℕ, ◌+◌, ◌^◌, ◌<◌, nat_le, true, false, not, All, Contains, List, [], ◌∷◌, ◌++◌, flat_map, length, map, take, Option, Some, None}
 use Rattle.std.specs.List.{list_all, position_or_len}
 use Rattle.er_event.specs.declared.steps.Event.{Event}
 use Rattle.er_event.specs.declared.steps.Event.TheVariants.{Acquire, Release, Access, Reuse, IgnoreOn, IgnoreOff, Show, Level, Sync}
 use Rattle.er_event.specs.declared.steps.WordState.{WordState}
 use Rattle.er_event.specs.declared.steps.WordState.TheVariants.{Virgin, Exclusive, Shared, SharedModified}
-use Rattle.er_lines.specs.Lines.{Line, is_end, lines_of}
+use Rattle.er_lines.specs.Lines.{Line, has_bytes, is_end, is_gap, lines_of}
 use Rattle.er_merge.specs.Lines.{address_in}
 use Rattle.er_merge.specs.Parts.{ContentView, EntryView, HeadingView, heading_in}
 use Rattle.er_merge.specs.declared.lines.Place.{Place}
 use Rattle.er_merge.specs.declared.lines.Totals.{Totals}
-use Rattle.er_parts.specs.Merged.{line_number, line_word}
-use Rattle.er_print.specs.Printed.{bytes_between, line_text, report_text}
+use Rattle.er_parts.specs.Merged.{deed_word, line_number, line_word}
+use Rattle.er_print.specs.Printed.{bytes_between, line_text, name_at, report_text}
 use Rattle.er_print.specs.declared.lines.ReportKind.TheVariants.{Lockset}
 use Rattle.er_report.specs.Lines.{LineView, RacedView, RefusedView, ShownView}
 use Rattle.er_report.specs.Report.{Summary}
@@ -129,3 +129,14 @@ ArePartTexts names (s ∷ reports) (text ∷ texts) = IsPartText names s text ×
 -- the lines of all reports
 abbrev pub all_lines : List Summary → List LineView
 all_lines reports = flat_map (λ (report : Summary). report.lines) reports
+
+-- a race of a word that has an address, by a thread whose name is one word
+abbrev pub IsRaceOfWord : NameTable → LineView → Type 0
+IsRaceOfWord names (RacedView race) =
+    (has_bytes (name_at names.threads race.thread) ≡ true) × (list_all (λ byte. not (is_gap byte)) (name_at names.threads race.thread) ≡ true) × (deed_word race.deed < 2 ^ 46)
+IsRaceOfWord names (RefusedView number step refusal) = ⊥
+IsRaceOfWord names (ShownView number word state) = ⊥
+
+-- two lines of one number are such races, or the same
+abbrev pub RacesAloneShare : NameTable → List LineView → Type 0
+RacesAloneShare names lines = (a b : LineView) → Contains lines a → Contains lines b → line_number a ≡ line_number b → (IsRaceOfWord names a × IsRaceOfWord names b) ⊎ (a ≡ b)

@@ -1,11 +1,12 @@
 //! The laws of merged reports: each function does nothing, and its contract is proved of the definitions.
-ghost use Rattle.std.specs.Prelude.{◌≡◌, ℕ, List, Ok};
+ghost use Rattle.std.specs.Prelude.{◌≡◌, ℕ, All, List, Ok};
 ghost use Rattle.er_merge.specs.Merging.{Merges};
 ghost use Rattle.er_merge.specs.Parts.{part_of};
-ghost use Rattle.er_merge.specs.Texts.{AddressesFollow, ArePartTexts, HasPlainNames, IsPartText, all_lines, content_of};
+ghost use Rattle.er_merge.specs.Texts.{AddressesFollow, ArePartTexts, HasPlainNames, IsPartText, LineFits, RacesAloneShare, all_lines, content_of};
 ghost use Rattle.er_merge.specs.declared.merging.Merged.{Merged};
 ghost use Rattle.er_parts.specs.Merged.{merged};
 ghost use Rattle.er_print.specs.Printed.{report_text};
+ghost use Rattle.er_report.specs.Lines.{LineView};
 ghost use Rattle.er_report.specs.Report.{Summary};
 ghost use Rattle.er_trace.specs.Names.{NameTable};
 
@@ -20,4 +21,10 @@ pub fn merged_texts_are_merged_reports()
     ensures { (names : NameTable) (reports : List Summary) (texts : List (List ℕ)) (made : Merged) → HasPlainNames names
         → ArePartTexts names reports texts → AddressesFollow names (all_lines reports) → Merges texts (Ok made)
         → made.text.items ≡ report_text names (merged reports) }
+{}
+
+/// If races alone share a line of the trace, then the addresses that are read of the lines are in the order of the words.
+pub fn addresses_follow_words()
+    ensures { (names : NameTable) (lines : List LineView) → HasPlainNames names → All LineFits lines → RacesAloneShare names lines
+        → AddressesFollow names lines }
 {}
