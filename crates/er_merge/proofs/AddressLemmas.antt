@@ -1,20 +1,19 @@
 -- The address of a race is read back from what is printed for it, so addresses of races are in the order of their words.
-use Rattle.std.proofs.Common.{◌≡◌, ℕ, suc, ◌+◌, ◌*◌, ◌^◌, ◌<◌, ◌≤◌, ◌⊎◌, inl, inr, Bool, true, false, not, cond, List, [], ◌∷◌, ◌++◌, Option, Some, None, length, filter, unwrap_or, nat_lt, nat_le, codes, decimal, refl, sym, ap, ◌∙◌, subst, append_assoc, arith}
+use Rattle.std.proofs.Common.{◌≡◌, ℕ, ◌+◌, ◌*◌, ◌^◌, ◌<◌, ◌≤◌, inl, inr, Bool, true, false, not, List, [], ◌∷◌, ◌++◌, Option, Some, length, filter, unwrap_or, nat_lt, nat_le, codes, decimal, refl, sym, ap, ◌∙◌, subst, append_assoc, arith}
 use Rattle.std.specs.Char.{is_digit}
-use Rattle.std.specs.List.{All, Contains, list_all, slice_split}
+use Rattle.std.specs.List.{All, list_all, slice_split}
 use Rattle.std.specs.Str.Parse.{digits_value}
 use Rattle.std.proofs.lemmas.Bool.{and_parts}
 use Rattle.std.proofs.lemmas.Bool.Decides.{nat_tests}
-use Rattle.std.proofs.lemmas.Fmt.{decimal_is_IsNumeral}
 use Rattle.std.proofs.lemmas.List.Elements.{All-contains}
 use Rattle.std.proofs.lemmas.List.Folds.{list_all-append}
 use Rattle.std.proofs.lemmas.List.Splits.{slice_split-cons_no, slice_split-cons_yes}
 use Rattle.er_event.specs.declared.steps.Kind.{Kind}
 use Rattle.er_event.specs.declared.steps.Kind.TheVariants as kind
-use Rattle.er_lines.specs.Lines.{has_bytes, is_gap, word_at, words}
-use Rattle.er_lines.specs.Number.{hex_digits, number_at, number_of, value_in}
+use Rattle.er_lines.specs.Lines.{has_bytes, is_gap, words}
+use Rattle.er_lines.specs.Number.{hex_digits, number_at, number_of}
 use Rattle.er_lines.proofs.ReadyLaws.{hex_is}
-use Rattle.er_parts.specs.Merged.{deed_word, line_number, line_word}
+use Rattle.er_parts.specs.Merged.{deed_word, line_word}
 use Rattle.er_print.specs.Printed.{address_text, bytes_between, kind_text, locks_text, name_at, place_text, site_text}
 use Rattle.er_print.specs.Styles.{named_site}
 use Rattle.er_print.specs.declared.styles.Style.TheVariants as style
@@ -27,7 +26,7 @@ use Rattle.er_merge.specs.Texts.{AddressesFollow, HasPlainNames, IsRaceOfWord, L
 use Rattle.er_merge.proofs.NumberLemmas.{digits_pass}
 use Rattle.er_merge.proofs.PlainLemmas.{printable}
 use Rattle.er_merge.proofs.ReadLemmas.{first_is, joined}
-use Rattle.er_merge.proofs.WholeLemmas.{deed_pieces, head_pieces}
+use Rattle.er_merge.proofs.WholeLemmas.{deed_pieces}
 
 abbrev no_gap : ℕ → Bool
 no_gap byte = not (is_gap byte)
@@ -109,18 +108,22 @@ deed_words : (names : NameTable) (race : RaceView) (d : Deed) → has_bytes (nam
     → (verb : List ℕ) × (rest : List ℕ) × (words (joined (deed_pieces names race d)) ≡ name_at names.threads race.thread ∷ verb ∷ address_text (deed_word d) ∷ words rest)
 deed_words names race (deed.Access k word) some plain small =
     let name = name_at names.threads race.thread in
-    let rest : List ℕ = codes "at " ++ (site_text names race.site ++ (codes ", holds " ++ (locks_text names race.held ++ []))) in
-    (kind_text k, rest,
-     first_word name (kind_text k ++ 32 ∷ (address_text word ++ 32 ∷ rest)) some plain
-     ∙ ap (λ (ws : List (List ℕ)). name ∷ ws) (first_word (kind_text k) (address_text word ++ 32 ∷ rest) (kind_word k).0 (kind_word k).1)
-     ∙ ap (λ (ws : List (List ℕ)). name ∷ kind_text k ∷ ws) (first_word (address_text word) rest refl (address_plain word small)))
+    let rest : List ℕ = codes "at " ++ (site_text names race.site ++ (codes ", holds " ++ (locks_text names race.held ++ []))) in (
+      kind_text k,
+      rest,
+      first_word name (kind_text k ++ 32 ∷ (address_text word ++ 32 ∷ rest)) some plain
+          ∙ ap (λ (ws : List (List ℕ)). name ∷ ws) (first_word (kind_text k) (address_text word ++ 32 ∷ rest) (kind_word k).0 (kind_word k).1)
+          ∙ ap (λ (ws : List (List ℕ)). name ∷ kind_text k ∷ ws) (first_word (address_text word) rest refl (address_plain word small)),
+    )
 deed_words names race (deed.Reuse range) some plain small =
     let name = name_at names.threads race.thread in
-    let rest : List ℕ = decimal (bytes_between range.lo range.hi) ++ (named_site style.Plain names (codes " at ") race.site ++ []) in
-    (codes "reuse", rest,
-     first_word name (codes "reuse " ++ (address_text range.lo ++ 32 ∷ rest)) some plain
-     ∙ ap (λ (ws : List (List ℕ)). name ∷ ws) (first_word (codes "reuse") (address_text range.lo ++ 32 ∷ rest) refl refl)
-     ∙ ap (λ (ws : List (List ℕ)). name ∷ codes "reuse" ∷ ws) (first_word (address_text range.lo) rest refl (address_plain range.lo small)))
+    let rest : List ℕ = decimal (bytes_between range.lo range.hi) ++ (named_site style.Plain names (codes " at ") race.site ++ []) in (
+      codes "reuse",
+      rest,
+      first_word name (codes "reuse " ++ (address_text range.lo ++ 32 ∷ rest)) some plain
+          ∙ ap (λ (ws : List (List ℕ)). name ∷ ws) (first_word (codes "reuse") (address_text range.lo ++ 32 ∷ rest) refl refl)
+          ∙ ap (λ (ws : List (List ℕ)). name ∷ codes "reuse" ∷ ws) (first_word (address_text range.lo) rest refl (address_plain range.lo small)),
+    )
 
 race_address : (names : NameTable) (race : RaceView) → HasPlainNames names → LineFits (RacedView race) → has_bytes (name_at names.threads race.thread) ≡ true
     → list_all no_gap (name_at names.threads race.thread) ≡ true → deed_word race.deed < 2 ^ 46 → address_of names (RacedView race) ≡ 4 * deed_word race.deed
@@ -128,7 +131,7 @@ race_address names race plain fit some gap small =
     let deed = joined (deed_pieces names race race.deed) in
     let found = deed_words names race race.deed some gap small in
     let all = place_words race.line (codes "race: " ++ deed) fit.0
-        ∙ ap (λ (ws : List (List ℕ)). codes "line" ∷ (decimal race.line ++ 58 ∷ []) ∷ ws) (first_word (codes "race:") deed refl refl ∙ ap (λ (ws : List (List ℕ)). codes "race:" ∷ ws) found.2) in
+    ∙ ap (λ (ws : List (List ℕ)). codes "line" ∷ (decimal race.line ++ 58 ∷ []) ∷ ws) (first_word (codes "race:") deed refl refl ∙ ap (λ (ws : List (List ℕ)). codes "race:" ∷ ws) found.2) in
     ap address_in (first_is names (RacedView race) (printable names (RacedView race) plain fit))
     ∙ ap (number_at 5) all
     ∙ ap (λ (n : Option ℕ). unwrap_or n 0) (address_value (deed_word race.deed) small)

@@ -56,7 +56,7 @@ head_added : (names : NameTable) (es : List EntryView) (last : Option Place) (li
     → with_line (body_of es last) (joined (head_pieces names line)) ≡ Ok (body_of (es ++ (record { place = place_of names line; text = joined (head_pieces names line) }) ∷ []) (Some (place_of names line)))
 head_added names es last line plain =
     let kind : report_line (joined (head_pieces names line)) ≡ is.Step (place_of names line) =
-        head_read names line plain.number ∙ ap (λ (t : List ℕ). is.Step (record { line = line_number line; address = address_in t })) (sym (first_is names line plain)) in
+    head_read names line plain.number ∙ ap (λ (t : List ℕ). is.Step (record { line = line_number line; address = address_in t })) (sym (first_is names line plain)) in
     ap (with_kind (body_of es last) (joined (head_pieces names line))) kind
 
 -- the lines that are printed for one line
@@ -69,9 +69,9 @@ line_leads names es last line plain =
     let all = append_assoc es (view ∷ []) (views place (reason_lines names (reasons_in line))) in
     subst (λ (lines : List Line). Leads (body_of es last) lines (body_of (es ++ views place lines) (Some place))) (sym (lines_are names line plain))
     (leads_then (body_of es last) (body_of (es ++ view ∷ []) (Some place)) (body_of (es ++ views place (line_with (head_pieces names line) ∷ reason_lines names (reasons_in line))) (Some place))
-        (line_with (head_pieces names line) ∷ []) (reason_lines names (reasons_in line))
-        (leads_one (body_of es last) (body_of (es ++ view ∷ []) (Some place)) (joined (head_pieces names line)) (head_added names es last line plain))
-        (subst (λ (found : List EntryView). Leads (body_of (es ++ view ∷ []) (Some place)) (reason_lines names (reasons_in line)) (body_of found (Some place))) all rest))
+    (line_with (head_pieces names line) ∷ []) (reason_lines names (reasons_in line))
+    (leads_one (body_of es last) (body_of (es ++ view ∷ []) (Some place)) (joined (head_pieces names line)) (head_added names es last line plain))
+    (subst (λ (found : List EntryView). Leads (body_of (es ++ view ∷ []) (Some place)) (reason_lines names (reasons_in line)) (body_of found (Some place))) all rest))
 
 -- each of the lines can be printed so
 abbrev pub ArePrintable : NameTable → List LineView → Type 0
@@ -99,5 +99,5 @@ lines_lead names es last (line ∷ lines) plain =
     let apart = lines_append (line_text Lockset names line) (flat_map (line_text Lockset names) lines) (line_whole names line) in
     subst (λ (found : List Line). Leads (body_of es last) found (body_of (es ++ flat_map (entries_of names) (line ∷ lines)) (last_after names last (line ∷ lines)))) (sym apart)
     (leads_then (body_of es last) (body_of (es ++ entries_of names line) (Some place)) (body_of (es ++ flat_map (entries_of names) (line ∷ lines)) (last_after names last (line ∷ lines)))
-        (lines_of (line_text Lockset names line)) (lines_of (flat_map (line_text Lockset names) lines)) one
-        (subst (λ (found : List EntryView). Leads (body_of (es ++ entries_of names line) (Some place)) (lines_of (flat_map (line_text Lockset names) lines)) (body_of found (last_after names (Some place) lines))) all rest))
+    (lines_of (line_text Lockset names line)) (lines_of (flat_map (line_text Lockset names) lines)) one
+    (subst (λ (found : List EntryView). Leads (body_of (es ++ entries_of names line) (Some place)) (lines_of (flat_map (line_text Lockset names) lines)) (body_of found (last_after names (Some place) lines))) all rest))

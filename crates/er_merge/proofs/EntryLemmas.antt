@@ -59,10 +59,10 @@ order_is la lb aa ab wa wb same =
     elim (cases_lt la lb) [
       | inl less ↦ grind (arith, nat_tests, less)
       | inr most ↦ elim (cases_lt lb la) [
-          | inl more ↦ grind (arith, nat_tests, more)
-          | inr least ↦ let is : la ≡ lb = omega (arith, most, least) in let words = same is in
-              subst (λ l. (nat_lt la l || (la == l && nat_le wa wb)) ≡ not (is_lt (ordering_then (nat_cmp l la) (nat_cmp ab aa)))) is (grind (arith, nat_tests, words))
-        ]
+        | inl more ↦ grind (arith, nat_tests, more)
+        | inr least ↦ let is : la ≡ lb = omega (arith, most, least) in let words = same is in
+            subst (λ l. (nat_lt la l || (la == l && nat_le wa wb)) ≡ not (is_lt (ordering_then (nat_cmp l la) (nat_cmp ab aa)))) is (grind (arith, nat_tests, words))
+      ]
     ]
 
 fits_one : (names : NameTable) (a b : LineView) → (line_number a ≡ line_number b → nat_le (address_of names a) (address_of names b) ≡ nat_le (line_word a) (line_word b))
@@ -79,9 +79,10 @@ fits_all names a (b ∷ lines) follow =
 
 pub fits_lines : (names : NameTable) (lines : List LineView) → AddressesFollow names lines → Fits place_lt (place_of names) lines
 fits_lines names [] follow = tt
-fits_lines names (line ∷ lines) follow =
-    (fits_all names line lines (λ b there. follow line b (0, omega arith, refl) (suc there.0, omega (arith, there.1), there.2)),
-     fits_lines names lines (λ a b first second. follow a b (suc first.0, omega (arith, first.1), first.2) (suc second.0, omega (arith, second.1), second.2)))
+fits_lines names (line ∷ lines) follow = (
+  fits_all names line lines (λ b there. follow line b (0, omega arith, refl) (suc there.0, omega (arith, there.1), there.2)),
+  fits_lines names lines (λ a b first second. follow a b (suc first.0, omega (arith, first.1), first.2) (suc second.0, omega (arith, second.1), second.2)),
+)
 
 have_place : (place : Place) (lines : List Line) → HaveRank (λ (view : EntryView). view.place) place (map (λ (part : Line). record { place = place; text = part.bytes }) lines)
 have_place place [] = tt
@@ -93,13 +94,13 @@ pub entries_in_order : (names : NameTable) (lines : List LineView) (old new : Li
 entries_in_order names lines old new are order follow =
     let fits = fits_lines names lines follow in
     let have : (line : LineView) → HaveRank (λ (view : EntryView). view.place) (place_of names line) (entries_of names line) =
-        λ line. have_place (place_of names line) (lines_of (line_text Lockset names line)) in
+    λ line. have_place (place_of names line) (lines_of (line_text Lockset names line)) in
     let left = rises_map entry_view (λ (a b : EntryView). place_lt a.place b.place) new (rises_sorted (λ (a b : Entry). is_lt (place_order a b)) entries_ordered new order.sorted) in
     let right = entries_rise place_lt places_ordered (λ (view : EntryView). view.place) (place_of names) (entries_of names) have lines fits in
     let classes : (x : EntryView) → filter (ties (λ (a b : EntryView). place_lt a.place b.place) x) (map entry_view new)
-        ≡ filter (ties (λ (a b : EntryView). place_lt a.place b.place) x) (flat_map (entries_of names) (in_order lines)) =
-        λ x. let c : EntryView → Bool = ties (λ (a b : EntryView). place_lt a.place b.place) x in
-            let entry : Entry = record { place = x.place; text = record { ref_ptr = (0, 0); now = [] } } in
-            filter_map_of entry_view c new ∙ ap (map entry_view) (order.stable entry) ∙ sym (filter_map_of entry_view c old) ∙ ap (filter c) are
-            ∙ sym (entries_keep place_lt places_ordered (λ (view : EntryView). view.place) (place_of names) (entries_of names) have x.place lines fits) in
+    ≡ filter (ties (λ (a b : EntryView). place_lt a.place b.place) x) (flat_map (entries_of names) (in_order lines)) =
+    λ x. let c : EntryView → Bool = ties (λ (a b : EntryView). place_lt a.place b.place) x in
+    let entry : Entry = record { place = x.place; text = record { ref_ptr = (0, 0); now = [] } } in
+    filter_map_of entry_view c new ∙ ap (map entry_view) (order.stable entry) ∙ sym (filter_map_of entry_view c old) ∙ ap (filter c) are
+    ∙ sym (entries_keep place_lt places_ordered (λ (view : EntryView). view.place) (place_of names) (entries_of names) have x.place lines fits) in
     same_lists (λ (a b : EntryView). place_lt a.place b.place) views_ordered (map entry_view new) (flat_map (entries_of names) (in_order lines)) left right classes

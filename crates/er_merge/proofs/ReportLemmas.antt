@@ -101,7 +101,7 @@ counts_say : (names : NameTable) (reports : List Summary) (parts : List PartRepo
 counts_say names reports parts say =
     ap (λ (n : ℕ). map (rule_sum parts) (range_with_len 0 n)) (rules_say names reports parts say)
     ∙ map_same (rule_sum parts) (λ i. sum (map (λ (report : Summary). slice_index report.rule_counts i) reports)) (range_with_len 0 (rules_of reports))
-        (λ i. sums_say names (λ (content : ContentView). slice_index content.counts i) (Rule i) (λ (report : Summary). slice_index report.rule_counts i) (λ part. refl) (λ s. refl) reports parts say)
+    (λ i. sums_say names (λ (content : ContentView). slice_index content.counts i) (Rule i) (λ (report : Summary). slice_index report.rule_counts i) (λ part. refl) (λ s. refl) reports parts say)
 
 -- the text of the totals, by their numbers
 abbrev totals_by : ℕ → ℕ → ℕ → ℕ → List ℕ → List ℕ
