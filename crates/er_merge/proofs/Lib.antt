@@ -3,6 +3,7 @@ pub mod BodyLemmas
 pub mod ContentLemmas
 pub mod EndLemmas
 pub mod EntryLemmas
+pub mod FaultLemmas
 pub mod InOrderLemmas
 pub mod LineLemmas
 pub mod MergeLemmas
