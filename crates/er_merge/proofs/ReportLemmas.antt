@@ -138,3 +138,7 @@ merged_text names reports texts m plain are follow made =
     ∙ ap (λ (of : ReportKind). flat_map (line_text Lockset names) (in_order (all_lines reports)) ++ end_text of (sums_of parts)) (kind_say names reports parts say)
     ∙ ap (λ (t : List ℕ). flat_map (line_text Lockset names) (in_order (all_lines reports)) ++ t) (end_say names reports parts say)
     ∙ sym (report_is names (merged reports))
+
+pub merged_races : (names : NameTable) (reports : List Summary) (texts : List (List ℕ)) (m : Merged) → HasPlainNames names → ArePartTexts names reports texts → Merges texts (Ok m) → m.races ≡ (merged reports).races
+merged_races names reports texts m plain are made =
+    made.2.races ∙ sums_say names (λ (c : ContentView). c.totals.races) Races (λ (s : Summary). s.races) (λ part. refl) (λ s. refl) reports made.0 (all_say names reports texts made.0 plain are made.1)

@@ -24,11 +24,13 @@ pub fn texts_of_reports_are_read()
         → ArePartTexts names reports texts → Merges texts (Err (Line number line fault)) → ⊥ }
 {}
 
-/// The text that is merged of the texts of reports is the text of the merged reports.
+/// The text that is merged of the texts of reports is the text of the merged reports, and so is the number of races.
 pub fn merged_texts_are_merged_reports()
-    ensures { (names : NameTable) (reports : List Summary) (texts : List (List ℕ)) (made : Merged) → HasPlainNames names
+    ensures text { (names : NameTable) (reports : List Summary) (texts : List (List ℕ)) (made : Merged) → HasPlainNames names
         → ArePartTexts names reports texts → AddressesFollow names (all_lines reports) → Merges texts (Ok made)
         → made.text.items ≡ report_text names (merged reports) }
+    ensures races { (names : NameTable) (reports : List Summary) (texts : List (List ℕ)) (made : Merged) → HasPlainNames names
+        → ArePartTexts names reports texts → Merges texts (Ok made) → made.races ≡ (merged reports).races }
 {}
 
 /// If races alone share a line of the trace, then the addresses that are read of the lines are in the order of the words.
