@@ -1,5 +1,6 @@
 pub mod Faults
 pub mod Headings
+pub mod Laws
 pub mod Lines
 pub mod Parts
 pub mod Merging

@@ -1,8 +1,5 @@
 use Rattle.er_merge.proofs.ReportLemmas.{merged_races, merged_text}
 use Rattle.er_merge.proofs.laws.merged_texts_are_merged_reports.Goals as goal
 
-pub returns-clause-text : goal.returns-clause-text
-returns-clause-text c = merged_text
-
-pub returns-clause-races : goal.returns-clause-races
-returns-clause-races c = merged_races
+pub returns : goal.returns
+returns c = λ names reports texts made plain are follow so. (merged_text names reports texts made plain are follow so, merged_races names reports texts made plain are so)
