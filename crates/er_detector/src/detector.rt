@@ -1,5 +1,5 @@
 //! A detector: shards under locks of their own, and the two counters.
-ghost use Rattle.std.specs.Prelude.{◌≡◌, ◌<◌, ◌≤◌, ◌⊎◌, ◌&&◌, ℕ, [], IsTrue, IsFalse, IfOk, IfErr, IfSome, IsErrOf, IsErrAnd, OnOk, OnErr, Err, Some, None, length, vec_len, ◌++◌, filter};
+ghost use Rattle.std.specs.Prelude.{◌≡◌, ◌<◌, ◌≤◌, ◌⊎◌, ◌&&◌, ℕ, [], IsTrue, IsFalse, IfOk, IfErr, IfSome, IsErrOf, IsErrAnd, OnOk, OnErr, Err, Some, None, length, vec_len, ◌++◌, ◌∷◌, filter};
 ghost use Rattle.std.specs.List.{All};
 ghost use Rattle.er_event.specs.Span.{page_count, part_lo, parts_below, parts_of};
 ghost use Rattle.er_held.specs.Held.{nothing_held};
@@ -14,7 +14,7 @@ ghost use Rattle.er_detector.specs.Races.{IsRace, is_race};
 use crate::Config;
 use crossbeam_utils::CachePadded;
 use er_event::{Kind, PageRange, Refusal, Reply, Site, ThreadId, Word, WordRange};
-use er_journal::{Entry, What};
+use er_journal::{Entry, EntryView, Journal};
 use er_seat::{Seat, VacantSeat};
 use er_shard::Shard;
 use er_table::LocksetTable;
@@ -330,28 +330,21 @@ fn ignored(seat: &mut Seat, word: Word, kind: Kind, site: Site) -> Result<Reply,
 }
 
 /// Adds copies of the journal's entries of races, in order.
-pub(crate) fn add_races(races: &mut Vec<Entry>, journal: &[Entry]) -> Result<(), AllocError>
-    ensures { OnOk result (races.new.items ≡ races.old.items ++ filter is_race journal.now) }
+pub(crate) fn add_races(races: &mut Vec<Entry>, journal: &Journal) -> Result<(), AllocError>
+    ensures { OnOk result (races.new.items ≡ races.old.items ++ filter is_race journal.now.entries) }
 {
-    for entry in journal {
-        if let Reply::Race = entry.reply.reply() {
-            races.push(copy_of(entry)?)?;
-        }
+    for at in 0..journal.len() {
+        add_race(races, &journal.entry(at))?;
     }
     Ok(())
 }
 
-fn copy_of(entry: &Entry) -> Result<Entry, AllocError>
-    ensures { IfOk result (λ copied. copied ≡ entry.now) }
+// Adds a copy of the entry, if it is one of a race.
+fn add_race(races: &mut Vec<Entry>, entry: &EntryView) -> Result<(), AllocError>
+    ensures { OnOk result (races.new.items ≡ races.old.items ++ filter is_race (entry.now ∷ [])) }
 {
-    let what = match &entry.what {
-        What::Access(stamp) => What::Access(stamp.copy()?),
-        What::Reset(range) => What::Reset(*range),
-    };
-    Ok(Entry {
-        ticket: entry.ticket,
-        what,
-        thread: entry.thread,
-        reply: entry.reply.copy(),
-    })
+    if let Reply::Race = entry.reply().reply() {
+        races.push(entry.to_entry()?)?;
+    }
+    Ok(())
 }

@@ -1,6 +1,6 @@
 //! What is written down of a run: the answers of a replay, the explanation of a race, the journal of a shard, the calls of a seat.
 //!
-//! Begin with [`Answers`], what a replay answered, step by step, and with [`Entry`] and [`Call`], what shards and seats keep.
+//! Begin with [`Answers`], what a replay answered, step by step, and with [`Journal`] and [`Call`], what shards and seats keep.
 //! `specs/Journals` says when a journal is legal, and `specs/Merges` when calls and journals are parts of one run.
 //!
 //! What it promises: answers are the list of what was answered, and a call that found no memory changed nothing (`err`); a reply in
@@ -21,6 +21,7 @@ pub use answers::{Answer, Answers, Outcome, Stopped};
 pub use calls::Call;
 pub use entries::{Entry, Stamp, What};
 pub use explanations::{Explanation, Uncovered};
+pub use journal::{EntryView, Journal, Told};
 pub use laws::a_merge_is_legal;
 pub use locks::HeldLocks;
 pub use replies::BriefReply;
@@ -29,6 +30,7 @@ mod answers;
 mod calls;
 mod entries;
 mod explanations;
+mod journal;
 mod laws;
 mod locks;
 mod replies;

@@ -181,13 +181,11 @@ at_within journals read q s journal at least here entries same =
 
 -- what the code reads at the place is the next entry
 pub next_at : (journals : List (List Entry)) (read : List ℕ) (q : ℕ) (s : List Entry) (journal : List Entry) (at : ℕ) (e : Entry) → IsLeast journals read q → s ≡ get_or journals q s → journal ≡ s → length read ≡ length journals → at ≡ get_or read q at
-    → e ≡ get_or journal at e → IsNext journals read q e
-next_at journals read q s journal at e least shard entries places number is =
+    → slice_get journal at ≡ Some e → IsNext journals read q e
+next_at journals read q s journal at e least shard entries places number got =
     let inside : q < length journals = in_shards journals read q least.entry least.next in
     let here : slice_get journals q ≡ Some s = slice_get_read journals (length journals) q s refl inside shard in
     let same : at ≡ slice_index read q = number_read read q at (omega arith) number in
-    let below : at < length journal = at_within journals read q s journal at least here entries same in
-    let got : slice_get journal at ≡ Some e = slice_get_read journal (length journal) at e refl below is in
     (s, here, rw (← entries, ← same) got)
 
 pub next_within : (journals : List (List Entry)) (read : List ℕ) (q : ℕ) (s : List Entry) (journal : List Entry) (at : ℕ) → IsLeast journals read q → s ≡ get_or journals q s → journal ≡ s → length read ≡ length journals → at ≡ get_or read q at → at < length journal

@@ -13,7 +13,7 @@ ghost use Rattle.er_journal.specs.declared.entries.Entry.{Entry as EntryShown};
 use crate::seat_checks::{Index, is_above};
 use crate::{JournalView, Made, SeatView, Unsettled};
 use er_event::ThreadId;
-use er_journal::{Call, Entry};
+use er_journal::{Call, EntryView};
 use std::alloc::Global;
 use std::marker::Model;
 
@@ -21,7 +21,7 @@ use std::marker::Model;
 #[derive(Drop)]
 pub(crate) struct PlacedEntry<'a> {
     pub(crate) place: usize,
-    pub(crate) entry: &'a Entry,
+    pub(crate) entry: EntryView<'a>,
 }
 
 impl<'a> Model for PlacedEntry<'a> {
@@ -30,7 +30,7 @@ impl<'a> Model for PlacedEntry<'a> {
 
     ghost Value = { EntryAt };
 
-    ghost view = { λ d. entry_at d.place d.entry.now };
+    ghost view = { λ d. entry_at d.place d.entry };
 }
 
 /// The entries of all journals, by rising ticket, taken by least next ticket.
@@ -51,15 +51,16 @@ pub(crate) fn merge_journals<'a>(
         let journal = journals[place].entries();
         let count = journal.len();
         prove!(at < count);
-        let entry = &journal[at];
-        if !is_above(last, entry.ticket) {
+        let entry = journal.entry(at);
+        let ticket = entry.ticket();
+        if !is_above(last, ticket) {
             return Err(Unsettled::Order);
         }
         let Ok(()) = order.push(PlacedEntry { place, entry }) else {
             return Err(Unsettled::Memory);
         };
         read[place] = at + 1;
-        last = Some(entry.ticket);
+        last = Some(ticket);
     }
     Ok(order)
 }
@@ -77,8 +78,8 @@ fn next_journal(journals: &[JournalView], read: &[usize]) -> Option<usize>
         if at >= journal.len() {
             continue;
         }
-        let entry = &journal[at];
-        least = sooner(least, entry.ticket, place);
+        let entry = journal.entry(at);
+        least = sooner(least, entry.ticket(), place);
     }
     match least {
         Some((_, place)) => Some(place),
@@ -160,7 +161,7 @@ fn take_ticketed<'a>(
     let mut next = vec![in alloc; 0; seats.len()]?;
     let mut turns = Vec::new(alloc);
     for placed in order {
-        let number = placed.entry.thread.number();
+        let number = placed.entry.thread().number();
         let Some(at) = index.get(&number).copied() else {
             unreachable!()
         };

@@ -5,6 +5,7 @@ ghost use Rattle.er_settle.specs.Inner.EntryMatches.{AreGrouped, AllAgree, AllIn
 ghost use Rattle.er_journal.specs.declared.entries.Entry.{Entry};
 ghost use Rattle.er_settle.specs.Inner.SeatChecks.{IsIndex};
 ghost use Rattle.er_held.specs.Held.{nothing_held};
+ghost use Rattle.er_journal.specs.KeptJournals.{what_told};
 ghost use Rattle.er_journal.specs.Merges.{stamp_by, stamps_in};
 ghost use Rattle.er_settle.specs.Inner.ReplyMatches.{AreAlike, AllAlike};
 
@@ -13,7 +14,7 @@ use crate::seat_checks::Index;
 use crate::{Made, SeatView, Unsettled};
 use er_event::{Event, ThreadId};
 use er_held::Held;
-use er_journal::{Call, Entry, What};
+use er_journal::{Call, EntryView, Told};
 use std::alloc::Global;
 use std::marker::Model;
 
@@ -47,8 +48,8 @@ pub(crate) fn group_by_thread<'a>(
 {
     let mut groups = empty_groups(alloc, seats)?;
     for placed in order {
-        let (place, entry) = (placed.place, placed.entry);
-        let thread = entry.thread.number();
+        let (place, entry) = (placed.place, placed.entry.again());
+        let thread = entry.thread().number();
         let Some(at) = index.get(&thread).copied() else {
             return Err(Unsettled::Entries);
         };
@@ -84,8 +85,8 @@ fn is_matched<'a>(calls: &[Call], group: &[PlacedEntry<'a>]) -> bool
             return false;
         }
         let placed = &group[at];
-        let entry = placed.entry;
-        if ticket != entry.ticket || !is_event_of(call.event(), &entry.what) {
+        let entry = &placed.entry;
+        if ticket != entry.ticket() || !is_event_of(call.event(), &entry.what()) {
             return false;
         }
         at += 1;
@@ -93,14 +94,14 @@ fn is_matched<'a>(calls: &[Call], group: &[PlacedEntry<'a>]) -> bool
     at == group.len()
 }
 
-fn is_event_of(event: Event, what: &What) -> bool
-    ensures { IsTrue result ↔ (event ≡ event_of what.now) }
+fn is_event_of(event: Event, what: &Told) -> bool
+    ensures { IsTrue result ↔ (event ≡ event_of (what_told what.now)) }
 {
     match (what, event) {
-        (What::Access(stamp), Event::Access(kind, word, site)) => {
-            kind == stamp.kind() && word == stamp.word() && site == stamp.site()
+        (Told::Access(_, k, w, s, _), Event::Access(kind, word, site)) => {
+            kind == *k && word == *w && site == *s
         }
-        (What::Reset(range), Event::Reuse(reused)) => reused == *range,
+        (Told::Reset(range), Event::Reuse(reused)) => reused == *range,
         _ => false,
     }
 }
@@ -134,9 +135,9 @@ fn is_in_place(shards: usize, placed: &PlacedEntry) -> bool
     requires { 0 < shards }
     ensures { IsTrue result ↔ (place_of shards placed.now.entry.what ≡ placed.now.place) }
 {
-    let word = match &placed.entry.what {
-        What::Access(stamp) => stamp.word(),
-        What::Reset(range) => range.lo,
+    let word = match placed.entry.what() {
+        Told::Access(_, _, word, _, _) => word,
+        Told::Reset(range) => range.lo,
     };
     word.page() as usize % shards == placed.place
 }
@@ -174,7 +175,7 @@ fn is_answered(held: &mut Held, seat: &SeatView, group: &[PlacedEntry]) -> Made<
             let count = group.len();
             prove!(at < count);
             let placed = &group[at];
-            if !is_alike(held, thread, call, placed.entry) {
+            if !is_alike(held, thread, call, &placed.entry) {
                 return Ok(false);
             }
             at += 1;
@@ -184,23 +185,20 @@ fn is_answered(held: &mut Held, seat: &SeatView, group: &[PlacedEntry]) -> Made<
     Ok(true)
 }
 
-fn is_alike(held: &Held, thread: ThreadId, call: &Call, entry: &Entry) -> bool
+fn is_alike(held: &Held, thread: ThreadId, call: &Call, entry: &EntryView) -> bool
     requires { call.now.event ≡ event_of entry.now.what }
     ensures { IsTrue result ↔ IsAlike held.now thread call.now entry.now }
 {
-    entry.reply.is_same(&call.reply()) && is_stamped(held, thread, entry)
+    entry.reply().is_same(&call.reply()) && is_stamped(held, thread, entry)
 }
 
-fn is_stamped(held: &Held, thread: ThreadId, entry: &Entry) -> bool
+fn is_stamped(held: &Held, thread: ThreadId, entry: &EntryView) -> bool
     ensures { IsTrue result ↔ (stamp_by held.now thread (event_of entry.now.what) ≡ stamps_in (entry.now ∷ [])) }
 {
-    match &entry.what {
-        What::Access(stamp) => {
-            !held.ignoring()
-                && stamp.thread() == thread
-                && *stamp.held() == *held.held()
-                && *stamp.write_held() == *held.write_held()
+    match entry.what() {
+        Told::Access(maker, _, _, _, locks) => {
+            !held.ignoring() && maker == thread && locks.are(held.held(), held.write_held())
         }
-        What::Reset(_) => true,
+        Told::Reset(_) => true,
     }
 }

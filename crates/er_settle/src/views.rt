@@ -4,7 +4,7 @@ ghost use Rattle.er_journal.specs.Journals.{IsLegalJournal};
 ghost use Rattle.er_settle.specs.Seats.{IsSeatList};
 
 use er_event::ThreadId;
-use er_journal::{Call, Entry};
+use er_journal::{Call, Journal};
 use std::marker::Model;
 
 /// One seat's calls, such as a seat can have: a call without a ticket has the reply that the list itself gives, and exactly the
@@ -64,7 +64,7 @@ impl<'a> SeatView<'a> {
 /// One shard's journal, in which each reply is the one that the journal itself gives.
 #[derive(Drop)]
 pub struct JournalView<'a> {
-    entries: &'a [Entry],
+    journal: &'a Journal,
 }
 
 impl<'a> Model for JournalView<'a> {
@@ -74,25 +74,25 @@ impl<'a> Model for JournalView<'a> {
 
     ghost Value = { List EntryShown };
 
-    ghost view = { λ j. j.entries.now };
+    ghost view = { λ j. j.journal.now.entries };
 
-    ghost invariant = { λ j. IsLegalJournal j.entries.now };
+    ghost invariant = { λ j. IsLegalJournal j.journal.now.entries };
 }
 
 impl<'a> JournalView<'a> {
-    /// The journal of these entries.
-    pub fn new(entries: &'a [Entry]) -> Self
-        requires { IsLegalJournal entries.now }
-        ensures { result ≡ entries.now }
+    /// The entries of a journal.
+    pub fn new(journal: &'a Journal) -> Self
+        requires { IsLegalJournal journal.now.entries }
+        ensures { result ≡ journal.now.entries }
     {
-        JournalView { entries }
+        JournalView { journal }
     }
 
     /// The entries, in order.
-    pub fn entries(&self) -> &'a [Entry]
-        ensures entries { result.now ≡ self.now }
+    pub fn entries(&self) -> &'a Journal
+        ensures entries { result.now.entries ≡ self.now }
         ensures legal { IsLegalJournal self.now }
     {
-        self.entries
+        self.journal
     }
 }

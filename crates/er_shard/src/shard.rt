@@ -1,5 +1,5 @@
 //! A shard: its words, and the journal of which they are the replay.
-ghost use Rattle.std.specs.Prelude.{ℕ, ◌≡◌, ◌≤◌, ◌<◌, ◌⊎◌, ◌+◌, [], Bool, length, IsTrue, IfOk, IsErrOf, OnOk, OnErr, vec_capacity};
+ghost use Rattle.std.specs.Prelude.{ℕ, ◌≡◌, ◌≤◌, ◌<◌, ◌⊎◌, [], Bool, length, IsTrue, IfOk, IsErrOf, OnOk, OnErr};
 ghost use Rattle.er_event.specs.declared.steps.WordState.TheVariants.{Virgin};
 ghost use Rattle.er_journal.specs.Journals.{IsLegalJournal, journal_state, notes_of, mark_of_what};
 ghost use Rattle.er_model.specs.Parts.{FitsEnd};
@@ -8,7 +8,7 @@ ghost use Rattle.er_shadow.specs.Shadows.{needs_set, states};
 ghost use Rattle.er_shard.specs.Journaled.{entry_of};
 
 use er_event::{NoRoom, PageRange, Reply, ThreadId, Word, WordState};
-use er_journal::{BriefReply, Entry, Stamp, What};
+use er_journal::{BriefReply, Journal, Stamp, What};
 use er_shadow::{OwnWords, ShadowMap, Words};
 use er_table::{Grow, LocksetTable, Owned, Shared, Store};
 use std::alloc::{AllocError, Global};
@@ -22,7 +22,7 @@ const MOST_SETS: u32 = 1_048_576;
 #[derive(Drop)]
 pub struct ShardIn<S: Store> {
     words: Words<S>,
-    journal: Vec<Entry>,
+    journal: Journal,
     name: u64,
     number: u32,
     limit: u32,
@@ -39,9 +39,9 @@ impl<S: Store> Model for ShardIn<S> {
 
     ghost Value = { Journaled };
 
-    ghost view = { λ s. record { name = s.name; number = s.number; limit = s.limit; journal = s.journal.items } };
+    ghost view = { λ s. record { name = s.name; number = s.number; limit = s.limit; journal = s.journal.entries } };
 
-    ghost invariant = { λ s. IsReplayOf s.journal.items s.limit s.words };
+    ghost invariant = { λ s. IsReplayOf s.journal.entries s.limit s.words };
 }
 
 impl<'t> ShardIn<Shared<'t>> {
@@ -87,7 +87,7 @@ impl<S: Store> ShardIn<S> {
     {
         ShardIn {
             words,
-            journal: Vec::new(alloc),
+            journal: Journal::new(alloc),
             name,
             number,
             limit,
@@ -109,13 +109,13 @@ impl<S: Store> ShardIn<S> {
     }
 
     /// What was done to its words, oldest first.
-    pub fn journal(&self) -> &[Entry]
-        ensures journal { result.now ≡ self.now.journal }
+    pub fn journal(&self) -> &Journal
+        ensures journal { result.now.entries ≡ self.now.journal }
         ensures legal { IsLegalJournal self.now.journal }
         ensures stamped { AreStamped self.now.journal }
         ensures within { length self.now.journal ≤ self.now.limit }
     {
-        self.journal.as_slice()
+        &self.journal
     }
 
     /// What is known of a word. The only error is that there is no memory for its candidate set.
@@ -142,12 +142,7 @@ impl<S: Store> ShardIn<S> {
     {
         reserve_entry(&mut self.journal, self.limit)?;
         let reply = self.words.apply(rt, &stamp)?;
-        self.journal.push_reserved(Entry {
-            ticket,
-            thread: stamp.thread(),
-            what: What::Access(stamp),
-            reply: in_brief(&reply),
-        });
+        self.journal.push_access(ticket, stamp, in_brief(&reply));
         Ok(reply)
     }
 
@@ -162,29 +157,24 @@ impl<S: Store> ShardIn<S> {
         reserve_entry(&mut self.journal, self.limit)?;
         let range = &range;
         self.words.reset(*range);
-        self.journal.push_reserved(Entry {
-            ticket,
-            what: What::Reset(*range),
-            thread,
-            reply: BriefReply::done(),
-        });
+        self.journal.push_reset(ticket, thread, *range);
         Ok(())
     }
 }
 
 // Room for one more entry, in a journal that takes `limit` of them.
-fn reserve_entry(journal: &mut Vec<Entry>, limit: u32) -> Result<(), NoRoom>
-    ensures room { OnOk result (length journal.new.items + 1 ≤ vec_capacity journal.new) }
-    ensures below { OnOk result (length journal.old.items < limit) }
-    ensures same { journal.new.items ≡ journal.old.items }
-    ensures full { limit ≤ length journal.old.items → IsErrOf result NoRoom.JournalFull }
-    ensures full_only { IsErrOf result NoRoom.JournalFull → limit ≤ length journal.old.items }
+fn reserve_entry(journal: &mut Journal, limit: u32) -> Result<(), NoRoom>
+    ensures room { OnOk result (IsTrue journal.new.has_room) }
+    ensures below { OnOk result (length journal.old.entries < limit) }
+    ensures same { journal.new.entries ≡ journal.old.entries }
+    ensures full { limit ≤ length journal.old.entries → IsErrOf result NoRoom.JournalFull }
+    ensures full_only { IsErrOf result NoRoom.JournalFull → limit ≤ length journal.old.entries }
     ensures refusals { ¬ IsErrOf result NoRoom.TableFull }
 {
     if journal.len() >= limit as usize {
         return Err(NoRoom::JournalFull);
     }
-    journal.reserve(1)?;
+    journal.reserve()?;
     Ok(())
 }
 

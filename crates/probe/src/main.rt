@@ -24,7 +24,7 @@ use std::str::Lines;
 use std::sync::Wait;
 use std::thread::Threads;
 use work::{Detectors, Fault, Made, Work, World, count_of, made, table_of};
-use writing::{put_entries, put_known, put_seat};
+use writing::{put_entries, put_entries_of, put_known, put_seat};
 
 /// What rows are played on.
 pub(crate) trait Host: Runtime + AllocGlobal + Threads + Wait + Sync {}
@@ -189,7 +189,7 @@ fn put_journal<R: Wait>(rt: &R, detectors: &Detectors, verb: &str, work: &mut Wo
     let shard = detectors.shard(rt, work.shard()?)?;
     made(match verb {
         "entries" => write!(work.answer, "{}", shard.journal().len()),
-        _ => put_entries(&mut work.answer, shard.journal()),
+        _ => put_entries_of(&mut work.answer, shard.journal()),
     })
 }
 

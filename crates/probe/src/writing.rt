@@ -2,7 +2,7 @@
 use er_detector::Run;
 use er_event::{Event, Kind, LockId, Lockset, Mode, PageRange, Reply, Site, WordState};
 use er_explain::Explanation;
-use er_journal::{Answer, Answers, Entry, Stamp, What};
+use er_journal::{Answer, Answers, Entry, Journal, Stamp, What};
 use er_seat::Seat;
 use std::alloc::AllocError;
 use std::fmt::Write;
@@ -137,6 +137,18 @@ pub(crate) fn put_entries(out: &mut String, entries: &[Entry]) -> Put {
     for (place, entry) in entries.iter().enumerate() {
         out.push_str(if place > 0 { "; " } else { "" })?;
         put_entry(out, entry)?;
+    }
+    Ok(())
+}
+
+/// A journal's entries, likewise.
+pub(crate) fn put_entries_of(out: &mut String, journal: &Journal) -> Put {
+    if journal.len() == 0 {
+        out.push_str("none")?;
+    }
+    for place in 0..journal.len() {
+        out.push_str(if place > 0 { "; " } else { "" })?;
+        put_entry(out, &journal.entry(place).to_entry()?)?;
     }
     Ok(())
 }

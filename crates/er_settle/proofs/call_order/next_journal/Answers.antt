@@ -10,18 +10,18 @@ use Rattle.er_settle.proofs.call_order.next_journal.Goals as goal
 pub loop-place-preserved : goal.loop-place-preserved
 loop-place-preserved c =
     let here = slice_get_read c.args.journals.now _ _ c.index-journals-place.result refl c.loop-place-test.true c.index-journals-place.is in
-    let next : slice_get c.index-journals-place.result (slice_index c.args.read.now c.loop-place.place) ≡ Some c.index-journal-at.result =
-    rw (← c.entries-journal.ensures.entries) (slice_get_read _ _ _ _ refl c.if-at-journal.false c.index-journal-at.is) in
+    let next : slice_get c.index-journals-place.result (slice_index c.args.read.now c.loop-place.place) ≡ Some c.entry-entry.result =
+    rw (← c.entries-journal.ensures.entries) c.entry-entry.ensures in
     record {
-      soonest = soonest-more c.args.journals.now c.args.read.now c.loop-place.place c.index-journals-place.result c.index-journal-at.result c.loop-place.least _ here next c.sooner-least.ensures c.loop-place.invariant.soonest;
+      soonest = soonest-more c.args.journals.now c.args.read.now c.loop-place.place c.index-journals-place.result c.entry-entry.result c.loop-place.least _ here next (rw c.ticket.ensures at c.sooner-least.ensures) c.loop-place.invariant.soonest;
       legal = each_next (List Entry) IsLegalJournal c.args.journals.now c.loop-place.place c.index-journals-place.result here c.entries-journal.ensures.legal c.loop-place.invariant.legal;
     }
 
-pub loop-place-preserved-then-at-journal : goal.loop-place-preserved-then-at-journal
-loop-place-preserved-then-at-journal c =
+pub loop-place-preserved-then-at-len : goal.loop-place-preserved-then-at-len
+loop-place-preserved-then-at-len c =
     let here = slice_get_read c.args.journals.now _ _ c.index-journals-place.result refl c.loop-place-test.true c.index-journals-place.is in
     record {
-      soonest = soonest-past c.args.journals.now c.args.read.now c.loop-place.place c.index-journals-place.result c.loop-place.least here (rw (← c.entries-journal.ensures.entries) c.if-at-journal.true) c.loop-place.invariant.soonest;
+      soonest = soonest-past c.args.journals.now c.args.read.now c.loop-place.place c.index-journals-place.result c.loop-place.least here (rw (← c.entries-journal.ensures.entries, ← c.len.ensures) c.if-at-len.true) c.loop-place.invariant.soonest;
       legal = each_next (List Entry) IsLegalJournal c.args.journals.now c.loop-place.place c.index-journals-place.result here c.entries-journal.ensures.legal c.loop-place.invariant.legal;
     }
 

@@ -25,7 +25,7 @@ returns-then-not-is_alike c =
     let here = rw c.calls-call-items.ensures.calls at (slice_get_read c.calls-call-items.result.now _ _ c.call-item.result refl c.loop-call-test.true c.call-item.is) in
     let there = rw c.loop-call.invariant.at at (slice_get_read c.args.group.now _ _ c.index-group-at.result refl c.if-prove.false c.index-group-at.is) in (
       λ t. cc,
-      λ all. absurd (not-alike c.args.seat.now c.args.group.now c.loop-call.call-index c.call-item.result c.index-group-at.result c.thread-thread.result c.loop-call.held c.placed.inside.entry.now here (rw c.ticket.ensures at (sym c.is_some.ensures ∙ c.if-is_some.true)) there
+      λ all. absurd (not-alike c.args.seat.now c.args.group.now c.loop-call.call-index c.call-item.result c.index-group-at.result c.thread-thread.result c.loop-call.held c.placed.inside.entry here (rw c.ticket.ensures at (sym c.is_some.ensures ∙ c.if-is_some.true)) there
           c.thread-thread.ensures c.loop-call.invariant.held (ap (λ (d : EntryAt). d.entry) c.placed.view_is) (λ alike. let e = c.if-not-is_alike.ensures.1 alike in cc) all),
     )
 

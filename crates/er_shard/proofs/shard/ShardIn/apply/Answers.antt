@@ -9,9 +9,9 @@ pub invariant_of-self-2 : goal.invariant_of-self-2
 invariant_of-self-2 g c =
     let stamp = c.args.stamp in
     let told = c.in_brief.ensures _ c.in_ok-reply.ensures.reply ∙ c.in_ok-reply.ensures.reply in
-    let grown = rw (c.in_ok-reserve_entry.ensures.same, c.thread.ensures) at c.push_reserved.ensures.items in
-    replay-grows c.self.inside.journal.items _ _ _ _ (entry_of c.args.ticket stamp.thread (Access stamp) c.in_brief.result) c.self.invariant grown c.in_ok-reserve_entry.ensures.below refl
-    (access-fits c.self.inside.journal.items _ _ stamp c.in_brief.result c.self.invariant told) c.in_ok-reply.ensures.ok
+    let grown = rw c.in_ok-reserve_entry.ensures.same at c.push_access.ensures in
+    replay-grows c.self.inside.journal.entries _ _ _ _ (entry_of c.args.ticket stamp.thread (Access stamp) c.in_brief.result) c.self.invariant grown c.in_ok-reserve_entry.ensures.below refl
+    (access-fits c.self.inside.journal.entries _ _ stamp c.in_brief.result c.self.invariant told) c.in_ok-reply.ensures.ok
 
 pub returns-clause-race_or_quiet : goal.returns-clause-race_or_quiet
 returns-clause-race_or_quiet g c = race_or_quiet _ _ c.in_ok-reply.ensures.reply
