@@ -32,14 +32,6 @@ forgotten of table slots old new less past =
     let Q : Slot → Type 0 = λ slot. slot.turn ≡ new → IsNumber of table slot.kind slot.name slot.number in
     All-weaker P Q (λ slot most is. absurd (omega (arith, less, most, is))) slots past
 
--- slots of no turn have none of this one
-pub unturned : (of : NameKind → ℕ → List ℕ) (table : NameTable) (slots : List Slot) (turn : ℕ) → 1 ≤ turn → All (λ (slot : Slot). slot.turn ≡ 0) slots
-    → All (λ (slot : Slot). slot.turn ≡ turn → IsNumber of table slot.kind slot.name slot.number) slots
-unturned of table slots turn some none =
-    let P : Slot → Type 0 = λ slot. slot.turn ≡ 0 in
-    let Q : Slot → Type 0 = λ slot. slot.turn ≡ turn → IsNumber of table slot.kind slot.name slot.number in
-    All-weaker P Q (λ slot zero is. absurd (omega (arith, some, zero, is))) slots none
-
 pub put_all : (P : Slot → Type 0) (inside : Bool) (old new : List Slot) (place : ℕ) (slot : Slot) → new ≡ (if inside then slice_set old place slot else old) → P slot → All P old → All P new
 put_all P true old new place slot is one all = rw is (All-set P old place slot one all)
 put_all P false old new place slot is one all = rw is all

@@ -55,7 +55,7 @@ impl KnownNumbers {
     pub(crate) fn forget(&mut self)
         ensures { (names : Names → ℕ → List ℕ) (table : NameTable) → AreRight names table self.new }
     {
-        if self.turn == u64::MAX {
+        if self.slots.is_empty() || self.turn == u64::MAX {
             self.slots.clear();
         } else {
             self.turn += 1;
