@@ -1,5 +1,5 @@
 -- A decoder that took a line, and one that made the text of its words.
-use Rattle.std.proofs.Common.{◌≡◌, ℕ, ◌+◌, ◌*◌, ◌<◌, ◌≤◌, true, zero, suc, List, ◌++◌, length, drop, vec_items, vec_len, Some, refl, sym, ap, ◌∙◌, append_assoc}
+use Rattle.std.proofs.Common.{◌≡◌, ℕ, ◌+◌, ◌*◌, ◌<◌, ◌≤◌, true, zero, suc, List, ◌++◌, length, drop, vec_items, vec_len, Option, Some, None, IfSome, IfNone, refl, sym, ap, ◌∙◌, append_assoc}
 use Rattle.er_lines.specs.Ready.{line_text}
 use Rattle.er_lines.specs.declared.ready.ReadyLine.{ReadyLine}
 use Rattle.er_binary.specs.Inner.Decoders.{HasGiven, IsGiven, all_records, still, undecoded}
@@ -28,6 +28,16 @@ word_taken d e line rest given done one same =
     ∙ append_assoc (line_text (names_in d.state) line) (words_text e.state e.words) (undecoded d.phase d rest)
     ∙ ap (λ (t : List ℕ). line_text (names_in d.state) line ++ (words_text e.state e.words ++ t)) (sym same)
     ∙ ap (λ (t : List ℕ). line_text (names_in d.state) line ++ t) (sym (words_left e rest done))
+
+-- what a decoder that gives the same takes, and where it takes none
+pub some_on : (o : Option ReadyLine) (f g h : List ℕ → List ℕ) (text : ReadyLine → List ℕ) → IfSome o (λ line. (rest : List ℕ) → g rest ≡ text line ++ h rest) → ((rest : List ℕ) → f rest ≡ g rest)
+    → IfSome o (λ line. (rest : List ℕ) → f rest ≡ text line ++ h rest)
+some_on None f g h text one same = tt
+some_on (Some line) f g h text one same = λ rest. same rest ∙ one rest
+
+pub none_on : (o : Option ReadyLine) (f g h : List ℕ → List ℕ) → IfNone o ((rest : List ℕ) → g rest ≡ h rest) → ((rest : List ℕ) → f rest ≡ g rest) → IfNone o ((rest : List ℕ) → f rest ≡ h rest)
+none_on None f g h none same = λ rest. same rest ∙ none rest
+none_on (Some line) f g h none same = tt
 
 -- the words' text doesn't change behind their access
 passed_lines : (s : State) (w : Words) (verb : List ℕ) (node first count : ℕ) → access_lines (passed s w) verb node first count ≡ access_lines s verb node first count

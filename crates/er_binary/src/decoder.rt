@@ -151,6 +151,7 @@ impl Decoder {
     }
 
     /// Takes the next line, if it is an access or a lock event of a block that was read. It reads nothing on. A refused allocation comes at the next `read`.
+    #[inline(always)]
     pub(crate) fn take(&mut self) -> Option<ReadyLine>
         ensures none { IfNone result ((rest : List ℕ) → still self.old rest ≡ still self.new rest) }
         ensures some { IfSome result (λ line. (rest : List ℕ) → still self.old rest ≡ line_text (names_in self.new.state) line ++ still self.new rest) }
@@ -160,9 +161,7 @@ impl Decoder {
         self.is_taken = true;
         for _ in 0..8u8 {
             if self.words.at / 4 < self.words.end {
-                let line = self.state.line_of(&self.words)?;
-                self.words.at = self.words.at / 4 * 4 + 4;
-                return Some(line);
+                return self.take_word();
             }
             if self.given < self.text.len() || self.phase != Phase::Record {
                 return None;
@@ -176,6 +175,7 @@ impl Decoder {
                     self.words = words;
                     self.next += head.len;
                     self.spot.pass(head.len);
+                    return self.take_word();
                 }
                 Record::Other(kind, number) => {
                     if let Some(line) = self.state.lock_line(kind, number) {
@@ -187,13 +187,39 @@ impl Decoder {
                     if self.state.goes_to(kind, number) {
                         self.next += head.len;
                         self.spot.pass(head.len);
-                    } else {
-                        self.next_record(&mut ()).ok()?;
+                    } else if !self.pass_record() {
+                        return None;
                     }
                 }
             }
         }
         None
+    }
+
+    // Takes the line of the first word that is still to come.
+    #[inline(always)]
+    fn take_word(&mut self) -> Option<ReadyLine>
+        requires { self.old.words.at / 4 < self.old.words.end }
+        ensures none { IfNone result ((rest : List ℕ) → still self.old rest ≡ still self.new rest) }
+        ensures some { IfSome result (λ line. (rest : List ℕ) → still self.old rest ≡ line_text (names_in self.new.state) line ++ still self.new rest) }
+        ensures right { IfSome result (IsRight (names_in self.new.state)) }
+        ensures state { self.new.state ≡ self.old.state }
+    {
+        let line = self.state.line_of(&self.words)?;
+        self.words.at = self.words.at / 4 * 4 + 4;
+        Some(line)
+    }
+
+    // Makes the text of the next record, and says whether there was memory for it. A function of its own, since what it has on its stack is cleared.
+    #[inline(never)]
+    fn pass_record(&mut self) -> bool
+        requires phase { self.old.phase ≡ phase.Record }
+        requires given { IsGiven self.old }
+        ensures same { (rest : List ℕ) → still self.old rest ≡ still self.new rest }
+        ensures kept { KeepsNames (names_in self.old.state) (names_in self.new.state) }
+        ensures words { self.new.words ≡ self.old.words }
+    {
+        self.next_record(&mut ()).is_ok()
     }
 
     // Gives the text of the block, as far as the buffer has room.
