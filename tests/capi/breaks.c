@@ -143,7 +143,7 @@ static void check_forks(bool threads)
         pthread_join(workers[at], NULL);
 }
 
-/* `breaks apart` starts no thread in a child: under ThreadSanitizer none may. */
+/* `breaks apart` starts no thread in a child: under ThreadSanitizer none may, and under AddressSanitizer it may wait for ever. */
 int main(int words, char **given)
 {
     struct eraser_options options = {.shards = 8, .on_race = count_race};
