@@ -40,16 +40,18 @@ _eraser() {
     esac
     case $command:$word in
     :-*) _eraser_words "--help --version -h -V" ;;
-    :*) _eraser_words "replay explain print demo help" ;;
+    :*) _eraser_words "replay explain print merge demo help" ;;
     replay:-?*) _eraser_words "--analysis --suppress --write-rules --unused-rules --max-races --explain --by-site --format --source --strict --until-fault --progress --hints --workers --shards --byte-limit --help -h" ;;
     replay:*) _eraser_files ;;
     explain:-?*) _eraser_words "--byte-limit --help -h" ;;
     explain:*) _eraser_files ;;
     print:-?*) _eraser_words "--help -h" ;;
     print:*) _eraser_files ;;
+    merge:-?*) _eraser_words "--help -h" ;;
+    merge:*) _eraser_files ;;
     demo:-*) _eraser_words "--help -h" ;;
     demo:*) _eraser_words "locked-counter racy-counter init-then-read rw-table reuse-pool ignored-stats" ;;
-    help:*) _eraser_words "replay explain print demo help" ;;
+    help:*) _eraser_words "replay explain print merge demo help" ;;
     esac
 }
 

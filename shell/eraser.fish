@@ -7,6 +7,7 @@ complete -c eraser -n __fish_use_subcommand -s V -l version -d 'Print version'
 complete -c eraser -n __fish_use_subcommand -a replay -d 'Replay a trace and report its races'
 complete -c eraser -n __fish_use_subcommand -a explain -d 'Say why one step is a race or not, by the story of its word'
 complete -c eraser -n __fish_use_subcommand -a print -d 'Write the text of a trace, also of a binary one'
+complete -c eraser -n __fish_use_subcommand -a merge -d 'Make one report of the reports of a trace\'s parts'
 complete -c eraser -n __fish_use_subcommand -a demo -d 'Run threads that call the detector, and print how many steps and races they made'
 complete -c eraser -n __fish_use_subcommand -a help -d 'Print this message or the help of the given subcommand(s)'
 
@@ -35,6 +36,9 @@ complete -c eraser -n '__fish_seen_subcommand_from explain' -F
 
 complete -c eraser -n '__fish_seen_subcommand_from print' -s h -l help -d 'Print help'
 complete -c eraser -n '__fish_seen_subcommand_from print' -F
+
+complete -c eraser -n '__fish_seen_subcommand_from merge' -s h -l help -d 'Print help'
+complete -c eraser -n '__fish_seen_subcommand_from merge' -F
 
 complete -c eraser -n '__fish_seen_subcommand_from demo' -s h -l help -d 'Print help'
 complete -c eraser -n '__fish_seen_subcommand_from demo' -a 'locked-counter racy-counter init-then-read rw-table reuse-pool ignored-stats'

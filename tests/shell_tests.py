@@ -88,7 +88,7 @@ def bash_tests(record, commands, options, values):
     record("bash: options", found == words_of(options[""]), f"{found}")
     found = bash_completes("help", "")
     record("bash: commands behind help", found == set(commands), f"{found}")
-    for name in ("replay", "explain", "print", "demo"):
+    for name in ("replay", "explain", "print", "merge", "demo"):
         # A dash alone is standard input, so the options of a replay come behind two.
         found = bash_completes(name, "-") | bash_completes(name, "--") | bash_completes(name, "-h")
         record(f"bash: options of {name}", found - {"-"} == words_of(options[name]), f"{found}")
@@ -129,7 +129,7 @@ def zsh_options(text):
 
 def fish_options(text):
     """The same of the file for fish."""
-    found = {"": {}, "replay": {}, "explain": {}, "print": {}, "demo": {}, "help": {}}
+    found = {"": {}, "replay": {}, "explain": {}, "print": {}, "merge": {}, "demo": {}, "help": {}}
     for line in text.splitlines():
         if not line.startswith("complete "):
             continue
@@ -161,7 +161,7 @@ def file_tests(record, commands, options, values):
             done = command(["fish", "-N", "-c", f"source {SHELL}/eraser.fish; complete -C {shlex.quote(line)}"], cwd=TOP)
             return {row.split("\t")[0] for row in done.stdout.splitlines()}
         record("fish completes commands", completed("eraser ") == set(commands), f"{completed('eraser ')}")
-        for name in ("replay", "explain", "print", "demo"):
+        for name in ("replay", "explain", "print", "merge", "demo"):
             found = completed(f"eraser {name} -")
             record(f"fish completes the options of {name}", found == words_of(options[name]), f"{found}")
         record("fish completes demos", set(values["demo", "<NAME>"]) <= completed("eraser demo "))
@@ -419,7 +419,7 @@ def installed_program_tests(record, prefix, folder):
 
 def tests(record):
     top, commands, options, values = told()
-    record("what --help says is read", {"replay", "explain", "print", "demo", "help"} == set(commands) and len(options["replay"]) > 4 and ("demo", "<NAME>") in values, f"{options}, {values}")
+    record("what --help says is read", {"replay", "explain", "print", "merge", "demo", "help"} == set(commands) and len(options["replay"]) > 4 and ("demo", "<NAME>") in values, f"{options}, {values}")
     bash_tests(record, commands, options, values)
     file_tests(record, commands, options, values)
     manual_tests(record, top, commands, options, values)

@@ -1,18 +1,19 @@
 -- What an analyst is asked for, and what a pass over a text comes to.
-use Rattle.std.specs.Prelude.{◌≡◌, ◌++◌, ℕ, Bool, List, length, Option, IfSome, is_some, Result, MatchResult}
+use Rattle.std.specs.Prelude.{◌≡◌, ◌++◌, ◌-◌, ◌^◌, ℕ, min, Bool, List, count_by, length, Option, Some, None, IfSome, is_some, Result, MatchResult}
 use Rattle.er_batch.specs.Inner.Items.{AreItems}
-use Rattle.er_batch.specs.Runs.{HasRun, IsWellFormed}
+use Rattle.er_batch.specs.Runs.{HasRun, IsPartOf, IsWellFormed}
 use Rattle.er_event.specs.declared.refusals.NoRoom.{NoRoom}
 use Rattle.er_event.specs.declared.steps.Step.{Step}
 use Rattle.er_parallel.specs.Crews.{Crewed, HaveAnswered}
 use Rattle.er_parallel.specs.Faults.{MayFail}
 use Rattle.er_parallel.specs.declared.config.ReplayFault.{ReplayFault}
 use Rattle.er_parallel.specs.declared.worker.Unusual.{Unusual}
+use Rattle.er_parts.specs.Parts.{PartView, is_of_page}
 use Rattle.er_replay.specs.Standing.{Replayed}
 use Rattle.er_report.specs.Builder.{Built, IsReported}
 use Rattle.er_report.specs.declared.reports.Analysis.{Analysis}
 use Rattle.er_rules.specs.Rules.{Target}
-use Rattle.er_text.specs.Trace.{IsTrace, IsFault}
+use Rattle.er_text.specs.Trace.{IsFault}
 use Rattle.er_lines.specs.declared.faults.ReadFault.{ReadFault}
 use Rattle.er_lines.specs.declared.faults.ReadFault.TheVariants.{Text, Memory, Read}
 use Rattle.er_trace.specs.Names.{NameTable}
@@ -30,10 +31,15 @@ pub record StandsIf {A : Type 0} (Stands : A → Type 0) (wanted : Bool) (analys
   pub there : is_some analyst ≡ wanted
   pub stands : IfSome analyst Stands
 
--- the text is a trace with these names, and this stands for it
-pub record IsAnswered (Stands : Recording → Type 0) (told : Option (List ℕ)) (limit : ℕ) (used : NameTable) : Type 0 where
+-- so many of the steps that a part keeps are accesses, reuses and shows, or more than the greatest number; without a part nobody counts them
+abbrev pub HasCounted : Option PartView → ℕ → List Step → Type 0
+HasCounted None count steps = Unit {0}
+HasCounted (Some part) count steps = count ≡ min (count_by is_of_page steps) (2 ^ 64 - 1)
+
+-- the text is a trace with these names, and this stands for it, or for what is kept of it for a part
+pub record IsAnswered (Stands : Recording → Type 0) (part : Option PartView) (told : Option (List ℕ)) (limit : ℕ) (used : NameTable) : Type 0 where
   pub recording : Recording
-  pub trace : IfSome told (λ text. IsTrace text limit recording)
+  pub trace : IfSome told (λ text. IsPartOf part text limit recording)
   pub names : used ≡ recording.names
   pub stands : Stands recording
 

@@ -3,6 +3,7 @@ use Rattle.std.specs.Prelude.{◌≡◌, ℕ, ◌<◌, All, List, length, take, 
 use Rattle.er_event.specs.declared.refusals.NoRoom.{NoRoom}
 use Rattle.er_event.specs.declared.steps.Step.{Step}
 use Rattle.er_journal.specs.declared.answers.Stopped.{Stopped}
+use Rattle.er_parts.specs.Parts.{PartView, kept}
 use Rattle.er_replay.specs.Standing.{Replayed, Stands}
 use Rattle.er_replay.specs.Stops.{MayLack}
 use Rattle.er_report.specs.Builder.{Built, IsReported}
@@ -15,9 +16,15 @@ use Rattle.er_trace.specs.Trace.{Recording, IsNamed, HasSiteName}
 abbrev pub MayStopAt : List Step → Stopped → Type 0
 MayStopAt steps stopped = IsSomeAnd (slice_get steps stopped.at) (λ step. MayLack (take stopped.at steps) step stopped.cause)
 
--- a run of the text's trace, which stopped at one of its steps for want of room that it may want, or not at all
-pub record IsRunOf (text : List ℕ) (limit : ℕ) (recording : Recording) (stop : Option Stopped) : Type 0 where
-  pub trace : IsTrace text limit recording
+-- the recording is what is kept of the text's trace for a part of it, or the whole trace without a part
+pub record IsPartOf (part : Option PartView) (text : List ℕ) (limit : ℕ) (recording : Recording) : Type 0 where
+  pub whole : Recording
+  pub trace : IsTrace text limit whole
+  pub kept : recording ≡ kept part whole
+
+-- a run of the text's trace, or of a part of it, which stopped at one of its steps for want of room that it may want, or not at all
+pub record IsRunOf (part : Option PartView) (text : List ℕ) (limit : ℕ) (recording : Recording) (stop : Option Stopped) : Type 0 where
+  pub trace : IsPartOf part text limit recording
   pub within : IfSome stop (λ s. s.at < length recording.steps)
   pub cause : IfSome stop (λ s. MayStopAt recording.steps s)
 

@@ -1,7 +1,8 @@
 //! How a replay is run.
-ghost use Rattle.std.specs.Prelude.{◌≡◌, ◌≤◌, ◌<◌, ◌⊎◌, false, IsSome, IsNone, IfSome};
+ghost use Rattle.std.specs.Prelude.{◌≡◌, ◌≤◌, ◌<◌, ◌⊎◌, None, false, IsSome, IsNone, IfSome};
 ghost use Rattle.er_batch.specs.Limits.{AreInLimits, most_bytes, most_sets, most_shards, most_workers, usual_bytes, usual_shards};
 
+use er_parts::Part;
 use er_trace::NameKeys;
 
 /// How a replay is run. Each number is in its limits.
@@ -18,10 +19,12 @@ pub struct Options {
     /// How many workers there are, from 1 to 16. By the lockset rule a quarter of them, but at least one, answer the steps of a batch while the
     /// others read the next one, and by another analysis all of them read. One worker alone has all words in one shard.
     pub workers: u32,
-    /// Whether a damaged trace is a fault.
+    /// Whether a damaged trace is a fault. A replay of a part looks for no damage.
     pub strict: bool,
     /// By which keys the names and the pages of the trace are hashed. They change no report.
     pub keys: NameKeys,
+    /// Which part of the trace is replayed, or None if all of it is.
+    pub part: Option<Part>,
     pub ghost some_sets: { 1 ≤ max_sets },
     pub ghost few_sets: { max_sets ≤ most_sets },
     pub ghost few_bytes: { byte_limit ≤ most_bytes },
@@ -56,6 +59,7 @@ impl Options {
         ensures plain { IfSome result (λ options. options.explain ≡ false) }
         ensures alone { IfSome result (λ options. (options.shards ≡ usual_shards) × (options.workers ≡ 1)) }
         ensures lenient { IfSome result (λ options. options.strict ≡ false) }
+        ensures whole { IfSome result (λ options. options.part ≡ None) }
         ensures some { 1 ≤ max_sets → max_sets ≤ most_sets → byte_limit ≤ most_bytes → IsSome result }
         ensures none { (max_sets ≡ 0) ⊎ ((most_sets < max_sets) ⊎ (most_bytes < byte_limit)) → IsNone result }
     {
@@ -74,6 +78,7 @@ impl Options {
         ensures plain { result.explain ≡ false }
         ensures alone { (result.shards ≡ usual_shards) × (result.workers ≡ 1) }
         ensures lenient { result.strict ≡ false }
+        ensures whole { result.part ≡ None }
     {
         Options {
             max_sets: Options::MOST_SETS,
@@ -83,6 +88,7 @@ impl Options {
             workers: 1,
             strict: false,
             keys: NameKeys::KNOWN,
+            part: None,
         }
     }
 
@@ -93,6 +99,7 @@ impl Options {
         ensures bytes { result.byte_limit ≡ self.byte_limit }
         ensures crew { (result.shards ≡ self.shards) × (result.workers ≡ self.workers) }
         ensures strict { result.strict ≡ self.strict }
+        ensures part { result.part ≡ self.part }
     {
         self.explain = explain;
         self
@@ -101,12 +108,26 @@ impl Options {
     /// The same options, by which a damaged trace is a fault, or isn't.
     pub fn with_strict(mut self, strict: bool) -> Options
         ensures strict { result.strict ≡ strict }
+        ensures part { result.part ≡ self.part }
         ensures sets { result.max_sets ≡ self.max_sets }
         ensures bytes { result.byte_limit ≡ self.byte_limit }
         ensures explain { result.explain ≡ self.explain }
         ensures crew { (result.shards ≡ self.shards) × (result.workers ≡ self.workers) }
     {
         self.strict = strict;
+        self
+    }
+
+    /// The same options, by which this part of the trace is replayed, or all of it without a part.
+    pub fn with_part(mut self, part: Option<Part>) -> Options
+        ensures part { result.part ≡ part }
+        ensures sets { result.max_sets ≡ self.max_sets }
+        ensures bytes { result.byte_limit ≡ self.byte_limit }
+        ensures explain { result.explain ≡ self.explain }
+        ensures crew { (result.shards ≡ self.shards) × (result.workers ≡ self.workers) }
+        ensures strict { result.strict ≡ self.strict }
+    {
+        self.part = part;
         self
     }
 
@@ -117,6 +138,7 @@ impl Options {
         ensures explain { result.explain ≡ self.explain }
         ensures crew { (result.shards ≡ self.shards) × (result.workers ≡ self.workers) }
         ensures strict { result.strict ≡ self.strict }
+        ensures part { result.part ≡ self.part }
     {
         self.keys = keys;
         self
@@ -127,6 +149,7 @@ impl Options {
         ensures kept { IfSome result (λ options. (options.max_sets ≡ self.max_sets) × ((options.byte_limit ≡ byte_limit) × (options.explain ≡ self.explain))) }
         ensures crew { IfSome result (λ options. (options.shards ≡ self.shards) × (options.workers ≡ self.workers)) }
         ensures strict { IfSome result (λ options. options.strict ≡ self.strict) }
+        ensures part { IfSome result (λ options. options.part ≡ self.part) }
         ensures some { byte_limit ≤ most_bytes → IsSome result }
         ensures none { most_bytes < byte_limit → IsNone result }
     {
@@ -142,6 +165,7 @@ impl Options {
         ensures kept { IfSome result (λ options. (options.max_sets ≡ self.max_sets) × ((options.byte_limit ≡ self.byte_limit) × (options.explain ≡ self.explain))) }
         ensures crew { IfSome result (λ options. (options.shards ≡ shards) × (options.workers ≡ workers)) }
         ensures strict { IfSome result (λ options. options.strict ≡ self.strict) }
+        ensures part { IfSome result (λ options. options.part ≡ self.part) }
         ensures some { AreInLimits shards workers → IsSome result }
         ensures some_only { IsSome result → AreInLimits shards workers }
     {

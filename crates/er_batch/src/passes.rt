@@ -1,23 +1,25 @@
 //! The pass over a text: each batch of lines is read, answered and forgotten.
 ghost use Rattle.std.specs.Prelude.{◌≡◌, ◌+◌, ◌++◌, ◌<◌, ◌≤◌, ◌^◌, ℕ, List, Option, false, true, IfSome, IfOk, IfErr, OnOk};
 ghost use Rattle.std.specs.Thread.{IsSync};
-ghost use Rattle.er_batch.specs.Analysts.{Asked, IsAnswered, IsFaultOfReading};
-ghost use Rattle.er_batch.specs.Inner.Passes.{HasCome};
-ghost use Rattle.er_batch.specs.Limits.{bytes_past_limit, most_bytes};
+ghost use Rattle.er_batch.specs.Analysts.{Asked, HasCounted, IsAnswered, IsFaultOfReading};
+ghost use Rattle.er_batch.specs.Inner.Passes.{HasCome, HasEnded, StandsFor};
+ghost use Rattle.er_batch.specs.Limits.{bytes_past_limit};
 ghost use Rattle.er_batch.specs.Runs.{IsWellFormed, recorded};
 ghost use Rattle.er_device.specs.Device.{inner_of, has_failed, taken_of};
 ghost use Rattle.er_event.specs.declared.steps.Step.{Step as Steps};
+ghost use Rattle.er_parts.specs.Parts.{kept};
 ghost use Rattle.er_text.specs.Ending.{KnowsEnd, IsEndingOf};
 ghost use Rattle.er_text.specs.Named.{KeepsNames};
 ghost use Rattle.er_lines.specs.Lending.{taken_by};
 ghost use Rattle.er_lines.specs.Faults.{HasFailedBy};
 ghost use Rattle.er_trace.specs.Names.{NameTable};
-ghost use Rattle.er_trace.specs.Trace.{Recording, no_steps, without_steps};
+ghost use Rattle.er_trace.specs.Trace.{no_steps, without_steps};
 
 use crate::{Analyst, Options, Progress, Watch};
 use er_device::Device;
 use er_event::{Site, Step};
 use er_lines::Shortcut;
+use er_parts::Part;
 use er_reading::PieceReader;
 use er_text::{Batch, Ending, ReadFault};
 use er_trace::Trace;
@@ -35,10 +37,12 @@ pub struct Analysed<A> {
     pub trace: Trace,
     /// How the text ended.
     pub ending: Ending,
+    /// If only a part is replayed, how many of its steps are accesses, reuses or shows.
+    pub of_pages: u64,
 }
 
 // What reads the lines, the trace that each batch fills, and what answers its steps. The last batch that was read is not yet answered: its
-// steps, and the line and the site of each.
+// steps, and the line and the site of each. If only a part is replayed, it has counted the steps of its pages.
 #[derive(Drop)]
 struct Pass<A> {
     lines: PieceReader,
@@ -47,6 +51,8 @@ struct Pass<A> {
     steps: Vec<Step>,
     numbers: Vec<u64>,
     sites: Vec<Site>,
+    part: Option<Part>,
+    of_pages: u64,
 }
 
 impl<A: Drop> Pass<A> {
@@ -60,10 +66,11 @@ impl<A: Drop> Pass<A> {
         A: Analyst,
         requires readers { (1 ≤ readers) × (readers ≤ 16) }
         ensures come { (asked : Asked) → A.stands analyst asked no_steps
-            → IfOk result (λ pass. (told : Option (List ℕ)) → HasCome (A.stands pass.analyst asked) told told pass.lines pass.trace pass.steps.items pass.numbers.items pass.sites.items) }
+            → IfOk result (λ pass. (told : Option (List ℕ)) → HasCome (StandsFor pass.part (A.stands pass.analyst asked) pass.of_pages) told told pass.lines pass.trace pass.steps.items pass.numbers.items pass.sites.items) }
         ensures formed { IfOk result (λ pass. IsWellFormed (recorded pass.steps.items pass.numbers.items pass.sites.items pass.trace.names)) }
         ensures limit { IfOk result (λ pass. pass.lines.place.limit ≡ options.now.byte_limit) }
         ensures taken { IfOk result (λ pass. taken_by pass.lines.place ≡ 0) }
+        ensures part { IfOk result (λ pass. pass.part ≡ options.now.part) }
     {
         let is_alone = options.workers == 1;
         let lines = PieceReader::new(alloc, options.byte_limit, options.keys, readers, is_alone)?;
@@ -74,7 +81,31 @@ impl<A: Drop> Pass<A> {
             steps: Vec::new(alloc),
             numbers: Vec::new(alloc),
             sites: Vec::new(alloc),
+            part: options.part,
+            of_pages: 0,
         })
+    }
+
+    // Keeps what is of use to the part of the last batch, if only a part is replayed.
+    fn keep_last(&mut self)
+    where
+        A: Analyst,
+        requires formed { IsWellFormed (recorded self.old.steps.items self.old.numbers.items self.old.sites.items self.old.trace.names) }
+        ensures kept { recorded self.new.steps.items self.new.numbers.items self.new.sites.items self.old.trace.names ≡ kept self.old.part (recorded self.old.steps.items self.old.numbers.items self.old.sites.items self.old.trace.names) }
+        ensures formed { IsWellFormed (recorded self.new.steps.items self.new.numbers.items self.new.sites.items self.old.trace.names) }
+        ensures counted { (before : List Steps) → HasCounted self.old.part self.old.of_pages before → HasCounted self.old.part self.new.of_pages (before ++ self.new.steps.items) }
+        ensures trace { self.new.trace ≡ self.old.trace }
+        ensures analyst { self.new.analyst ≡ self.old.analyst }
+        ensures lines { self.new.lines ≡ self.old.lines }
+        ensures part { self.new.part ≡ self.old.part }
+    {
+        match self.part {
+            Some(part) => {
+                let counted = part.keep(&mut self.steps, &mut self.numbers, &mut self.sites);
+                self.of_pages = self.of_pages.saturating_add(counted);
+            }
+            None => (),
+        }
     }
 
     // Has the last batch answered and forgets it. The one that the trace has takes its place.
@@ -89,6 +120,7 @@ impl<A: Drop> Pass<A> {
         ensures formed { OnOk result (IsWellFormed self.old.trace) }
         ensures trace { OnOk result (self.new.trace ≡ without_steps self.old.trace) }
         ensures lines { self.new.lines ≡ self.old.lines }
+        ensures part { (self.new.part ≡ self.old.part) × (self.new.of_pages ≡ self.old.of_pages) }
     {
         self.trace
             .swap_steps(&mut self.steps, &mut self.numbers, &mut self.sites);
@@ -109,21 +141,23 @@ impl<A: Drop> Pass<A> {
         requires open { has_failed reader.old ≡ false }
         requires formed { IsWellFormed (recorded self.old.steps.items self.old.numbers.items self.old.sites.items self.old.trace.names) }
         ensures formed { OnOk result (IsWellFormed (recorded self.new.steps.items self.new.numbers.items self.new.sites.items self.new.trace.names)) }
-        ensures come { (asked : Asked) (told : Option (List ℕ)) → HasCome (A.stands self.old.analyst asked) told (D.remaining (inner_of reader.old)) self.old.lines self.old.trace self.old.steps.items self.old.numbers.items self.old.sites.items
-            → IfOk result (λ more. more ≡ true → HasCome (A.stands self.new.analyst asked) told (D.remaining (inner_of reader.new)) self.new.lines self.new.trace self.new.steps.items self.new.numbers.items self.new.sites.items) }
-        ensures ended { (asked : Asked) (told : Option (List ℕ)) → HasCome (A.stands self.old.analyst asked) told (D.remaining (inner_of reader.old)) self.old.lines self.old.trace self.old.steps.items self.old.numbers.items self.old.sites.items
-            → IfOk result (λ more. more ≡ false → IsAnswered (A.stands self.new.analyst asked) told self.old.lines.place.limit self.new.trace.names) }
-        ensures ends { (asked : Asked) (told : Option (List ℕ)) → HasCome (A.stands self.old.analyst asked) told (D.remaining (inner_of reader.old)) self.old.lines self.old.trace self.old.steps.items self.old.numbers.items self.old.sites.items
+        ensures come { (asked : Asked) (told : Option (List ℕ)) → HasCome (StandsFor self.old.part (A.stands self.old.analyst asked) self.old.of_pages) told (D.remaining (inner_of reader.old)) self.old.lines self.old.trace self.old.steps.items self.old.numbers.items self.old.sites.items
+            → IfOk result (λ more. more ≡ true → HasCome (StandsFor self.new.part (A.stands self.new.analyst asked) self.new.of_pages) told (D.remaining (inner_of reader.new)) self.new.lines self.new.trace self.new.steps.items self.new.numbers.items self.new.sites.items) }
+        ensures ended { (asked : Asked) (told : Option (List ℕ)) → HasCome (StandsFor self.old.part (A.stands self.old.analyst asked) self.old.of_pages) told (D.remaining (inner_of reader.old)) self.old.lines self.old.trace self.old.steps.items self.old.numbers.items self.old.sites.items
+            → IfOk result (λ more. more ≡ false → HasEnded (StandsFor self.new.part (A.stands self.new.analyst asked) self.new.of_pages) told self.old.lines.place.limit self.new.trace.names) }
+        ensures ends { (asked : Asked) (told : Option (List ℕ)) → HasCome (StandsFor self.old.part (A.stands self.old.analyst asked) self.old.of_pages) told (D.remaining (inner_of reader.old)) self.old.lines self.old.trace self.old.steps.items self.old.numbers.items self.old.sites.items
             → IfOk result (λ more. more ≡ false → IfSome told (λ text. KnowsEnd text self.new.lines)) }
-        ensures fault { (asked : Asked) (told : Option (List ℕ)) → HasCome (A.stands self.old.analyst asked) told (D.remaining (inner_of reader.old)) self.old.lines self.old.trace self.old.steps.items self.old.numbers.items self.old.sites.items
+        ensures fault { (asked : Asked) (told : Option (List ℕ)) → HasCome (StandsFor self.old.part (A.stands self.old.analyst asked) self.old.of_pages) told (D.remaining (inner_of reader.old)) self.old.lines self.old.trace self.old.steps.items self.old.numbers.items self.old.sites.items
             → IfErr result (λ why. IsFaultOfReading told self.old.lines.place.limit why) }
         ensures limit { self.new.lines.place.limit ≡ self.old.lines.place.limit }
+        ensures part { self.new.part ≡ self.old.part }
         ensures more { IfOk result (λ more. more ≡ true → self.old.lines.place.start < self.new.lines.place.start) }
         ensures within { self.new.lines.place.start ≤ self.new.lines.place.limit }
         ensures failed { HasFailedBy (has_failed reader.new) result }
         ensures taken { taken_of reader.new + taken_by self.old.lines.place ≤ taken_of reader.old + taken_by self.new.lines.place }
         ensures most { taken_by self.new.lines.place ≤ self.new.lines.place.limit + bytes_past_limit }
     {
+        self.keep_last();
         let (lines, trace) = (&mut self.lines, &mut self.trace);
         let batch = self.analyst.prepare(
             rt,
@@ -136,6 +170,7 @@ impl<A: Drop> Pass<A> {
         match batch {
             Batch::More => Ok(true),
             Batch::End => {
+                self.keep_last();
                 self.analyst.prepare(rt, self.steps.as_slice(), &mut || ());
                 self.answer_last(rt)?;
                 Ok(false)
@@ -171,12 +206,13 @@ impl<A: Drop> Pass<A> {
         A: Analyst,
         requires open { has_failed reader.old ≡ false }
         requires formed { IsWellFormed (recorded self.old.steps.items self.old.numbers.items self.old.sites.items self.old.trace.names) }
-        ensures ended { (asked : Asked) (told : Option (List ℕ)) → HasCome (A.stands self.old.analyst asked) told (D.remaining (inner_of reader.old)) self.old.lines self.old.trace self.old.steps.items self.old.numbers.items self.old.sites.items
-            → OnOk result (IsAnswered (A.stands self.new.analyst asked) told self.old.lines.place.limit self.new.trace.names) }
-        ensures ends { (asked : Asked) (told : Option (List ℕ)) → HasCome (A.stands self.old.analyst asked) told (D.remaining (inner_of reader.old)) self.old.lines self.old.trace self.old.steps.items self.old.numbers.items self.old.sites.items
+        ensures ended { (asked : Asked) (told : Option (List ℕ)) → HasCome (StandsFor self.old.part (A.stands self.old.analyst asked) self.old.of_pages) told (D.remaining (inner_of reader.old)) self.old.lines self.old.trace self.old.steps.items self.old.numbers.items self.old.sites.items
+            → OnOk result (HasEnded (StandsFor self.new.part (A.stands self.new.analyst asked) self.new.of_pages) told self.old.lines.place.limit self.new.trace.names) }
+        ensures ends { (asked : Asked) (told : Option (List ℕ)) → HasCome (StandsFor self.old.part (A.stands self.old.analyst asked) self.old.of_pages) told (D.remaining (inner_of reader.old)) self.old.lines self.old.trace self.old.steps.items self.old.numbers.items self.old.sites.items
             → OnOk result (IfSome told (λ text. KnowsEnd text self.new.lines)) }
-        ensures fault { (asked : Asked) (told : Option (List ℕ)) → HasCome (A.stands self.old.analyst asked) told (D.remaining (inner_of reader.old)) self.old.lines self.old.trace self.old.steps.items self.old.numbers.items self.old.sites.items
+        ensures fault { (asked : Asked) (told : Option (List ℕ)) → HasCome (StandsFor self.old.part (A.stands self.old.analyst asked) self.old.of_pages) told (D.remaining (inner_of reader.old)) self.old.lines self.old.trace self.old.steps.items self.old.numbers.items self.old.sites.items
             → IfErr result (λ why. IsFaultOfReading told self.old.lines.place.limit why) }
+        ensures part { self.new.part ≡ self.old.part }
         ensures failed { HasFailedBy (has_failed reader.new) result }
         ensures taken { taken_of reader.new + taken_by self.old.lines.place ≤ taken_of reader.old + self.old.lines.place.limit + bytes_past_limit }
     {
@@ -207,7 +243,7 @@ pub fn analyse<R: Threads + Wait + Sync, D: Read, S: Shortcut<D>, V: Watch, A: A
     requires reader { has_failed reader.old ≡ false }
     requires readers { (1 ≤ readers) × (readers ≤ 16) }
     ensures answered { (asked : Asked) → A.stands analyst asked no_steps
-        → IfOk result (λ found. IsAnswered (A.stands found.analyst asked) (D.remaining (inner_of reader.old)) options.now.byte_limit found.trace.names) }
+        → IfOk result (λ found. IsAnswered (λ r. A.stands found.analyst asked r × HasCounted options.now.part found.of_pages r.steps) options.now.part (D.remaining (inner_of reader.old)) options.now.byte_limit found.trace.names) }
     ensures ending { (asked : Asked) → A.stands analyst asked no_steps → IfOk result (λ found. IfSome (D.remaining (inner_of reader.old)) (λ text. IsEndingOf text found.ending)) }
     ensures fault { (asked : Asked) → A.stands analyst asked no_steps → IfErr result (λ why. IsFaultOfReading (D.remaining (inner_of reader.old)) options.now.byte_limit why) }
     ensures failed { HasFailedBy (has_failed reader.new) result }
@@ -221,6 +257,7 @@ pub fn analyse<R: Threads + Wait + Sync, D: Read, S: Shortcut<D>, V: Watch, A: A
                 analyst: pass.analyst,
                 trace: pass.trace,
                 ending,
+                of_pages: pass.of_pages,
             })
         }
         Err(why) => Err(why),

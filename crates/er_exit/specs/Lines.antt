@@ -6,8 +6,10 @@ use Rattle.er_event.specs.Refusal.{text_of as refusal_text}
 use Rattle.er_settle.specs.Texts.{text_of as unsettled_text}
 use Rattle.er_lines.specs.Faults.{text_of as kind_text}
 use Rattle.er_text.specs.declared.endings.Lost.{Lost}
+use Rattle.er_merge.specs.Faults.{text_of as merge_text}
+use Rattle.er_merge.specs.declared.faults.MergeFault.TheVariants as merging
 use Rattle.er_exit.specs.declared.faults.Fault.{Fault}
-use Rattle.er_exit.specs.declared.faults.Fault.TheVariants.{Arguments, Text, Suppressions, Damaged, NoStep, Memory, TableFull, Beyond, OpenTrace, OpenSuppressions, Read, ReadSuppressions, Write, WriteRules, Refused, WorkerNotStarted, WorkerLost, Unsettled}
+use Rattle.er_exit.specs.declared.faults.Fault.TheVariants.{Arguments, Text, Suppressions, Damaged, NoStep, Memory, TableFull, Beyond, OpenTrace, OpenSuppressions, Read, ReadSuppressions, Write, WriteRules, Refused, WorkerNotStarted, WorkerLost, Unsettled, Merging, OpenReport, ReadReport}
 
 -- a fault in words
 abbrev pub text_of : Fault → List ℕ
@@ -29,6 +31,9 @@ text_of (Refused why) = refusal_text why
 text_of WorkerNotStarted = codes "worker not started"
 text_of WorkerLost = codes "worker lost"
 text_of (Unsettled why) = unsettled_text why
+text_of (Merging fault) = merge_text fault
+text_of (OpenReport file) = codes "cannot open report"
+text_of (ReadReport file) = codes "read fault"
 
 -- the line of one kind of damage, where there is some
 abbrev pub damage_line : Option ℕ → List ℕ → List ℕ
@@ -58,6 +63,13 @@ fault_line (NoStep line) = codes "line " ++ (decimal line ++ codes ": no step\n"
 fault_line (OpenSuppressions None) = codes "cannot open suppressions\n"
 fault_line (OpenSuppressions (Some file)) = codes "cannot open suppressions file " ++ (decimal file ++ codes "\n")
 fault_line (ReadSuppressions file) = codes "read fault in suppressions file " ++ (decimal file ++ codes "\n")
+fault_line (Merging (merging.Line file line fault)) =
+    codes "report file " ++ (decimal file ++ (codes " line " ++ (decimal line ++ (codes ": " ++ (merge_text (merging.Line file line fault) ++ codes "\n")))))
+fault_line (Merging (merging.Other file)) = codes "report file " ++ (decimal file ++ codes ": another trace\n")
+fault_line (Merging (merging.Twice part)) = codes "part " ++ (decimal part ++ codes " given twice\n")
+fault_line (Merging (merging.Missing part)) = codes "part " ++ (decimal part ++ codes " missing\n")
+fault_line (OpenReport file) = codes "cannot open report file " ++ (decimal file ++ codes "\n")
+fault_line (ReadReport file) = codes "read fault in report file " ++ (decimal file ++ codes "\n")
 fault_line (Refused why) = codes "refused: " ++ (refusal_text why ++ codes "\n")
 fault_line (Unsettled why) = codes "unsettled: " ++ (unsettled_text why ++ codes "\n")
 fault_line fault = text_of fault ++ codes "\n"

@@ -1,6 +1,6 @@
 //! Why a command line ends without its result, and the lines that the program writes by itself.
 ghost use Rattle.std.specs.Prelude.{◌≡◌, IfOk, string_bytes};
-ghost use Rattle.er_exit.specs.Faults.{demo_fault, rules_fault, trace_fault};
+ghost use Rattle.er_exit.specs.Faults.{demo_fault, merge_fault, rules_fault, trace_fault};
 ghost use Rattle.er_exit.specs.Lines.{text_of, damage_line, damage_lines, fault_line, lost_line};
 ghost use Rattle.er_exit.specs.declared.faults.Fault.TheVariants.{Memory};
 ghost use Rattle.er_exit.specs.Statuses.{fault_status};
@@ -13,6 +13,7 @@ use er_damage::Damage;
 use er_device::Device;
 use er_event::Refusal;
 use er_load::LoadFault;
+use er_merge::MergeFault;
 use er_settle::Unsettled;
 use er_text::{Lost, ReadFault, TextFault};
 use std::alloc::{AllocError, Global};
@@ -57,6 +58,12 @@ pub enum Fault {
     WorkerLost,
     /// The seats and shards of a demo don't settle.
     Unsettled(Unsettled),
+    /// Reports can't be merged.
+    Merging(MergeFault),
+    /// The report of this number can't be opened.
+    OpenReport(u64),
+    /// A read of the report of this number failed.
+    ReadReport(u64),
 }
 
 impl Fault {
@@ -77,9 +84,11 @@ impl Fault {
             Fault::WorkerNotStarted => (3, "worker not started"),
             Fault::WorkerLost => (3, "worker lost"),
             Fault::Unsettled(unsettled) => (3, unsettled.text()),
+            Fault::Merging(fault) => fault.row(),
             Fault::OpenTrace => (4, "cannot open trace"),
             Fault::OpenSuppressions(_) => (4, "cannot open suppressions"),
-            Fault::Read | Fault::ReadSuppressions(_) => (4, "read fault"),
+            Fault::OpenReport(_) => (4, "cannot open report"),
+            Fault::Read | Fault::ReadSuppressions(_) | Fault::ReadReport(_) => (4, "read fault"),
             Fault::Write => (4, "write fault"),
             Fault::WriteRules => (4, "cannot write rules"),
         }
@@ -117,6 +126,17 @@ impl From<LoadFault> for Fault {
             LoadFault::WorkerNotStarted => Fault::WorkerNotStarted,
             LoadFault::WorkerLost => Fault::WorkerLost,
             LoadFault::Unsettled(unsettled) => Fault::Unsettled(unsettled),
+        }
+    }
+}
+
+impl From<MergeFault> for Fault {
+    ghost from_gives = { λ cause fault. fault ≡ merge_fault cause };
+
+    fn from(fault: MergeFault) -> Fault {
+        match fault {
+            MergeFault::Memory => Fault::Memory,
+            fault => Fault::Merging(fault),
         }
     }
 }
@@ -189,6 +209,17 @@ fn line_of(alloc: Global, fault: Fault) -> Line
         Fault::NoStep(line) => format!(in alloc; "line {line}: {text}\n"),
         Fault::OpenSuppressions(Some(file)) => format!(in alloc; "{text} file {file}\n"),
         Fault::ReadSuppressions(file) => format!(in alloc; "{text} in suppressions file {file}\n"),
+        Fault::Merging(MergeFault::Line(file, line, _)) => {
+            format!(in alloc; "report file {file} line {line}: {text}\n")
+        }
+        Fault::Merging(MergeFault::Other(file)) => {
+            format!(in alloc; "report file {file}: {text}\n")
+        }
+        Fault::Merging(MergeFault::Twice(part) | MergeFault::Missing(part)) => {
+            format!(in alloc; "part {part} {text}\n")
+        }
+        Fault::OpenReport(file) => format!(in alloc; "{text} file {file}\n"),
+        Fault::ReadReport(file) => format!(in alloc; "{text} in report file {file}\n"),
         Fault::Refused(_) => format!(in alloc; "refused: {text}\n"),
         Fault::Unsettled(_) => format!(in alloc; "unsettled: {text}\n"),
         _ => format!(in alloc; "{text}\n"),

@@ -6,7 +6,7 @@ use Rattle.er_report.specs.declared.reports.Analysis.TheVariants.{Lockset}
 use Rattle.er_report.specs.declared.reports.Form.TheVariants.{Text}
 use Rattle.er_request.specs.declared.request.Replay.{Replay as Replaying}
 use Rattle.er_request.specs.declared.request.Request.{Request}
-use Rattle.er_request.specs.declared.request.Request.TheVariants.{Replay, Explain, Print, Demo}
+use Rattle.er_request.specs.declared.request.Request.TheVariants.{Replay, Explain, Print, Merge, Demo}
 
 -- one of the words is this option
 abbrev pub names : {A : Type 0} → List ℕ → List (String A) → Bool
@@ -21,6 +21,7 @@ abbrev pub asks_until_fault : Request → Bool
 asks_until_fault (Replay replay) = replay.until_fault
 asks_until_fault (Explain explain) = false
 asks_until_fault (Print trace) = false
+asks_until_fault (Merge reports) = false
 asks_until_fault (Demo demo) = false
 
 -- one of the words is `--progress`
@@ -32,6 +33,7 @@ abbrev pub asks_progress : Request → Bool
 asks_progress (Replay replay) = replay.progress
 asks_progress (Explain explain) = false
 asks_progress (Print trace) = false
+asks_progress (Merge reports) = false
 asks_progress (Demo demo) = false
 
 -- one of the words is `--hints`
@@ -43,6 +45,7 @@ abbrev pub asks_hints : Request → Bool
 asks_hints (Replay replay) = replay.hints
 asks_hints (Explain explain) = false
 asks_hints (Print trace) = false
+asks_hints (Merge reports) = false
 asks_hints (Demo demo) = false
 
 -- it is a replay with hints, or no replay
@@ -50,6 +53,7 @@ abbrev pub gives_hints : Request → Bool
 gives_hints (Replay replay) = replay.hints
 gives_hints (Explain explain) = true
 gives_hints (Print trace) = true
+gives_hints (Merge reports) = true
 gives_hints (Demo demo) = true
 
 -- behind the program's name stand this command and `-` alone
@@ -91,6 +95,7 @@ abbrev pub asks_usual : Bool → Request → Type 0
 asks_usual hints (Replay replay) = IsUsual replay × (replay.hints ≡ hints)
 asks_usual hints (Explain explain) = ⊥
 asks_usual hints (Print trace) = ⊥
+asks_usual hints (Merge reports) = ⊥
 asks_usual hints (Demo demo) = ⊥
 
 -- the text that the standard input means is to be written
@@ -98,4 +103,5 @@ abbrev pub asks_print : Request → Type 0
 asks_print (Replay replay) = ⊥
 asks_print (Explain explain) = ⊥
 asks_print (Print trace) = trace.now ≡ codes "-"
+asks_print (Merge reports) = ⊥
 asks_print (Demo demo) = ⊥

@@ -30,7 +30,9 @@ enum Shape {
     Values(&'static str, ValueParser<'static>),
     // A value that must be given, without an option's name before it.
     Word(&'static str, ValueParser<'static>),
-    // The same, with the value that it has if it isn't given.
+    // One such value or more.
+    Words(&'static str, ValueParser<'static>),
+    // The same as a word, with the value that it has if it isn't given.
     DefaultWord(&'static str, ValueParser<'static>, &'static str),
 }
 
@@ -79,6 +81,9 @@ const EXPLAIN: [Row; 3] = [
 const PRINT: [Row; 1] = [Row { name: "trace", shape: Shape::DefaultWord("TRACE", ValueParser::String, "-"), without: None, help: "The trace, or - for standard input" }];
 
 #[rattlefmt::skip]
+const MERGE: [Row; 1] = [Row { name: "reports", shape: Shape::Words("REPORT", ValueParser::String), without: None, help: "The reports of all parts, in any order" }];
+
+#[rattlefmt::skip]
 const DEMO: [Row; 1] = [Row { name: "name", shape: Shape::Word("NAME", ValueParser::Names(&DEMOS)), without: None, help: "What the threads do" }];
 
 #[rattlefmt::skip]
@@ -97,6 +102,17 @@ prints
     access 1: line 2, t1 write at -, holding none: exclusive t1
 
 The earlier accesses are those that count since the word's last reuse. Each one that changed the word's state has a line.";
+
+const AFTER_MERGE: &str = "\
+Example, for a trace that three machines replay:
+  eraser replay --part 1/3 big.trace > 1.report
+  eraser replay --part 2/3 big.trace > 2.report
+  eraser replay --part 3/3 big.trace > 3.report
+  eraser merge 1.report 2.report 3.report
+prints what `eraser replay big.trace` prints, and ends with its status.
+
+Each part must be there once. All must be of the same trace, by the same rules and options. Otherwise nothing is printed but what is wrong.
+cluster/README.md has scripts for Slurm and for GNU parallel.";
 
 const AFTER_HELP: &str = "\
 Example:
@@ -134,10 +150,11 @@ struct Part {
 }
 
 #[rattlefmt::skip]
-static PARTS: [Part; 4] = [
+static PARTS: [Part; 5] = [
     Part { name: "replay", about: "Replay a trace and report its races", after: None, rows: &REPLAY },
     Part { name: "explain", about: "Say why one step is a race or not, by the story of its word", after: Some(AFTER_EXPLAIN), rows: &EXPLAIN },
     Part { name: "print", about: "Write the text of a trace, also of a binary one", after: None, rows: &PRINT },
+    Part { name: "merge", about: "Make one report of the reports of a trace's parts", after: Some(AFTER_MERGE), rows: &MERGE },
     Part { name: "demo", about: "Run threads that call the detector, and print how many steps and races they made", after: None, rows: &DEMO },
 ];
 
@@ -180,6 +197,10 @@ fn argument_of<'a>(alloc: Global, row: Row) -> Result<Arg<'a>, AllocError> {
             .long(row.name)
             .action(ArgAction::Append),
         Shape::Word(value, takes) => with_value(named, value, takes).required(true),
+        Shape::Words(value, takes) => with_value(named, value, takes)
+            .required(true)
+            .num_args(1..)
+            .action(ArgAction::Append),
         Shape::DefaultWord(value, takes, default) => {
             with_value(named, value, takes).default_value(default)
         }

@@ -12,6 +12,8 @@ pub enum Request<'a> {
     Explain(Explain<'a>),
     /// The text that a trace means. It has the path of the trace, or `-` for standard input.
     Print(&'a str),
+    /// The one report of the reports of a trace's parts. It has the paths of these reports.
+    Merge(Vec<&'a str>),
     /// A workload on threads of this program.
     Demo(Demo),
 }

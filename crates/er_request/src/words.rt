@@ -131,6 +131,10 @@ fn request_of<'a>(alloc: Global, all: &ArgMatches<'a>) -> Result<Option<Request<
         }
         Some(("explain", found)) => explain_of(found),
         Some(("print", found)) => found.get_str("trace").map(Request::Print),
+        Some(("merge", found)) => {
+            let reports = found.get_strs("reports").unwrap_or(&[]);
+            Some(Request::Merge(reports.to_vec(alloc)?))
+        }
         Some(("demo", found)) => demo_of(found),
         _ => None,
     })

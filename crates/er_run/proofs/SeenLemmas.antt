@@ -2,7 +2,7 @@
 use Rattle.std.proofs.Common.{◌≡◌, ◌∙◌, ◌||◌, ◌++◌, ℕ, Bool, true, false, List, length, Option, Some, None, IfSome, Result, Ok, Err, OnOk, is_some, refl, sym, subst, arith}
 use Rattle.std.proofs.lemmas.List.{length-append}
 use Rattle.er_batch.specs.Analysts.{IsAnswered}
-use Rattle.er_batch.specs.Runs.{recorded}
+use Rattle.er_batch.specs.Runs.{IsPartOf, recorded}
 use Rattle.er_event.specs.declared.steps.Step.{Step}
 use Rattle.er_text.specs.Batches.{joined}
 use Rattle.er_damage.specs.Damaged.{IsDamageOf, has_damage, no_damage}
@@ -33,16 +33,20 @@ clean_by None None None None (Some e) none = absurd (cc)
 clean : (damage : Damage) → has_damage damage ≡ false → damage ≡ no_damage
 clean damage none = clean_by damage.refused damage.held_twice damage.no_line_feed damage.no_end damage.lost none
 
+-- without a part the recording is the text's trace
+whole-trace : (text : List ℕ) (limit : ℕ) (r : Recording) → IsPartOf None text limit r → IsTrace text limit r
+whole-trace text limit r is = subst (λ (whole : Recording). IsTrace text limit whole) (sym is.kept) is.trace
+
 -- the damage that is found is the text's
 module _ (told : Option (List ℕ)) (limit : ℕ) (strict : Bool) (used : NameTable) (seen : Inspected) (ending : Ending) (damage : Damage)
-    (all : IsAnswered (IsInspected (Some seen) strict) told limit used) (ends : IfSome told (λ text. IsEndingOf text ending))
+    (all : IsAnswered (IsInspected (Some seen) strict) None told limit used) (ends : IfSome told (λ text. IsEndingOf text ending))
     (found : (text : List ℕ) (limit : ℕ) (recording : Recording) → IsTrace text limit recording → StandsFor seen recording.steps recording.lines → IsEndingOf text ending → IsDamageOf text limit damage) where
   is_damage : IfSome told (λ text. IsDamageOf text limit damage)
   is_damage = by told all.trace ends
     where
-      by : (o : Option (List ℕ)) → IfSome o (λ text. IsTrace text limit all.recording) → IfSome o (λ text. IsEndingOf text ending) → IfSome o (λ text. IsDamageOf text limit damage)
+      by : (o : Option (List ℕ)) → IfSome o (λ text. IsPartOf None text limit all.recording) → IfSome o (λ text. IsEndingOf text ending) → IfSome o (λ text. IsDamageOf text limit damage)
       by None trace ends = tt
-      by (Some text) trace ends = found text limit all.recording trace all.stands.stands ends
+      by (Some text) trace ends = found text limit all.recording (whole-trace text limit all.recording trace) all.stands.stands ends
 
   pub some-found : has_damage damage ≡ true → HasFound told limit strict (Some damage)
   some-found some = (sym all.stands.strict, (is_damage, some))
@@ -65,7 +69,7 @@ followed X E (Ok x) old new wanted past lines sites names trace level seen stand
 followed X E (Err e) old new wanted past lines sites names trace level seen stands = tt
 
 -- without an inspector nothing is looked for
-pub nothing-found : (told : Option (List ℕ)) (limit : ℕ) (strict : Bool) (used : NameTable) → IsAnswered (IsInspected None strict) told limit used → HasFound told limit strict None
+pub nothing-found : (told : Option (List ℕ)) (limit : ℕ) (strict : Bool) (used : NameTable) → IsAnswered (IsInspected None strict) None told limit used → HasFound told limit strict None
 nothing-found told limit strict used all = λ wanted. absurd (let clash = all.stands.strict in cc)
 
 -- the workers' faults are no damage

@@ -1,8 +1,9 @@
 -- The faults of a replay: their words, when each may come, and which of the reader and the writer has failed.
-use Rattle.std.specs.Prelude.{◌≡◌, ℕ, Bool, true, false, IsTrue, List, codes, Option, Some, IfSome, Result, Ok, Err}
+use Rattle.std.specs.Prelude.{◌≡◌, ◌⊎◌, ◌&&◌, ℕ, Bool, true, false, IsTrue, List, codes, Option, Some, IfSome, is_some, is_none, Result, Ok, Err}
 use Rattle.er_clock.specs.declared.clock.NoTick.{NoTick}
 use Rattle.er_clock.specs.declared.clock.NoTick.TheVariants as order
-use Rattle.er_batch.specs.Runs.{IsRunOf}
+use Rattle.er_batch.specs.Runs.{IsPartOf, IsRunOf}
+use Rattle.er_batch.specs.declared.options.Options.{Options}
 use Rattle.er_clock.specs.Crowding.{BeyondIn}
 use Rattle.er_clock.specs.NoTick.{limit_text}
 use Rattle.er_clock.specs.declared.clock.Limit.{Limit}
@@ -14,6 +15,7 @@ use Rattle.er_journal.specs.declared.answers.Stopped.{Stopped}
 use Rattle.er_parallel.specs.Faults.{AsksForSet}
 use Rattle.er_parallel.specs.declared.config.ReplayFault.{ReplayFault}
 use Rattle.er_parallel.specs.declared.config.ReplayFault.TheVariants as replaying
+use Rattle.er_parts.specs.Parts.{PartView}
 use Rattle.er_print.specs.declared.report.WriteFault.TheVariants as writing
 use Rattle.er_report.specs.Reports.{asks_order}
 use Rattle.er_report.specs.declared.reports.Analysis.{Analysis}
@@ -51,30 +53,38 @@ abbrev pub fault_of_stop : NoTick → RunFault
 fault_of_stop (order.Beyond limit) = Beyond limit
 fault_of_stop order.OutOfMemory = Memory
 
--- the text is a trace, and some step of it asks the table for a set of locks
-pub record HasStepForSet (text : List ℕ) (limit : ℕ) : Type 0 where
+-- damage is looked for, which only a replay of the whole trace does
+abbrev pub looks_for_damage : Options → Bool
+looks_for_damage options = options.strict && is_none options.part
+
+-- the text is a trace, and some step of it, or of the part, asks the table for a set of locks
+pub record HasStepForSet (part : Option PartView) (text : List ℕ) (limit : ℕ) : Type 0 where
   pub recording : Recording
-  pub trace : IsTrace text limit recording
+  pub trace : IsPartOf part text limit recording
   pub asks : AsksForSet recording.steps
 
 -- the text is a trace, and the lockset rule stops at a step of it that may want this room
-pub record StopsFor (text : List ℕ) (limit : ℕ) (room : NoRoom) : Type 0 where
+pub record StopsFor (part : Option PartView) (text : List ℕ) (limit : ℕ) (room : NoRoom) : Type 0 where
   pub recording : Recording
   pub stop : Stopped
-  pub run : IsRunOf text limit recording (Some stop)
+  pub run : IsRunOf part text limit recording (Some stop)
   pub cause : stop.cause ≡ room
 
--- the text is a trace, and one of its steps may be beyond this limit of the clocks
-pub record HasStepBeyond (beyond : Limit) (text : List ℕ) (limit : ℕ) : Type 0 where
+-- the text is a trace, and one of its steps, or of the part's, may be beyond this limit of the clocks
+pub record HasStepBeyond (part : Option PartView) (beyond : Limit) (text : List ℕ) (limit : ℕ) : Type 0 where
   pub recording : Recording
-  pub trace : IsTrace text limit recording
+  pub trace : IsPartOf part text limit recording
   pub full : BeyondIn beyond recording.steps
 
--- the table is full: for workers if a step asks it for a set, and beside another report if a step may want a set that it has no room for
-abbrev pub MayFill : Analysis → Option (List ℕ) → ℕ → Type 0
-MayFill Lockset told limit = IfSome told (λ text. HasStepForSet text limit)
-MayFill HappensBefore told limit = ⊥
-MayFill Both told limit = IfSome told (λ text. StopsFor text limit room.TableFull)
+-- a part of the text is replayed, which stops at a step that may want a set for which the table has no room
+abbrev pub StopsPart : Option PartView → List ℕ → ℕ → Type 0
+StopsPart part text limit = (is_some part ≡ true) × StopsFor part text limit room.TableFull
+
+-- the table is full: for workers if a step asks it for a set, and for a part or beside another report if a step may want a set that it has no room for
+abbrev pub MayFill : Option PartView → Analysis → Option (List ℕ) → ℕ → Type 0
+MayFill part Lockset told limit = IfSome told (λ text. HasStepForSet part text limit ⊎ StopsPart part text limit)
+MayFill part HappensBefore told limit = ⊥
+MayFill part Both told limit = IfSome told (λ text. StopsFor part text limit room.TableFull)
 
 -- a worker isn't started: of a text that is a trace, and by the lockset rule alone
 abbrev pub MayNotStart : Analysis → Option (List ℕ) → ℕ → Type 0
@@ -83,27 +93,27 @@ MayNotStart HappensBefore told limit = ⊥
 MayNotStart Both told limit = ⊥
 
 -- a fault of the answers to a text that is a trace: a want of memory has a fault of its own, and no worker is lost
-abbrev pub IsReplayFault : Analysis → Option (List ℕ) → ℕ → ReplayFault → Type 0
-IsReplayFault analysis told limit replaying.Memory = ⊥
-IsReplayFault analysis told limit replaying.TableFull = MayFill analysis told limit
-IsReplayFault analysis told limit replaying.WorkerNotStarted = MayNotStart analysis told limit
-IsReplayFault analysis told limit replaying.WorkerLost = ⊥
+abbrev pub IsReplayFault : Option PartView → Analysis → Option (List ℕ) → ℕ → ReplayFault → Type 0
+IsReplayFault part analysis told limit replaying.Memory = ⊥
+IsReplayFault part analysis told limit replaying.TableFull = MayFill part analysis told limit
+IsReplayFault part analysis told limit replaying.WorkerNotStarted = MayNotStart analysis told limit
+IsReplayFault part analysis told limit replaying.WorkerLost = ⊥
 
 -- the text is a trace, and this is its damage, of which it has some
 abbrev pub IsFoundDamage : Option (List ℕ) → ℕ → Damage → Type 0
 IsFoundDamage told limit damage = IfSome told (λ text. IsDamageOf text limit damage) × (has_damage damage ≡ true)
 
 -- nothing was written yet: a fault of the text is its first, a full table and a worker that isn't started are as above, a limit of clocks is
--- one of happens-before at a step of the text, and damage is that of the text
-abbrev pub IsFaultOfText : Analysis → Option (List ℕ) → ℕ → RunFault → Type 0
-IsFaultOfText analysis told limit (Read (reading.Text fault)) = IfSome told (λ text. IsFault text limit fault)
-IsFaultOfText analysis told limit (Read reading.Memory) = Unit {0}
-IsFaultOfText analysis told limit (Read reading.Read) = Unit {0}
-IsFaultOfText analysis told limit (Write fault) = ⊥
-IsFaultOfText analysis told limit (Replay fault) = IsReplayFault analysis told limit fault
-IsFaultOfText analysis told limit (Beyond beyond) = IsTrue (asks_order analysis) × IfSome told (λ text. HasStepBeyond beyond text limit)
-IsFaultOfText analysis told limit Memory = Unit {0}
-IsFaultOfText analysis told limit (Damaged damage) = IsFoundDamage told limit damage
+-- one of happens-before at a step, and damage is that of the text; of a part it is a step of the part
+abbrev pub IsFaultOfText : Option PartView → Analysis → Option (List ℕ) → ℕ → RunFault → Type 0
+IsFaultOfText part analysis told limit (Read (reading.Text fault)) = IfSome told (λ text. IsFault text limit fault)
+IsFaultOfText part analysis told limit (Read reading.Memory) = Unit {0}
+IsFaultOfText part analysis told limit (Read reading.Read) = Unit {0}
+IsFaultOfText part analysis told limit (Write fault) = ⊥
+IsFaultOfText part analysis told limit (Replay fault) = IsReplayFault part analysis told limit fault
+IsFaultOfText part analysis told limit (Beyond beyond) = IsTrue (asks_order analysis) × IfSome told (λ text. HasStepBeyond part beyond text limit)
+IsFaultOfText part analysis told limit Memory = Unit {0}
+IsFaultOfText part analysis told limit (Damaged damage) = IsFoundDamage told limit damage
 
 -- the reader failed exactly where a failed read is told, and the writer exactly where a failed write is
 abbrev pub FailsBy : {X : Type 0} → Bool → Bool → Result X RunFault → Type 0

@@ -1,10 +1,12 @@
 -- The reports that were built of a text, before a byte of them is written, and what they come to.
-use Rattle.std.specs.Prelude.{◌≡◌, ◌&&◌, ◌||◌, ℕ, ◌<◌, nat_lt, Bool, true, false, cond, List, length, Option, Some, None, IfSome}
-use Rattle.er_batch.specs.Runs.{MayStopAt}
+use Rattle.std.specs.Prelude.{◌≡◌, ◌&&◌, ◌||◌, ℕ, ◌<◌, nat_lt, Bool, true, false, cond, List, length, Option, Some, None, IfSome, is_some}
+use Rattle.er_batch.specs.Runs.{IsPartOf, MayStopAt}
 use Rattle.er_batch.specs.declared.verdict.Verdict.{Verdict}
 use Rattle.er_batch.specs.declared.verdict.Verdict.TheVariants as verdict
 use Rattle.er_event.specs.declared.refusals.NoRoom.{NoRoom}
 use Rattle.er_journal.specs.declared.answers.Stopped.{Stopped}
+use Rattle.er_parts.specs.Given.{given_by}
+use Rattle.er_parts.specs.Parts.{PartView}
 use Rattle.er_report.specs.Report.{Summary, report_of, told as summary}
 use Rattle.er_report.specs.Reports.{asks_order}
 use Rattle.er_report.specs.declared.report.Report.{Report}
@@ -12,43 +14,47 @@ use Rattle.er_report.specs.declared.reports.Analysis.{Analysis}
 use Rattle.er_report.specs.declared.reports.Reports.{Reports}
 use Rattle.er_rules.specs.Rules.{Target}
 use Rattle.er_text.specs.Ending.{lost_told}
-use Rattle.er_text.specs.Trace.{IsTrace}
 use Rattle.er_trace.specs.Names.{NameTable}
 use Rattle.er_trace.specs.Trace.{Recording}
 use Rattle.er_unordered.specs.Reports.{has_order, unordered_report}
 
--- the report of a run over these steps, with so many lost events
-abbrev pub report_with : Option ℕ → Recording → List Target → Bool → Option Stopped → Summary
-report_with lost recording rules explain stop = record (report_of recording rules explain stop) { lost = lost }
+-- what a part gives of the report of a run over these steps, with so many lost events; without a part it gives all
+abbrev pub report_with : Option PartView → Option ℕ → Recording → List Target → Bool → Option Stopped → Summary
+report_with part lost recording rules explain stop = record (given_by part recording.steps (report_of recording rules explain stop)) { lost = lost }
 
 -- that of their unordered accesses
-abbrev pub unordered_with : Option ℕ → Recording → List Target → Bool → Summary
-unordered_with lost recording rules explain = record (unordered_report recording rules explain) { lost = lost }
+abbrev pub unordered_with : Option PartView → Option ℕ → Recording → List Target → Bool → Summary
+unordered_with part lost recording rules explain = record (given_by part recording.steps (unordered_report recording rules explain)) { lost = lost }
 
--- the report of a run of the recording's steps under these rules, with so many lost events; beside another report the run hasn't stopped
-pub record IsReportOfRun (beside : Bool) (lost : Option ℕ) (recording : Recording) (rules : List Target) (explain : Bool) (report : Report) : Type 0 where
+-- a stop of the lockset rule is a fault: of a part, or beside another report
+abbrev pub is_unstopped : Option PartView → Analysis → Bool
+is_unstopped part analysis = is_some part || asks_order analysis
+
+-- what a part gives of the report of a run of the recording's steps under these rules, with so many lost events; if a stop is a fault the run hasn't stopped
+pub record IsReportOfRun (part : Option PartView) (unstopped : Bool) (lost : Option ℕ) (recording : Recording) (rules : List Target) (explain : Bool) (report : Report) : Type 0 where
   pub stop : Option Stopped
   pub within : IfSome stop (λ s. s.at < length recording.steps)
   pub cause : IfSome stop (λ s. MayStopAt recording.steps s)
-  pub whole : beside ≡ true → stop ≡ None
-  pub says : summary report ≡ report_with lost recording rules explain stop
+  pub whole : unstopped ≡ true → stop ≡ None
+  pub says : summary report ≡ report_with part lost recording rules explain stop
 
--- the reports of the text's trace by this analysis under these rules, with reasons or without, with so many lost events, and the names of that trace
-pub record AreReportsBy (lost : Option ℕ) (analysis : Analysis) (text : List ℕ) (limit : ℕ) (rules : List Target) (explain : Bool) (used : NameTable) (reports : Reports) : Type 0 where
+-- the reports of the text's trace, or of a part of it, by this analysis under these rules, with reasons or without, with so many lost events, and the
+-- names of that trace
+pub record AreReportsBy (part : Option PartView) (lost : Option ℕ) (analysis : Analysis) (text : List ℕ) (limit : ℕ) (rules : List Target) (explain : Bool) (used : NameTable) (reports : Reports) : Type 0 where
   pub recording : Recording
-  pub trace : IsTrace text limit recording
+  pub trace : IsPartOf part text limit recording
   pub names : used ≡ recording.names
-  pub lockset : IfSome reports.lockset (λ report. IsReportOfRun (asks_order analysis) lost recording rules explain report)
-  pub unordered : IfSome reports.unordered (λ report. summary report ≡ unordered_with lost recording rules explain)
+  pub lockset : IfSome reports.lockset (λ report. IsReportOfRun part (is_unstopped part analysis) lost recording rules explain report)
+  pub unordered : IfSome reports.unordered (λ report. summary report ≡ unordered_with part lost recording rules explain)
 
 -- with those that the text says are lost
-abbrev pub AreReportsOfText : Analysis → List ℕ → ℕ → List Target → Bool → NameTable → Reports → Type 0
-AreReportsOfText analysis text limit rules explain used reports = AreReportsBy (lost_told text) analysis text limit rules explain used reports
+abbrev pub AreReportsOfText : Option PartView → Analysis → List ℕ → ℕ → List Target → Bool → NameTable → Reports → Type 0
+AreReportsOfText part analysis text limit rules explain used reports = AreReportsBy part (lost_told text) analysis text limit rules explain used reports
 
--- happens-before is asked for, and some step of the text's trace starts or joins a thread, signals or awaits
-pub record IsOrderOfText (analysis : Analysis) (text : List ℕ) (limit : ℕ) (has : Bool) : Type 0 where
+-- happens-before is asked for, and some step of the text's trace, or of the part, starts or joins a thread, signals or awaits
+pub record IsOrderOfText (part : Option PartView) (analysis : Analysis) (text : List ℕ) (limit : ℕ) (has : Bool) : Type 0 where
   pub recording : Recording
-  pub trace : IsTrace text limit recording
+  pub trace : IsPartOf part text limit recording
   pub says : has ≡ (asks_order analysis && has_order recording.steps)
 
 -- where a report says that the run has stopped, if there is one

@@ -20,13 +20,13 @@ pub enum RunFault {
     Read(ReadFault),
     /// The reports weren't written.
     Write(WriteFault),
-    /// The table of locksets is full, for several workers or beside a report by happens-before, or a worker couldn't be started.
+    /// The table of locksets is full, for several workers, for a part or beside a report by happens-before, or a worker couldn't be started.
     Replay(ReplayFault),
     /// By happens-before: a step is beyond a limit of the clocks.
     Beyond(Limit),
     /// Memory was refused between the two.
     Memory,
-    /// The trace is damaged, and the replay is strict.
+    /// The trace is damaged, and the replay is strict and of the whole trace.
     Damaged(Damage),
 }
 

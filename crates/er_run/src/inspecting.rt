@@ -1,5 +1,5 @@
 //! The damage of a trace, which a strict replay looks for batch by batch.
-ghost use Rattle.std.specs.Prelude.{◌≡◌, ℕ, Bool, List, Option, false, is_some, IsNone, IfSome};
+ghost use Rattle.std.specs.Prelude.{◌≡◌, ℕ, Bool, List, Option, false, is_some, None, IsNone, IfSome};
 ghost use Rattle.er_batch.specs.Analysts.{IsAnswered};
 ghost use Rattle.er_run.specs.Inner.Inspected.{IsInspected, HasFound};
 ghost use Rattle.er_text.specs.Ending.{IsEndingOf};
@@ -15,7 +15,7 @@ use std::alloc::Global;
 use std::sync::Wait;
 use std::thread::Threads;
 
-/// What a strict replay has seen of the steps so far. Another replay looks at none.
+/// What a strict replay of a whole trace has seen of the steps so far. Another replay looks at none.
 #[derive(Drop)]
 pub(crate) struct Inspection {
     inspector: Option<Inspector>,
@@ -36,7 +36,7 @@ impl Inspection {
 
     /// The damage of a text that was read to its end and ended so, if the replay is strict and there is any.
     pub(crate) fn damage(&self, ending: Ending) -> Option<Damage>
-        ensures found { (strict : Bool) (told : Option (List ℕ)) (limit : ℕ) (used : NameTable) → IsAnswered (IsInspected self.now.inspector strict) told limit used
+        ensures found { (strict : Bool) (told : Option (List ℕ)) (limit : ℕ) (used : NameTable) → IsAnswered (IsInspected self.now.inspector strict) None told limit used
             → IfSome told (λ text. IsEndingOf text ending) → HasFound told limit strict result }
         ensures lenient { is_some self.now.inspector ≡ false → IsNone result }
     {

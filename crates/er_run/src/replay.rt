@@ -9,7 +9,7 @@ ghost use Rattle.er_report.specs.Reports.{HaveNames, asks_locks, asks_order};
 ghost use Rattle.er_report.specs.declared.reports.Analysis.TheVariants.{Lockset};
 ghost use Rattle.er_rules.specs.Rules.{targets_of};
 ghost use Rattle.er_batch.specs.Limits.{bytes_past_limit};
-ghost use Rattle.er_run.specs.Faults.{FailsBy, IsFaultOfText, IsNoDamage, IsOfReading};
+ghost use Rattle.er_run.specs.Faults.{FailsBy, IsFaultOfText, IsNoDamage, IsOfReading, looks_for_damage};
 ghost use Rattle.er_run.specs.Inner.Written.{WritesFound};
 ghost use Rattle.er_run.specs.Replays.{IsReplayed, IsFailed, WritesNothing, is_stopped};
 ghost use Rattle.er_run.specs.Reports.{AreReportsOfText, IsOrderOfText, has_races, is_verdict_of, stop_in};
@@ -33,7 +33,7 @@ use std::thread::Threads;
 ///
 /// The text is read to its end and the report built whole before the first byte is written, as by [`replay_reports`]. One worker stops at
 /// a step that is refused for want of room, and the report says so. Several workers write what one worker writes, and never such a report:
-/// they return a fault instead. A strict replay of a damaged trace returns its damage, and writes nothing.
+/// they return a fault instead, and so does a replay of a part. A strict replay of a damaged trace returns its damage, and writes nothing.
 pub fn replay_text<R, D, W>(
     rt: &R,
     reader: &mut Device<D>,
@@ -47,10 +47,10 @@ where
     W: Write,
     requires reader { has_failed reader.old ≡ false }
     requires writer { has_failed writer.old ≡ false }
-    ensures report { IfOk result (λ verdict. IfSome (D.remaining (inner_of reader.old)) (λ text. IsReplayed text options.now.byte_limit (targets_of suppressions.now) options.now.explain (W.contents (inner_of writer.old)) (W.contents (inner_of writer.new)) verdict)) }
-    ensures fault { IsFailed (D.remaining (inner_of reader.old)) options.now.byte_limit (targets_of suppressions.now) options.now.explain (W.contents (inner_of writer.old)) (W.contents (inner_of writer.new)) result }
-    ensures undamaged { IsTrue options.now.strict → OnOk result (IfSome (D.remaining (inner_of reader.old)) (λ text. IsDamageOf text options.now.byte_limit no_damage)) }
-    ensures lenient { IsFalse options.now.strict → IfErr result IsNoDamage }
+    ensures report { IfOk result (λ verdict. IfSome (D.remaining (inner_of reader.old)) (λ text. IsReplayed options.now.part text options.now.byte_limit (targets_of suppressions.now) options.now.explain (W.contents (inner_of writer.old)) (W.contents (inner_of writer.new)) verdict)) }
+    ensures fault { IsFailed options.now.part (D.remaining (inner_of reader.old)) options.now.byte_limit (targets_of suppressions.now) options.now.explain (W.contents (inner_of writer.old)) (W.contents (inner_of writer.new)) result }
+    ensures undamaged { IsTrue (looks_for_damage options.now) → OnOk result (IfSome (D.remaining (inner_of reader.old)) (λ text. IsDamageOf text options.now.byte_limit no_damage)) }
+    ensures lenient { IsFalse (looks_for_damage options.now) → IfErr result IsNoDamage }
     ensures nothing { IfErr result (λ why. WritesNothing (W.contents (inner_of writer.old)) (W.contents (inner_of writer.new)) why) }
     ensures failed { FailsBy (has_failed reader.new) (has_failed writer.new) result }
     ensures taken { taken_of reader.new ≤ taken_of reader.old + options.now.byte_limit + bytes_past_limit }
@@ -102,8 +102,8 @@ fn write_found<W: Write>(
 ///
 /// The text is read to its end, and the steps of each batch of lines are forgotten once they are answered, so that memory goes by the words,
 /// the names and the lines of the reports. With `explain` each race that is printed has its reasons, and each word has a book of the
-/// accesses that a reason may name. A strict replay of a damaged trace returns its damage. Beside a report by happens-before, that of the
-/// lockset rule is whole: a step that finds no room is a fault. By the lockset rule alone a quarter of several workers, but at least one, answer
+/// accesses that a reason may name. A strict replay of a damaged trace returns its damage. Of a part, and beside a report by happens-before, the report
+/// of the lockset rule is whole: a step that finds no room is a fault. A replay of a part looks for no damage. By the lockset rule alone a quarter of several workers, but at least one, answer
 /// a batch while the others read the next one; by another analysis all of them read, and one answers. If one thread reads, the shortcut may have
 /// lines ready. The watcher is told behind each batch how far the replay has come, and called once more at the end. What it does changes nothing
 /// of what is returned.
@@ -128,18 +128,18 @@ where
     S: Shortcut<D>,
     V: Watch,
     requires reader { has_failed reader.old ≡ false }
-    ensures reports { IfOk result (λ found. IfSome (D.remaining (inner_of reader.old)) (λ text. AreReportsOfText analysis text options.now.byte_limit (targets_of suppressions.now) options.now.explain found.trace.names found.reports)) }
+    ensures reports { IfOk result (λ found. IfSome (D.remaining (inner_of reader.old)) (λ text. AreReportsOfText options.now.part analysis text options.now.byte_limit (targets_of suppressions.now) options.now.explain found.trace.names found.reports)) }
     ensures asked { IfOk result (λ found. (is_some found.reports.lockset ≡ asks_locks analysis) × (is_some found.reports.unordered ≡ asks_order analysis)) }
     ensures named { IfOk result (λ found. HaveNames found.trace.names found.reports) }
     ensures ending { IfOk result (λ found. IfSome (D.remaining (inner_of reader.old)) (λ text. IsEndingOf text found.ending)) }
-    ensures order { IfOk result (λ found. IfSome (D.remaining (inner_of reader.old)) (λ text. IsOrderOfText analysis text options.now.byte_limit found.has_order)) }
-    ensures fault { IfErr result (λ why. IsFaultOfText analysis (D.remaining (inner_of reader.old)) options.now.byte_limit why) }
-    ensures undamaged { IsTrue options.now.strict → OnOk result (IfSome (D.remaining (inner_of reader.old)) (λ text. IsDamageOf text options.now.byte_limit no_damage)) }
-    ensures lenient { IsFalse options.now.strict → IfErr result IsNoDamage }
+    ensures order { IfOk result (λ found. IfSome (D.remaining (inner_of reader.old)) (λ text. IsOrderOfText options.now.part analysis text options.now.byte_limit found.has_order)) }
+    ensures fault { IfErr result (λ why. IsFaultOfText options.now.part analysis (D.remaining (inner_of reader.old)) options.now.byte_limit why) }
+    ensures undamaged { IsTrue (looks_for_damage options.now) → OnOk result (IfSome (D.remaining (inner_of reader.old)) (λ text. IsDamageOf text options.now.byte_limit no_damage)) }
+    ensures lenient { IsFalse (looks_for_damage options.now) → IfErr result IsNoDamage }
     ensures failed { FailsBy (has_failed reader.new) false result }
     ensures taken { taken_of reader.new ≤ taken_of reader.old + options.now.byte_limit + bytes_past_limit }
     ensures whole { 1 < options.now.workers → IfOk result (λ found. IfSome found.reports.lockset (λ report. report.stop ≡ None)) }
-    ensures alone { options.now.workers ≡ 1 → analysis ≡ Lockset → IfErr result IsOfReading }
+    ensures alone { options.now.workers ≡ 1 → options.now.part ≡ None → analysis ≡ Lockset → IfErr result IsOfReading }
 {
     let table = LocksetTable::keyed(alloc, options.max_sets, options.keys)?;
     let found = if options.workers > 1 && !analysis.asks_order() {

@@ -184,6 +184,9 @@ usual-fails remaining replay text old new why usual fails = by_case why fails
     by_case fault.WorkerNotStarted fails = other fault.WorkerNotStarted fails
     by_case fault.WorkerLost fails = other fault.WorkerLost fails
     by_case (fault.Unsettled why) fails = other (fault.Unsettled why) fails
+    by_case (fault.Merging why) fails = other (fault.Merging why) fails
+    by_case (fault.OpenReport n) fails = other (fault.OpenReport n) fails
+    by_case (fault.ReadReport n) fails = other (fault.ReadReport n) fails
 
 -- what holds of the text, if it is known
 pub for-text : {P Q : List ℕ → Type 0} (told : Option (List ℕ)) → ((text : List ℕ) → P text → Q text) → IfSome told P → IfSome told Q

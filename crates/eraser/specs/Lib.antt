@@ -1,5 +1,6 @@
 pub mod Faults
 pub mod Inner
+pub mod Merging
 pub mod Notes
 pub mod Printing
 pub mod Replays

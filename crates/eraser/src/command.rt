@@ -15,6 +15,7 @@ ghost use Rattle.eraser.specs.Notes.{AddsNotesOn, GetsNotes, GetsTextNotes};
 ghost use Rattle.eraser.specs.Printing.{PrintsTo};
 ghost use Rattle.eraser.specs.Replays.{AreOptionsOf, ComesTo, EndsAs, EndsUsually, FailsAs, IsEndOf};
 
+use crate::merging::merge_files;
 use crate::meter::Meter;
 use crate::replaying::{Ended, Job, notes_of};
 use crate::traces::{Directly, explain_step, print_trace, text_size};
@@ -97,6 +98,11 @@ where
         Ok(Request::Demo(demo)) => {
             let made = run_demo(rt, rt.alloc(), Workload::ALL[demo.place], output);
             end(rt.alloc(), made, errors)
+        }
+        Ok(Request::Merge(paths)) => {
+            let merged = merge_files(rt, &paths, output);
+            drop(paths);
+            end(rt.alloc(), merged, errors)
         }
         Err(error) => {
             let status = refused(rt.alloc(), &error, output, errors);

@@ -5,6 +5,7 @@
 #![tactic(auto)]
 
 mod command;
+mod merging;
 mod meter;
 mod places;
 mod replaying;

@@ -92,8 +92,8 @@ pub(crate) fn explain_step<R: Files + RandomSource + AllocGlobal, I: Read, O: Wr
     told
 }
 
-// Writes all that a reader gives.
-fn print_text<D: Read, O: Write>(
+/// Writes all that a reader gives.
+pub(crate) fn print_text<D: Read, O: Write>(
     source: &mut Device<D>,
     output: &mut Device<O>,
 ) -> Result<u8, Fault>

@@ -1,9 +1,13 @@
 -- How far a pass has come that forgets its steps batch by batch.
-use Rattle.std.specs.Prelude.{◌≡◌, ◌++◌, ℕ, List, [], Option, IfSome}
+use Rattle.std.specs.Prelude.{◌≡◌, ◌++◌, ℕ, List, [], length, Option, IfSome}
+use Rattle.er_batch.specs.Analysts.{HasCounted}
 use Rattle.er_batch.specs.Runs.{recorded}
 use Rattle.er_event.specs.declared.steps.Step.{Step}
+use Rattle.er_parts.specs.Parts.{PartView, kept}
 use Rattle.er_text.specs.Batches.{HasRead}
 use Rattle.er_text.specs.Places.{Reached}
+use Rattle.er_text.specs.Trace.{IsTrace}
+use Rattle.er_trace.specs.Names.{NameTable}
 use Rattle.er_trace.specs.Trace.{Recording}
 
 -- between two batches: some steps were read and forgotten, and this stands for them; the steps of the last batch, with their lines and sites, were read too
@@ -16,3 +20,17 @@ pub record HasCome (Stands : Recording → Type 0) (told known : Option (List �
   pub no_lines : trace.lines ≡ []
   pub no_sites : trace.sites ≡ []
   pub stands : Stands (recorded past lines sites trace.names)
+
+-- at the end of the text, which is a trace with these names: this stands for it
+pub record HasEnded (Stands : Recording → Type 0) (told : Option (List ℕ)) (limit : ℕ) (used : NameTable) : Type 0 where
+  pub recording : Recording
+  pub trace : IfSome told (λ text. IsTrace text limit recording)
+  pub names : used ≡ recording.names
+  pub stands : Stands recording
+
+-- this stands for what is kept of the recording for a part, which has so many steps of pages; each step has a line and a site
+pub record StandsFor (part : Option PartView) (Stands : Recording → Type 0) (steps : ℕ) (r : Recording) : Type 0 where
+  pub stands : Stands (kept part r)
+  pub counted : HasCounted part steps (kept part r).steps
+  pub long : length r.lines ≡ length r.steps
+  pub one_each : length r.sites ≡ length r.steps

@@ -1,11 +1,10 @@
 -- The steps that have nothing to say are added first, and then the step behind them, which is explained.
-use Rattle.std.proofs.Common.{◌≡◌, ◌∙◌, ◌+◌, ℕ, true, List, Option, IfSome, Result, arith, sym, ap, subst}
+use Rattle.std.proofs.Common.{◌≡◌, ◌∙◌, ◌+◌, ℕ, true, List, Result, arith, sym, ap}
 use Rattle.er_event.specs.declared.refusals.Refusal.{Refusal}
 use Rattle.er_event.specs.declared.steps.Reply.{Reply}
 use Rattle.er_event.specs.declared.steps.Step.{Step}
 use Rattle.er_model.specs.Answers.{answer}
 use Rattle.er_report.specs.Builder.{Built, is_plain, ArePlain, IsBuilt, IsExplained, IsReported}
-use Rattle.er_rules.specs.Rules.{Target}
 use Rattle.er_trace.specs.Trace.{Recording}
 use Rattle.er_batch.proofs.LagLemmas.{lags-end}
 use Rattle.er_batch.proofs.answering.add_behind.Goals as goal

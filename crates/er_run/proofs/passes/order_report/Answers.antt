@@ -20,8 +20,8 @@ returns-in-Ok-clause-built c = λ asked r stands.
     }
 
 pub returns-in-Err-clause-fault : goal.returns-in-Err-clause-fault
-returns-in-Err-clause-fault c = λ asked told limit r trace stands.
+returns-in-Err-clause-fault c = λ part asked told limit r trace stands.
     let there : true ≡ asks_order asked.analysis = subst (λ (o : Option OrderRan). is_some o ≡ asks_order asked.analysis) c.in-Some.is stands.there in
     let inside : HasOrdered c.in-Some.ordering asked r = subst (λ (o : Option OrderRan). IfSome o (λ one. HasOrdered one asked r)) c.in-Some.is stands.stands in
-    subst (λ (why : RunFault). IsFaultOfText asked.analysis told limit why) (sym c.from.ensures)
-    (order-fault asked.analysis told limit r c.in-Err.why (sym there) trace (c.in-Err.ensures.fault asked r inside))
+    subst (λ (why : RunFault). IsFaultOfText part asked.analysis told limit why) (sym c.from.ensures)
+    (order-fault part asked.analysis told limit r c.in-Err.why (sym there) trace (c.in-Err.ensures.fault asked r inside))

@@ -6,7 +6,7 @@ use Rattle.er_rules.specs.Rules.{targets_of}
 use Rattle.er_run.specs.Inner.Outcomes.{asked_by}
 use Rattle.er_run.specs.declared.fault.RunFault.TheVariants.{Read}
 use Rattle.er_run.proofs.OutcomeLemmas.{failed-outcome}
-use Rattle.er_run.proofs.PassLemmas.{of-reading}
+use Rattle.er_run.proofs.PassLemmas.{alone-unordered, alone-whole, of-reading, only-whole}
 use Rattle.er_run.proofs.passes.reports_by_one.Goals as goal
 
 pub returns-in-Ok : goal.returns-in-Ok
@@ -17,11 +17,11 @@ returns-in-Ok g c =
     let all = c.in-Ok.ensures.answered asked stands in
     record {
       replay = record {
-        outcome = c.end.ensures.outcome asked told c.args.options.now.byte_limit all (c.in-Ok.ensures.ending asked stands);
+        outcome = c.end.ensures.outcome asked told c.args.options.now.byte_limit (only-whole c.args.options.now) all (c.in-Ok.ensures.ending asked stands);
         failed = search rules;
         taken = search rules;
       };
-      alone = λ none. c.end.ensures.alone (all.stands.0.1.there ∙ none);
+      alone = λ none. c.end.ensures.alone (alone-whole c.args.options.now.part c.args.analysis none) (all.stands.0.0.1.there ∙ alone-unordered c.args.options.now.part c.args.analysis none);
     }
 
 pub returns-in-Err : goal.returns-in-Err
@@ -31,7 +31,7 @@ returns-in-Err g c =
     let stands = c.in_ok-all.ensures.stands asked refl refl refl refl in
     record {
       replay = record {
-        outcome = failed-outcome told c.args.options.now.byte_limit asked (Read c.in-Err.why) (of-reading asked.analysis told c.args.options.now.byte_limit c.in-Err.why (c.in-Err.ensures.fault asked stands)) (λ lenient. tt);
+        outcome = failed-outcome c.args.options.now.part told c.args.options.now.byte_limit asked (Read c.in-Err.why) (of-reading c.args.options.now.part asked.analysis told c.args.options.now.byte_limit c.in-Err.why (c.in-Err.ensures.fault asked stands)) (λ lenient. tt);
         failed = search rules;
         taken = search rules;
       };

@@ -5,17 +5,17 @@ use Rattle.er_device.specs.Device.{has_failed, inner_of}
 use Rattle.er_rules.specs.Rules.{targets_of}
 use Rattle.er_run.specs.Faults.{FailsBy}
 use Rattle.er_run.specs.declared.outcome.ReplayedTrace.{ReplayedTrace}
-use Rattle.er_run.proofs.ReplayLemmas.{fails-again, nothing, part, untouched, unwritten, whole-of, whole-verdict}
+use Rattle.er_run.proofs.ReplayLemmas.{failed-of, fails-again, nothing, untouched, unwritten, whole-of, whole-verdict}
 use Rattle.er_run.proofs.replay.replay_text.Goals as goal
 
 pub returns-in-Ok-clause-report : goal.returns-in-Ok-clause-report
 returns-in-Ok-clause-report g c =
-    whole-of (g.D.Read.remaining (inner_of c.args.reader.now)) c.args.options.now.byte_limit (targets_of c.args.suppressions.now) c.args.options.now.explain _ _ c.in-Ok.found.trace.names c.in-Ok.found.reports
+    whole-of c.args.options.now.part (g.D.Read.remaining (inner_of c.args.reader.now)) c.args.options.now.byte_limit (targets_of c.args.suppressions.now) c.args.options.now.explain _ _ c.in-Ok.found.trace.names c.in-Ok.found.reports
     c.in-Ok.ensures.asked.0 c.in-Ok.ensures.reports c.write_found-verdict.result c.in-Ok.ensures.asked.1 c.write_found-verdict.ensures.verdict c.write_found-verdict.ensures.bytes
 
 pub returns-in-Ok-clause-fault : goal.returns-in-Ok-clause-fault
 returns-in-Ok-clause-fault g c =
-    part (g.D.Read.remaining (inner_of c.args.reader.now)) c.args.options.now.byte_limit (targets_of c.args.suppressions.now) c.args.options.now.explain _ _ c.in-Ok.found.trace.names c.in-Ok.found.reports
+    failed-of c.args.options.now.part (g.D.Read.remaining (inner_of c.args.reader.now)) c.args.options.now.byte_limit (targets_of c.args.suppressions.now) c.args.options.now.explain _ _ c.in-Ok.found.trace.names c.in-Ok.found.reports
     c.in-Ok.ensures.asked.0 c.in-Ok.ensures.reports c.write_found-verdict.result c.write_found-verdict.ensures.bytes
 
 pub returns-in-Ok-clause-nothing : goal.returns-in-Ok-clause-nothing
@@ -26,10 +26,10 @@ returns-in-Ok-clause-whole g c = λ several. whole-verdict c.in-Ok.found.reports
 
 pub returns-in-Err-clause-fault : goal.returns-in-Err-clause-fault
 returns-in-Err-clause-fault g c =
-    unwritten (g.D.Read.remaining (inner_of c.args.reader.now)) c.args.options.now.byte_limit (targets_of c.args.suppressions.now) c.args.options.now.explain _ _ c.in-Err.why c.in-Err.ensures.fault
+    unwritten c.args.options.now.part (g.D.Read.remaining (inner_of c.args.reader.now)) c.args.options.now.byte_limit (targets_of c.args.suppressions.now) c.args.options.now.explain _ _ c.in-Err.why c.in-Err.ensures.fault
 
 pub returns-in-Err-clause-nothing : goal.returns-in-Err-clause-nothing
-returns-in-Err-clause-nothing g c = untouched (g.D.Read.remaining (inner_of c.args.reader.now)) _ c.args.options.now.byte_limit c.in-Err.why c.in-Err.ensures.fault
+returns-in-Err-clause-nothing g c = untouched c.args.options.now.part (g.D.Read.remaining (inner_of c.args.reader.now)) _ c.args.options.now.byte_limit c.in-Err.why c.in-Err.ensures.fault
 
 pub returns-in-Err-clause-failed : goal.returns-in-Err-clause-failed
 returns-in-Err-clause-failed g c =

@@ -69,3 +69,8 @@ pub returns-in-Ok-Print-clause-refused : goal.returns-in-Ok-Print-clause-refused
 returns-in-Ok-Print-clause-refused g c unnamed two =
     never-two (λ why. GetsLine (g.E.Write.contents (inner_of c.args.errors.now)) (g.E.Write.contents (inner_of c.end-in-Ok-Print.new.errors)) (fault_line why) (has_failed c.end-in-Ok-Print.new.errors))
     c.end-in-Ok-Print.result c.print_trace.result c.print_trace.ensures.status c.end-in-Ok-Print.ensures.given c.print_trace.ensures.fault c.end-in-Ok-Print.ensures.fault two
+
+pub returns-in-Ok-Merge-clause-quiet : goal.returns-in-Ok-Merge-clause-quiet
+returns-in-Ok-Merge-clause-quiet g c le =
+    none-written (names_hints c.args.words.now || c.args.on_terminal) (g.E.Write.contents (inner_of c.args.errors.now)) (g.E.Write.contents (inner_of c.end-in-Ok-Merge.new.errors)) (has_failed c.end-in-Ok-Merge.new.errors)
+    (c.end-in-Ok-Merge.ensures.quiet le)

@@ -1,18 +1,19 @@
 -- The batch that was read takes the place of the one that is answered, and the last one is answered too.
-use Rattle.std.proofs.Common.{rules, ◌≡◌, ℕ, List, Option, Ok}
-use Rattle.er_batch.proofs.PassLemmas.{ended-on, ends-on, moved, part, still-formed, whole}
+use Rattle.std.proofs.Common.{rules, ◌≡◌, ℕ, List, Option, Ok, ap, ◌∙◌}
+use Rattle.er_batch.proofs.PassLemmas.{ended-on, ends-on, moved, on-kept, part, still-formed, whole}
+use Rattle.er_batch.specs.Inner.Passes.{StandsFor}
 use Rattle.er_batch.specs.Runs.{recorded}
 use Rattle.er_device.specs.Device.{inner_of}
 use Rattle.er_event.specs.declared.steps.Step.{Step}
 use Rattle.er_text.specs.Batches.{GivesBatch, HasRead}
 use Rattle.er_text.specs.Named.{Grows}
-use Rattle.er_trace.specs.Trace.{Recording}
+use Rattle.er_trace.specs.Trace.{Recording, without_steps}
 use Rattle.er_batch.proofs.passes.Pass.turn.Goals as goal
 
 pub answer_last-requires-clause-formed : goal.answer_last-requires-clause-formed
 answer_last-requires-clause-formed g c κs within =
     let grows : Grows c.args.self.now.trace c.prepare.new.beside.4.now = search rules in
-    still-formed _ _ _ _ _ grows.names c.requires.formed
+    still-formed _ _ _ _ _ grows.names (search rules)
 
 pub returns-in-More-clause-come : goal.returns-in-More-clause-come
 returns-in-More-clause-come g c = λ asked told come more.
@@ -23,33 +24,59 @@ returns-in-More-clause-come g c = λ asked told come more.
     let grows : Grows t u = search rules in
     let gives : (text : List ℕ) (past : List Step) (lines sites : List ℕ) → HasRead text past lines sites c.args.self.now.lines known t
     → GivesBatch text past lines sites c.prepare.new.beside.0.now rest u (Ok c.in_ok-batch.batch) = search rules in
-    moved u _ _ _ _ c.in_ok-answer_last.ensures.trace c.in_ok-answer_last.ensures.next.0 c.in_ok-answer_last.ensures.next.1 c.in_ok-answer_last.ensures.next.2
-    (g.A.Analyst.stands c.answer_last.new.self.analyst asked) told rest c.prepare.new.beside.0.now _ c.answer_last.ensures.lines
-    (part (g.A.Analyst.stands c.args.self.now.analyst asked) (g.A.Analyst.stands c.answer_last.new.self.analyst asked) told c.args.self.now.lines c.prepare.new.beside.0.now known rest t u
+    rw (c.answer_last.ensures.part.0, c.answer_last.ensures.part.1, c.keep_last.ensures.part)
+    (moved u _ _ _ _ c.in_ok-answer_last.ensures.trace c.in_ok-answer_last.ensures.next.0 c.in_ok-answer_last.ensures.next.1 c.in_ok-answer_last.ensures.next.2
+    (StandsFor c.args.self.now.part (g.A.Analyst.stands c.answer_last.new.self.analyst asked) c.keep_last.new.self.of_pages) told rest c.prepare.new.beside.0.now _ c.answer_last.ensures.lines
+    (part (StandsFor c.args.self.now.part (g.A.Analyst.stands c.args.self.now.analyst asked) c.args.self.now.of_pages)
+    (StandsFor c.args.self.now.part (g.A.Analyst.stands c.answer_last.new.self.analyst asked) c.keep_last.new.self.of_pages) told c.args.self.now.lines c.prepare.new.beside.0.now known rest t u
     c.args.self.now.steps.items c.args.self.now.numbers.items c.args.self.now.sites.items c.in_ok-batch.batch come gives
+    (on-kept (g.A.Analyst.stands c.args.self.now.analyst asked) (g.A.Analyst.stands c.answer_last.new.self.analyst asked) t.names t.names u.names
+    c.args.self.now.steps.items c.args.self.now.numbers.items c.args.self.now.sites.items c.args.self.now.of_pages c.keep_last.new.self.of_pages
+    c.requires.formed.long c.requires.formed.one_each c.args.self.now.part
+    (recorded c.keep_last.new.self.steps.items c.keep_last.new.self.numbers.items c.keep_last.new.self.sites.items t.names) c.keep_last.ensures.kept
     (λ past lines sites stands. c.in_ok-answer_last.ensures.answered asked past lines sites t.names grows.names
-    (rw c.as_slice.ensures.value at (c.prepare.ensures.ready asked (recorded past lines sites t.names) stands)))
-    c.in-More.is)
+    (rw c.as_slice.ensures.value at (c.prepare.ensures.ready asked (recorded past lines sites t.names) (rw c.keep_last.ensures.analyst stands))))
+    c.keep_last.ensures.counted)
+    c.in-More.is))
 
 pub returns-in_ok-answer_last-in-End-clause-ended : goal.returns-in_ok-answer_last-in-End-clause-ended
 returns-in_ok-answer_last-in-End-clause-ended g c = λ asked told come ended.
     let t : Recording = c.args.self.now.trace in
     let u : Recording = c.prepare.new.beside.4.now in
+    let v : Recording = c.answer_last.new.self.trace in
     let known : Option (List ℕ) = g.D.Read.remaining (inner_of c.args.reader.now) in
     let rest : Option (List ℕ) = g.D.Read.remaining (inner_of c.prepare.new.beside.2.now) in
     let grows : Grows t u = search rules in
     let limit : c.prepare.new.beside.0.now.place.limit ≡ c.args.self.now.lines.place.limit = search rules in
     let gives : (text : List ℕ) (past : List Step) (lines sites : List ℕ) → HasRead text past lines sites c.args.self.now.lines known t
     → GivesBatch text past lines sites c.prepare.new.beside.0.now rest u (Ok c.in_ok-batch.batch) = search rules in
-    ended-on u c.answer_last.new.self.trace _ _ _ c.in_ok-answer_last.ensures.trace c.in_ok-answer_last.ensures.next.0 c.in_ok-answer_last.ensures.next.1 c.in_ok-answer_last.ensures.next.2
-    (g.A.Analyst.stands c.answer_last-in-End.new.self.analyst asked) told c.args.self.now.lines.place.limit c.answer_last-in-End.new.self.trace c.in_ok-answer_last-in-End.ensures.trace
-    (whole (g.A.Analyst.stands c.args.self.now.analyst asked) (g.A.Analyst.stands c.answer_last.new.self.analyst asked) told c.args.self.now.lines c.prepare.new.beside.0.now known rest t u
+    let between : Recording → Type 0 = StandsFor c.answer_last.new.self.part (g.A.Analyst.stands c.answer_last.new.self.analyst asked) c.answer_last.new.self.of_pages in
+    let last : Recording → Type 0 = StandsFor c.answer_last.new.self.part (g.A.Analyst.stands c.answer_last-in-End.new.self.analyst asked) c.keep_last-in-End.new.self.of_pages in
+    rw (c.answer_last-in-End.ensures.part.0, c.answer_last-in-End.ensures.part.1, c.keep_last-in-End.ensures.part)
+    (ended-on u v _ _ _ c.in_ok-answer_last.ensures.trace c.in_ok-answer_last.ensures.next.0 c.in_ok-answer_last.ensures.next.1 c.in_ok-answer_last.ensures.next.2
+    last told c.args.self.now.lines.place.limit c.answer_last-in-End.new.self.trace
+    (c.in_ok-answer_last-in-End.ensures.trace ∙ ap (λ (r : Recording). without_steps r) c.keep_last-in-End.ensures.trace)
+    (whole (StandsFor c.args.self.now.part (g.A.Analyst.stands c.args.self.now.analyst asked) c.args.self.now.of_pages) between told c.args.self.now.lines c.prepare.new.beside.0.now known rest t u
     c.args.self.now.steps.items c.args.self.now.numbers.items c.args.self.now.sites.items c.in_ok-batch.batch come gives
+    (λ past lines sites stands. rw (c.answer_last.ensures.part.0, c.answer_last.ensures.part.1, c.keep_last.ensures.part)
+    (on-kept (g.A.Analyst.stands c.args.self.now.analyst asked) (g.A.Analyst.stands c.answer_last.new.self.analyst asked) t.names t.names u.names
+    c.args.self.now.steps.items c.args.self.now.numbers.items c.args.self.now.sites.items c.args.self.now.of_pages c.keep_last.new.self.of_pages
+    c.requires.formed.long c.requires.formed.one_each c.args.self.now.part
+    (recorded c.keep_last.new.self.steps.items c.keep_last.new.self.numbers.items c.keep_last.new.self.sites.items t.names) c.keep_last.ensures.kept
     (λ past lines sites stands. c.in_ok-answer_last.ensures.answered asked past lines sites t.names grows.names
-    (rw c.as_slice.ensures.value at (c.prepare.ensures.ready asked (recorded past lines sites t.names) stands)))
-    (g.A.Analyst.stands c.answer_last-in-End.new.self.analyst asked)
-    (ends-on u c.answer_last.new.self.trace _ _ _ c.in_ok-answer_last.ensures.trace c.in_ok-answer_last.ensures.next.0 c.in_ok-answer_last.ensures.next.1 c.in_ok-answer_last.ensures.next.2
-    (g.A.Analyst.stands c.answer_last.new.self.analyst asked) (g.A.Analyst.stands c.answer_last-in-End.new.self.analyst asked)
-    (λ past lines sites names kept stands. c.in_ok-answer_last-in-End.ensures.answered asked past lines sites names kept
-    (rw c.as_slice-in-End.ensures.value at (c.prepare-in-End.ensures.ready asked (recorded past lines sites names) stands))))
-    c.in-End.is limit)
+    (rw c.as_slice.ensures.value at (c.prepare.ensures.ready asked (recorded past lines sites t.names) (rw c.keep_last.ensures.analyst stands))))
+    c.keep_last.ensures.counted past lines sites stands))
+    last
+    (ends-on u v _ _ _ c.in_ok-answer_last.ensures.trace c.in_ok-answer_last.ensures.next.0 c.in_ok-answer_last.ensures.next.1 c.in_ok-answer_last.ensures.next.2
+    between last
+    (λ past lines sites names kept stands.
+    on-kept (g.A.Analyst.stands c.answer_last.new.self.analyst asked) (g.A.Analyst.stands c.answer_last-in-End.new.self.analyst asked) names v.names v.names
+    c.answer_last.new.self.steps.items c.answer_last.new.self.numbers.items c.answer_last.new.self.sites.items c.answer_last.new.self.of_pages c.keep_last-in-End.new.self.of_pages
+    (rw (c.in_ok-answer_last.ensures.next.0, c.in_ok-answer_last.ensures.next.1) c.in_ok-answer_last.ensures.formed.long)
+    (rw (c.in_ok-answer_last.ensures.next.0, c.in_ok-answer_last.ensures.next.2) c.in_ok-answer_last.ensures.formed.one_each)
+    c.answer_last.new.self.part
+    (recorded c.keep_last-in-End.new.self.steps.items c.keep_last-in-End.new.self.numbers.items c.keep_last-in-End.new.self.sites.items v.names) c.keep_last-in-End.ensures.kept
+    (λ past lines sites stands. rw c.keep_last-in-End.ensures.trace at (c.in_ok-answer_last-in-End.ensures.answered asked past lines sites names (rw c.keep_last-in-End.ensures.trace kept)
+    (rw c.as_slice-in-End.ensures.value at (c.prepare-in-End.ensures.ready asked (recorded past lines sites names) (rw c.keep_last-in-End.ensures.analyst stands)))))
+    c.keep_last-in-End.ensures.counted past lines sites stands))
+    c.in-End.is limit))

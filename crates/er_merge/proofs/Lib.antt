@@ -1,0 +1,17 @@
+pub mod AddressLemmas
+pub mod BodyLemmas
+pub mod ContentLemmas
+pub mod EndLemmas
+pub mod EntryLemmas
+pub mod FaultLemmas
+pub mod InOrderLemmas
+pub mod LineLemmas
+pub mod MergeLemmas
+pub mod NumberLemmas
+pub mod OrderLemmas
+pub mod PartLemmas
+pub mod PlainLemmas
+pub mod ReadLemmas
+pub mod ReportLemmas
+pub mod SortLemmas
+pub mod WholeLemmas

@@ -1,0 +1,22 @@
+//! The laws of merged reports: each function does nothing, and its contract is proved of the definitions.
+ghost use Rattle.er_merge.specs.Laws.{AddressesFollowWords, ReportsAreReadBack, TextsHaveNoFault, TextsMergeAsReports};
+
+/// What is printed for a part's report, behind a first line, is read back as the report.
+pub fn a_report_is_read_back()
+    ensures { ReportsAreReadBack }
+{}
+
+/// No text of a part's report has a line with a fault.
+pub fn texts_of_reports_are_read()
+    ensures { TextsHaveNoFault }
+{}
+
+/// The text that is merged of the texts of reports is the text of the merged reports, and has their number of races.
+pub fn merged_texts_are_merged_reports()
+    ensures { TextsMergeAsReports }
+{}
+
+/// If races alone share a line of the trace, then the addresses that are read of the lines are in the order of the words.
+pub fn addresses_follow_words()
+    ensures { AddressesFollowWords }
+{}
