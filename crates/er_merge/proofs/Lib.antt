@@ -15,3 +15,11 @@ pub mod ReadLemmas
 pub mod ReportLemmas
 pub mod SortLemmas
 pub mod WholeLemmas
+pub mod LockFits
+pub mod PartCounts
+pub mod TraceLines
+pub mod TraceMerged
+pub mod TraceNames
+pub mod TraceSteps
+pub mod PartNumbers
+pub mod TraceFaults
