@@ -23,7 +23,7 @@ right_step : (h g : HeadingView) (b : Bool) → (h.part == 0 || nat_lt h.parts h
 right_step h g true e is = absurd (cc)
 right_step h g false e is = let same : h ≡ g = cc in subst (λ (x : HeadingView). IsWithin x.parts x.part) same (grind (arith, nat_tests, e), grind (arith, nat_tests, e))
 
-abbrev right : HeadingView → Option HeadingView
+abbrev pub right : HeadingView → Option HeadingView
 right h = cond (h.part == 0 || nat_lt h.parts h.part) None (Some h)
 
 right_of : (h g : HeadingView) → right h ≡ Some g → IsWithin g.parts g.part

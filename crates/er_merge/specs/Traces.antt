@@ -3,6 +3,7 @@ use Rattle.std.specs.Prelude.{◌≡◌, ℕ, ◌+◌, ◌^◌, ◌<◌, ◌≤�
 use Rattle.std.specs.List.{list_all}
 use Rattle.er_lines.specs.Lines.{is_end}
 use Rattle.er_merge.specs.Parts.{heading_in}
+use Rattle.er_merge.specs.declared.headings.PartHeading.{PartHeading}
 use Rattle.er_parts.specs.Given.{part_report}
 use Rattle.er_parts.specs.Merged.{HasEachPart}
 use Rattle.er_print.specs.Printed.{report_text}
@@ -49,3 +50,11 @@ pub record AreTextsOfParts (d : Divided) (parts : List ℕ) (about texts : ℕ �
   pub some : 1 ≤ d.count
   pub each : HasEachPart d.count parts
   pub printed : All (λ (i : ℕ). IsTextOfPart d i (about i) (texts i)) parts
+
+-- the heading is of one of the parts
+pub record IsHeadingOf (d : Divided) (heading : PartHeading) : Type 0 where
+  pub some : 1 ≤ heading.part
+  pub within : heading.part ≤ heading.parts
+  pub parts : heading.parts ≡ d.count
+  pub small : heading.parts < 2 ^ 64
+  pub bytes : heading.bytes < 2 ^ 64

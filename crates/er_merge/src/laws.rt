@@ -1,5 +1,5 @@
 //! The laws of merged reports: each function does nothing, and its contract is proved of the definitions.
-ghost use Rattle.er_merge.specs.Laws.{AddressesFollowWords, PartsAreMerged, PartsMakeTheText, ReportsAreReadBack, TextsHaveNoFault, TextsMergeAsReports};
+ghost use Rattle.er_merge.specs.Laws.{AddressesFollowWords, PartsAreMerged, PartsAreWrittenSo, PartsMakeTheText, ReportsAreReadBack, TextsHaveNoFault, TextsMergeAsReports};
 
 /// What is printed for a part's report, behind a first line, is read back as the report.
 pub fn a_report_is_read_back()
@@ -26,4 +26,10 @@ pub fn addresses_follow_words()
 pub fn parts_of_a_trace_make_its_report()
     ensures text { PartsMakeTheText }
     ensures merged { PartsAreMerged }
+{}
+
+/// The first line of a part, as `put_heading` writes it, and then the report of the part are such a text. What the line says of the trace is the same for
+/// all parts.
+pub fn a_part_is_written_so()
+    ensures { PartsAreWrittenSo }
 {}
