@@ -18,6 +18,7 @@ pub mod PlainLemmas
 pub mod ReadLemmas
 pub mod ReportLemmas
 pub mod SortLemmas
+pub mod StepCounts
 pub mod TraceFaults
 pub mod TraceLines
 pub mod TraceMerged

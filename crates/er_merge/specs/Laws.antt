@@ -1,5 +1,5 @@
 -- The laws that tie merged texts to merged reports, and these to the report of a trace.
-use Rattle.std.specs.Prelude.{◌≡◌, ℕ, ◌++◌, All, List, Ok, Err, map}
+use Rattle.std.specs.Prelude.{◌≡◌, ℕ, ◌*◌, ◌≤◌, ◌++◌, All, List, Ok, Err, length, map}
 use Rattle.er_merge.specs.Headings.{about_text, heading_text}
 use Rattle.er_merge.specs.Merging.{Merges}
 use Rattle.er_merge.specs.Parts.{part_of}
@@ -14,7 +14,9 @@ use Rattle.er_parts.specs.Merged.{merged}
 use Rattle.er_print.specs.Printed.{report_text}
 use Rattle.er_report.specs.Lines.{LineView}
 use Rattle.er_report.specs.Report.{Summary}
+use Rattle.er_text.specs.Trace.{IsTrace}
 use Rattle.er_trace.specs.Names.{NameTable}
+use Rattle.er_trace.specs.Trace.{Recording}
 
 -- the text of a part's report is read as the report
 abbrev pub ReportsAreReadBack : Type 0
@@ -50,3 +52,7 @@ PartsAreMerged = (d : Divided) (parts : List ℕ) (about : List ℕ) (texts : �
 abbrev pub PartsAreWrittenSo : Type 0
 PartsAreWrittenSo = (d : Divided) (heading : PartHeading) → IsHeadingOf d heading
     → IsTextOfPart d heading.part (about_text heading) (heading_text heading ++ report_text d.trace.names (report_of_part d heading.part))
+
+-- so numbers of 64 bits count the steps of each trace whose text has fewer than 2 ^ 53 bytes
+abbrev pub TracesHaveFewSteps : Type 0
+TracesHaveFewSteps = (text : List ℕ) (limit : ℕ) (t : Recording) → IsTrace text limit t → length t.steps ≤ 1025 * length text

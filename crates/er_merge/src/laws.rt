@@ -1,5 +1,5 @@
 //! The laws of merged reports: each function does nothing, and its contract is proved of the definitions.
-ghost use Rattle.er_merge.specs.Laws.{AddressesFollowWords, PartsAreMerged, PartsAreWrittenSo, PartsMakeTheText, ReportsAreReadBack, TextsHaveNoFault, TextsMergeAsReports};
+ghost use Rattle.er_merge.specs.Laws.{AddressesFollowWords, PartsAreMerged, PartsAreWrittenSo, PartsMakeTheText, ReportsAreReadBack, TextsHaveNoFault, TextsMergeAsReports, TracesHaveFewSteps};
 
 /// What is printed for a part's report, behind a first line, is read back as the report.
 pub fn a_report_is_read_back()
@@ -32,4 +32,9 @@ pub fn parts_of_a_trace_make_its_report()
 /// all parts.
 pub fn a_part_is_written_so()
     ensures { PartsAreWrittenSo }
+{}
+
+/// A trace has at most 1,025 steps for each byte of its text, as many as a reuse can touch pages.
+pub fn a_trace_has_few_steps()
+    ensures { TracesHaveFewSteps }
 {}
