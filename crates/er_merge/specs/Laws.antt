@@ -1,10 +1,10 @@
 -- The laws that tie merged texts to merged reports, and these to the report of a trace.
-use Rattle.std.specs.Prelude.{◌≡◌, ℕ, ◌*◌, ◌≤◌, ◌++◌, All, List, Ok, Err, length, map}
-use Rattle.er_merge.specs.Headings.{about_text, heading_text}
+use Rattle.std.specs.Prelude.{◌≡◌, ℕ, ◌*◌, ◌≤◌, All, List, Ok, Err, length, map}
+use Rattle.er_merge.specs.Headings.{about_text}
 use Rattle.er_merge.specs.Merging.{Merges}
 use Rattle.er_merge.specs.Parts.{part_of}
 use Rattle.er_merge.specs.Texts.{AddressesFollow, ArePartTexts, HasPlainNames, IsPartText, LineFits, RacesAloneShare, all_lines, content_of}
-use Rattle.er_merge.specs.Traces.{AreTextsOfParts, Divided, IsHeadingOf, IsTextOfPart, report_of_part, whole_report}
+use Rattle.er_merge.specs.Traces.{AreTextsOfParts, Divided, IsHeadingOf, IsTextOfPart, whole_report, written_part}
 use Rattle.er_merge.specs.declared.faults.LineFault.{LineFault}
 use Rattle.er_merge.specs.declared.faults.MergeFault.{MergeFault}
 use Rattle.er_merge.specs.declared.faults.MergeFault.TheVariants.{Line, Memory}
@@ -48,10 +48,9 @@ abbrev pub PartsAreMerged : Type 0
 PartsAreMerged = (d : Divided) (parts : List ℕ) (about : List ℕ) (texts : ℕ → List ℕ) (fault : MergeFault) → AreTextsOfParts d parts (λ (i : ℕ). about) texts
     → Merges (map texts parts) (Err fault) → fault ≡ Memory
 
--- what is written for a heading, and then for the report of its part, is such a text. Of the trace it says what the heading does
+-- what is written of each part is such a text, and says the same of the trace
 abbrev pub PartsAreWrittenSo : Type 0
-PartsAreWrittenSo = (d : Divided) (heading : PartHeading) → IsHeadingOf d heading
-    → IsTextOfPart d heading.part (about_text heading) (heading_text heading ++ report_text d.trace.names (report_of_part d heading.part))
+PartsAreWrittenSo = (d : Divided) (heading : PartHeading) (i : ℕ) → IsHeadingOf d heading → 1 ≤ i → i ≤ d.count → IsTextOfPart d i (about_text heading) (written_part d heading i)
 
 -- so numbers of 64 bits count the steps of each trace whose text has fewer than 2 ^ 53 bytes
 abbrev pub TracesHaveFewSteps : Type 0

@@ -2,6 +2,7 @@
 use Rattle.std.specs.Prelude.{◌≡◌, ℕ, ◌+◌, ◌^◌, ◌<◌, ◌≤◌, All, Bool, true, not, List, ◌∷◌, ◌++◌, length, Some, None}
 use Rattle.std.specs.List.{list_all}
 use Rattle.er_lines.specs.Lines.{is_end}
+use Rattle.er_merge.specs.Headings.{heading_text}
 use Rattle.er_merge.specs.Parts.{heading_in}
 use Rattle.er_merge.specs.declared.headings.PartHeading.{PartHeading}
 use Rattle.er_parts.specs.Given.{part_report}
@@ -51,10 +52,12 @@ pub record AreTextsOfParts (d : Divided) (parts : List ℕ) (about texts : ℕ �
   pub each : HasEachPart d.count parts
   pub printed : All (λ (i : ℕ). IsTextOfPart d i (about i) (texts i)) parts
 
--- the heading is of one of the parts
+-- the heading has as many parts, and numbers of 64 bits
 pub record IsHeadingOf (d : Divided) (heading : PartHeading) : Type 0 where
-  pub some : 1 ≤ heading.part
-  pub within : heading.part ≤ heading.parts
   pub parts : heading.parts ≡ d.count
   pub small : heading.parts < 2 ^ 64
   pub bytes : heading.bytes < 2 ^ 64
+
+-- what is written of the part of this number: the heading with its number, and then its report
+abbrev pub written_part : Divided → PartHeading → ℕ → List ℕ
+written_part d heading i = heading_text (record heading { part = i }) ++ report_text d.trace.names (report_of_part d i)

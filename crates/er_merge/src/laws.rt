@@ -28,8 +28,7 @@ pub fn parts_of_a_trace_make_its_report()
     ensures merged { PartsAreMerged }
 {}
 
-/// The first line of a part, as `put_heading` writes it, and then the report of the part are such a text. What the line says of the trace is the same for
-/// all parts.
+/// The first line of each part, as `put_heading` writes it, and then the report of the part are such a text, and all of them say the same of the trace.
 pub fn a_part_is_written_so()
     ensures { PartsAreWrittenSo }
 {}
