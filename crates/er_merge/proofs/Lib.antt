@@ -25,3 +25,4 @@ pub mod TraceMerged
 pub mod TraceNames
 pub mod TraceSteps
 pub mod WholeLemmas
+pub mod WrittenLemmas

@@ -1,10 +1,12 @@
 -- The laws that tie merged texts to merged reports, and these to the report of a trace.
-use Rattle.std.specs.Prelude.{◌≡◌, ℕ, ◌*◌, ◌≤◌, All, List, Ok, Err, length, map}
+use Rattle.std.specs.Prelude.{◌≡◌, ℕ, ◌*◌, ◌≤◌, All, List, Result, Ok, Err, MatchResult, length, map}
+use Rattle.std.specs.List.{range_with_len}
+use Rattle.std.specs.List.Sorted.{IsPermutation}
 use Rattle.er_merge.specs.Headings.{about_text}
 use Rattle.er_merge.specs.Merging.{Merges}
 use Rattle.er_merge.specs.Parts.{part_of}
 use Rattle.er_merge.specs.Texts.{AddressesFollow, ArePartTexts, HasPlainNames, IsPartText, LineFits, RacesAloneShare, all_lines, content_of}
-use Rattle.er_merge.specs.Traces.{AreTextsOfParts, Divided, IsHeadingOf, IsTextOfPart, whole_report, written_part}
+use Rattle.er_merge.specs.Traces.{AreTextsOfParts, Divided, IsCounted, IsHeadingOf, IsTextOfPart, whole_report, written_part}
 use Rattle.er_merge.specs.declared.faults.LineFault.{LineFault}
 use Rattle.er_merge.specs.declared.faults.MergeFault.{MergeFault}
 use Rattle.er_merge.specs.declared.faults.MergeFault.TheVariants.{Line, Memory}
@@ -52,6 +54,13 @@ PartsAreMerged = (d : Divided) (parts : List ℕ) (about : List ℕ) (texts : �
 abbrev pub PartsAreWrittenSo : Type 0
 PartsAreWrittenSo = (d : Divided) (heading : PartHeading) (i : ℕ) → IsHeadingOf d heading → 1 ≤ i → i ≤ d.count → IsTextOfPart d i (about_text heading) (written_part d heading i)
 
--- so numbers of 64 bits count the steps of each trace whose text has fewer than 2 ^ 53 bytes
+-- so what is written of all parts of a trace, under one heading and in any order, is merged into what is printed for the report of the trace, or memory is
+-- wanting
+abbrev pub WrittenPartsAreMerged : Type 0
+WrittenPartsAreMerged = (d : Divided) (limit : ℕ) (heading : PartHeading) (parts : List ℕ) (result : Result Merged MergeFault) → IsTrace d.text limit d.trace → IsCounted d
+    → IsHeadingOf d heading → 1 ≤ d.count → IsPermutation (range_with_len 1 d.count) parts → Merges (map (written_part d heading) parts) result
+    → MatchResult result (λ made. (made.text.items ≡ report_text d.trace.names (whole_report d)) × (made.races ≡ (whole_report d).races)) (λ fault. fault ≡ Memory)
+
+-- numbers of 64 bits count the steps of each trace whose text has fewer than 2 ^ 53 bytes
 abbrev pub TracesHaveFewSteps : Type 0
 TracesHaveFewSteps = (text : List ℕ) (limit : ℕ) (t : Recording) → IsTrace text limit t → length t.steps ≤ 1025 * length text
