@@ -1,16 +1,24 @@
--- The laws that tie merged texts to merged reports.
-use Rattle.std.specs.Prelude.{◌≡◌, ℕ, All, List, Ok, Err}
+-- The laws that tie merged texts to merged reports, and these to the report of a trace.
+use Rattle.std.specs.Prelude.{◌≡◌, ℕ, ◌*◌, ◌≤◌, All, List, Result, Ok, Err, MatchResult, length, map}
+use Rattle.std.specs.List.{range_with_len}
+use Rattle.std.specs.List.Sorted.{IsPermutation}
+use Rattle.er_merge.specs.Headings.{about_text}
 use Rattle.er_merge.specs.Merging.{Merges}
 use Rattle.er_merge.specs.Parts.{part_of}
 use Rattle.er_merge.specs.Texts.{AddressesFollow, ArePartTexts, HasPlainNames, IsPartText, LineFits, RacesAloneShare, all_lines, content_of}
+use Rattle.er_merge.specs.Traces.{AreTextsOfParts, Divided, IsCounted, IsHeadingOf, IsTextOfPart, whole_report, written_part}
 use Rattle.er_merge.specs.declared.faults.LineFault.{LineFault}
-use Rattle.er_merge.specs.declared.faults.MergeFault.TheVariants.{Line}
+use Rattle.er_merge.specs.declared.faults.MergeFault.{MergeFault}
+use Rattle.er_merge.specs.declared.faults.MergeFault.TheVariants.{Line, Memory}
+use Rattle.er_merge.specs.declared.headings.PartHeading.{PartHeading}
 use Rattle.er_merge.specs.declared.merging.Merged.{Merged}
 use Rattle.er_parts.specs.Merged.{merged}
 use Rattle.er_print.specs.Printed.{report_text}
 use Rattle.er_report.specs.Lines.{LineView}
 use Rattle.er_report.specs.Report.{Summary}
+use Rattle.er_text.specs.Trace.{IsTrace}
 use Rattle.er_trace.specs.Names.{NameTable}
+use Rattle.er_trace.specs.Trace.{Recording}
 
 -- the text of a part's report is read as the report
 abbrev pub ReportsAreReadBack : Type 0
@@ -31,3 +39,28 @@ TextsMergeAsReports = (names : NameTable) (reports : List Summary) (texts : List
 -- it is enough that races alone have one number together
 abbrev pub AddressesFollowWords : Type 0
 AddressesFollowWords = (names : NameTable) (lines : List LineView) → HasPlainNames names → All LineFits lines → RacesAloneShare names lines → AddressesFollow names lines
+
+-- what is merged of the texts of all parts of a trace is what is printed for the report of the trace, with its number of races
+abbrev pub PartsMakeTheText : Type 0
+PartsMakeTheText = (d : Divided) (parts : List ℕ) (about texts : ℕ → List ℕ) (made : Merged) → AreTextsOfParts d parts about texts → Merges (map texts parts) (Ok made)
+    → (made.text.items ≡ report_text d.trace.names (whole_report d)) × (made.races ≡ (whole_report d).races)
+
+-- and if all say the same of the trace, nothing but memory can be wanting
+abbrev pub PartsAreMerged : Type 0
+PartsAreMerged = (d : Divided) (parts : List ℕ) (about : List ℕ) (texts : ℕ → List ℕ) (fault : MergeFault) → AreTextsOfParts d parts (λ (i : ℕ). about) texts
+    → Merges (map texts parts) (Err fault) → fault ≡ Memory
+
+-- what is written of each part is such a text, and says the same of the trace
+abbrev pub PartsAreWrittenSo : Type 0
+PartsAreWrittenSo = (d : Divided) (heading : PartHeading) (i : ℕ) → IsHeadingOf d heading → 1 ≤ i → i ≤ d.count → IsTextOfPart d i (about_text heading) (written_part d heading i)
+
+-- so what is written of all parts of a trace, under one heading and in any order, is merged into what is printed for the report of the trace, or memory is
+-- wanting
+abbrev pub WrittenPartsAreMerged : Type 0
+WrittenPartsAreMerged = (d : Divided) (limit : ℕ) (heading : PartHeading) (parts : List ℕ) (result : Result Merged MergeFault) → IsTrace d.text limit d.trace → IsCounted d
+    → IsHeadingOf d heading → 1 ≤ d.count → IsPermutation (range_with_len 1 d.count) parts → Merges (map (written_part d heading) parts) result
+    → MatchResult result (λ made. (made.text.items ≡ report_text d.trace.names (whole_report d)) × (made.races ≡ (whole_report d).races)) (λ fault. fault ≡ Memory)
+
+-- numbers of 64 bits count the steps of each trace whose text has fewer than 2 ^ 53 bytes
+abbrev pub TracesHaveFewSteps : Type 0
+TracesHaveFewSteps = (text : List ℕ) (limit : ℕ) (t : Recording) → IsTrace text limit t → length t.steps ≤ 1025 * length text
