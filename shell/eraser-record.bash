@@ -22,7 +22,7 @@ _eraser_record() {
         return
     elif ((place == COMP_CWORD)); then
         case $word in
-        -*) _eraser_record_words "--output --replay --report --workers --suppress --analysis --explain --by-site --format --strict --until-fault --exit-status --online --stop-at-race --shake --runs --order --trace --stacks --flow --limit --root --paths --quiet --help --version -o -q -h -V" ;;
+        -*) _eraser_record_words "--output --replay --report --workers --suppress --analysis --explain --by-site --format --strict --until-fault --exit-status --online --stop-at-race --shake --runs --order --trace --stacks --flow --thin --limit --root --paths --quiet --help --version -o -q -h -V" ;;
         *) _eraser_record_programs ;;
         esac
         return

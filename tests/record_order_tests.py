@@ -53,6 +53,7 @@ OBJECTS = {
     "piped": (["pipe-2", "pipe-3", "pipe-4", "pipe-5"], ["pipe-6"], ["pipe-7"]),
     "semaphore": (["full", "spare"], [], []),
     "shared": ([], [], []),
+    "sockets": ([*(f"socket-{number}" for number in range(11, 20)), "epoll-1"], ["socket-20"], ["socket-21"]),
     "threads": ([], [], []),
     "thrown": (["exception-1", "exception-18"], [], ["exception-19"]),
 }

@@ -1,112 +1,73 @@
-/* What one thread writes into a pipe or an eventfd and another one reads: who reads comes after who wrote. Without `record/run --order`
- * these functions only call the real ones. */
-#include "emit.h"
+/* What one thread writes into a pipe, an eventfd or a socket and another one reads, and what it hands to an epoll: who reads comes after who wrote. Without
+ * `record/run --order` these functions only call the real ones. */
+#include "files.h"
 
-#include <errno.h>
-#include <fcntl.h>
-#include <pthread.h>
+#include <sys/epoll.h>
 #include <sys/eventfd.h>
 #include <sys/stat.h>
 #include <sys/uio.h>
 #include <unistd.h>
 
-/* Objects that lie nowhere in the program's memory: a pipe by the number that both ends of it have, another file by its descriptor. */
-#define PIPES (UINT64_C(1) << 62)
-#define DESCRIPTORS (UINT64_C(1) << 61)
-
-static const volatile void *descriptor_object(int file)
-{
-    return (const volatile void *)(uintptr_t)(DESCRIPTORS + 64 * (uint64_t)(unsigned)file);
-}
-
-/* The pipe or the eventfd of a descriptor, or NULL. A file of no type has no name in any folder: an eventfd, for example. */
-static const volatile void *object_of(int file)
+/* A file of no type has no name in any folder: an eventfd, for example. */
+static struct channel channel_of(int file, struct channel socket_channel(int))
 {
     struct stat found;
     int error = errno;
     bool is_known = fstat(file, &found) == 0;
     errno = error;
     if (is_known && S_ISFIFO(found.st_mode))
-        return (const volatile void *)(uintptr_t)(PIPES + 64 * (uint64_t)found.st_ino);
-    return is_known && (found.st_mode & S_IFMT) == 0 ? descriptor_object(file) : NULL;
+        return (struct channel){OBJECT_PIPE, (const volatile void *)(uintptr_t)(PIPES + 64 * (uint64_t)found.st_ino)};
+    if (is_known && S_ISSOCK(found.st_mode))
+        return socket_channel(file);
+    return is_known && (found.st_mode & S_IFMT) == 0 ? descriptor_channel(OBJECT_PIPE, file) : (struct channel){OBJECT_PIPE, NULL};
 }
 
-/* A write that may have to wait is a signal before it. One that fails instead is a signal only if it succeeded. */
-struct sending {
-    const volatile void *object;
-    bool is_drawn;
-    struct draft draft;
-};
-
-static inline __attribute__((always_inline)) void begin_sending(struct sending *sending, int file, uint64_t site)
+struct channel channel_to(int file)
 {
-    sending->is_drawn = false;
-    sending->object = is_ordering() ? object_of(file) : NULL;
-    if (!sending->object)
-        return;
-    shake();
-    if (fcntl(file, F_GETFL) & O_NONBLOCK)
-        sending->is_drawn = emit_draw(&sending->draft);
-    else
-        emit_signal(OBJECT_PIPE, sending->object, site);
+    return channel_of(file, socket_channel_to);
 }
 
-static inline __attribute__((always_inline)) void end_sending(const struct sending *sending, bool is_done, uint64_t site)
+struct channel channel_from(int file)
 {
-    if (sending->is_drawn)
-        emit_publish(&sending->draft, is_done ? EVENT_SIGNAL : EVENT_VOID, OBJECT_PIPE, (uintptr_t)sending->object, site);
+    return channel_of(file, socket_channel_from);
 }
-
-/* The thread was cancelled before it wrote. */
-static inline __attribute__((always_inline)) void cancel_sending(void *sending)
-{
-    end_sending(sending, false, 0);
-}
-
-#define WRITE(type, name, parameters, arguments, is_done)    \
-    FIND_EARLY(name)                                         \
-    HOOK type name parameters                                \
-    {                                                        \
-        __typeof__(&name) real = find_##name();              \
-        struct sending sending;                              \
-        type result;                                         \
-        begin_sending(&sending, file, CALLER);               \
-        pthread_cleanup_push(cancel_sending, &sending);      \
-        result = real arguments;                             \
-        pthread_cleanup_pop(0);                              \
-        end_sending(&sending, is_done, CALLER);              \
-        return result;                                       \
-    }
-
-#define READ(type, name, parameters, arguments, is_done)     \
-    FIND_EARLY(name)                                         \
-    HOOK type name parameters                                \
-    {                                                        \
-        type result = find_##name() arguments;               \
-        if (UNLIKELY(is_ordering()) && (is_done)) {          \
-            const volatile void *object = object_of(file);   \
-            if (object)                                      \
-                emit_await(OBJECT_PIPE, object, CALLER);     \
-        }                                                    \
-        return result;                                       \
-    }
 
 /* What the C library's headers make of a read if the compiler doesn't know that it fits. */
 ssize_t __read_chk(int file, void *bytes, size_t size, size_t room);
 
+#define WRITE(type, name, parameters, arguments, is_done) WRITE_TO(channel_to(file), may_wait(file), type, name, parameters, arguments, is_done)
+#define READ(type, name, parameters, arguments, is_done) READ_FROM(channel_from(file), type, name, parameters, arguments, is_done)
+
 WRITE(ssize_t, write, (int file, const void *bytes, size_t size), (file, bytes, size), result > 0)
 WRITE(ssize_t, writev, (int file, const struct iovec *parts, int count), (file, parts, count), result > 0)
 WRITE(int, eventfd_write, (int file, eventfd_t count), (file, count), result == 0)
-READ(ssize_t, read, (int file, void *bytes, size_t size), (file, bytes, size), result > 0)
-READ(ssize_t, __read_chk, (int file, void *bytes, size_t size, size_t room), (file, bytes, size, room), result > 0)
-READ(ssize_t, readv, (int file, const struct iovec *parts, int count), (file, parts, count), result > 0)
+/* Who reads to the end comes after who closed the other one. */
+WRITE(int, close, (int file), (file), result == 0)
+READ(ssize_t, read, (int file, void *bytes, size_t size), (file, bytes, size), result >= 0)
+READ(ssize_t, __read_chk, (int file, void *bytes, size_t size, size_t room), (file, bytes, size, room), result >= 0)
+READ(ssize_t, readv, (int file, const struct iovec *parts, int count), (file, parts, count), result >= 0)
 READ(int, eventfd_read, (int file, eventfd_t *count), (file, count), result == 0)
 
+/* A thread that waits at an epoll comes after those that put something there. */
+#define POLL(file) descriptor_channel(OBJECT_POLL, file)
+WRITE_TO((how == EPOLL_CTL_DEL ? (struct channel){OBJECT_POLL, NULL} : POLL(poll)), false, int, epoll_ctl, (int poll, int how, int file, struct epoll_event *event),
+         (poll, how, file, event), result == 0)
+READ_FROM(POLL(poll), int, epoll_wait, (int poll, struct epoll_event *events, int room, int time), (poll, events, room, time), result > 0)
+READ_FROM(POLL(poll), int, epoll_pwait, (int poll, struct epoll_event *events, int room, int time, const sigset_t *signals), (poll, events, room, time, signals),
+          result > 0)
+READ_FROM(POLL(poll), int, epoll_pwait2, (int poll, struct epoll_event *events, int room, const struct timespec *time, const sigset_t *signals),
+          (poll, events, room, time, signals), result > 0)
+
 /* A descriptor that was another one's. */
-HOOK int eventfd(unsigned count, int how)
-{
-    int file = REAL(eventfd)(count, how);
-    if (file >= 0)
-        emit_object_begin(descriptor_object(file));
-    return file;
-}
+#define NEW(name, parameters, arguments, kind)                    \
+    HOOK int name parameters                                      \
+    {                                                             \
+        int file = REAL(name) arguments;                          \
+        if (file >= 0)                                            \
+            emit_object_begin(descriptor_channel(kind, file).object); \
+        return file;                                              \
+    }
+
+NEW(eventfd, (unsigned count, int how), (count, how), OBJECT_PIPE)
+NEW(epoll_create, (int size), (size), OBJECT_POLL)
+NEW(epoll_create1, (int how), (how), OBJECT_POLL)

@@ -16,6 +16,7 @@
 #include "pages.h"
 #include "sites.h"
 #include "stacks.h"
+#include "thin.h"
 #include "trace.h"
 
 /* Threads see the head once in this number of events. */
@@ -360,8 +361,10 @@ static inline void take(const struct slot *slot, uint32_t thread)
     enum event_kind kind = slot_kind(slot);
     stacks_set(slot_stack(slot));
     if (__builtin_expect(kind == EVENT_READ || kind == EVENT_WRITE, 1)) {
+        struct thread *whose = trace_thread(thread);
         pages_mark(slot->first, slot->size);
-        trace_access(trace_thread(thread), kind == EVENT_WRITE, slot->first, slot->size, slot->second);
+        if (!thin_is_on || !thin_is_repeat(whose, kind == EVENT_WRITE, slot->first, slot->size))
+            trace_access(whose, kind == EVENT_WRITE, slot->first, slot->size, slot->second);
         return;
     }
     struct slot copy = *slot;

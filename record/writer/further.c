@@ -27,6 +27,7 @@
 #include "replay.h"
 #include "signals.h"
 #include "stacks.h"
+#include "thin.h"
 #include "trace.h"
 
 /* More programs than this find no ring. */
@@ -290,6 +291,7 @@ void further_fill(struct outcome *outcome)
 {
     const struct ring *ring = recording.ring;
     outcome->events = trace_events;
+    outcome->left_out = thin_left_out;
     outcome->lost = recording_lost();
     outcome->forks = atomic_load(&ring->forks);
     outcome->cut = stacks_cut;

@@ -10,6 +10,7 @@
 struct outcome {
     char name[64];     /* of its files, without folder and ending; empty if there is nothing of it */
     uint64_t events, lost;
+    uint64_t left_out; /* repeats */
     uint64_t cut;      /* events of which not all calls are known */
     uint32_t run;      /* of the command in which it was started */
     uint32_t forks;

@@ -19,6 +19,7 @@
 #include "recording.h"
 #include "replay.h"
 #include "signals.h"
+#include "thin.h"
 #include "trace.h"
 
 /* With the status of the report, 1 means a race. So a program's own 1 becomes what xargs ends with if a command of its own fails. */
@@ -124,6 +125,15 @@ static struct outcome *first(void)
     return further_outcome(1);
 }
 
+/* With --thin: how many accesses were left out. */
+static const char *repeats(uint64_t count)
+{
+    static char text[64];
+    if (thin_is_on)
+        snprintf(text, sizeof text, ", %llu repeats left out", (unsigned long long)count);
+    return text;
+}
+
 static void say_what_was_recorded(void)
 {
     uint64_t lost = first()->lost, events = first()->events;
@@ -137,7 +147,7 @@ static void say_what_was_recorded(void)
     else if (!events && !lost)
         fprintf(stderr, "record: nothing was recorded: no instrumented code ran\n");
     else if (!options.is_quiet || lost)
-        fprintf(stderr, "record: %llu events recorded, %llu lost%s\n", (unsigned long long)events, (unsigned long long)lost,
+        fprintf(stderr, "record: %llu events recorded, %llu lost%s%s\n", (unsigned long long)events, (unsigned long long)lost, repeats(first()->left_out),
                 lost ? ": the trace is incomplete, and says so at its end" : "");
 }
 

@@ -47,7 +47,7 @@ static struct object *find_object(uint64_t address)
 
 static struct object *add_object(uint64_t address, enum object_kind kind)
 {
-    static const char *const kinds[OBJECT_KINDS] = {"atomic", "semaphore", "barrier", "condition", "once", "object", "fence", "exception", "pipe", "region"};
+    static const char *const kinds[OBJECT_KINDS] = {"atomic", "semaphore", "barrier", "condition", "once", "object", "fence", "exception", "pipe", "region", "socket", "epoll"};
     static unsigned counts[OBJECT_KINDS];
     struct object *object = get_memory(NULL, sizeof *object);
     struct object **bucket = bucket_of(address);

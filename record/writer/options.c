@@ -15,6 +15,7 @@
 #include "output.h"
 #include "rules.h"
 #include "sites.h"
+#include "thin.h"
 #include "trace.h"
 
 /* How many bytes of a trace are kept in a file by default. A replay takes a text of this length by default; that of a trace 4 is longer. */
@@ -58,6 +59,7 @@ static const char usage[] =
     "      --trace FORM        write the trace as text `3` (the default of one that -o keeps, without --stacks and --flow), or in the binary form `4` (that of others), which is shorter; `eraser print` shows it as text\n"
     "      --stacks            record in a trace 4 the calls in which each event is made, their functions and where blocks of memory were got, and report accesses in system headers at the line that called them\n"
     "      --flow              record in a trace 4 what threads learn from each other without an order: relaxed atomics, and tries of locks that fail; records with --order\n"
+    "      --thin              leave out accesses that a thread repeats: the reports have the same races and fewer steps\n"
     "      --limit BYTES       of a trace that is kept: keep at most BYTES of it; 0: no limit. With -o the default is 268435456\n"
     "      --root DIR          name sites by their paths below DIR. The default is the folder that has all sources of the program\n"
     "      --paths             name sites by their paths as the compiler has them\n"
@@ -77,7 +79,7 @@ static const char usage[] =
     "\n"
     "With --online the memory grows with new memory, threads and sets of locks alone, --output and --report name the file of the report,\n"
     "and --suppress takes rules of sites and words. It refuses\n"
-    "--explain, --strict, --until-fault, --workers, --replay, --trace, --stacks, --order, --flow, --limit, --runs, and other analyses and forms.\n"
+    "--explain, --strict, --until-fault, --workers, --replay, --trace, --stacks, --order, --flow, --thin, --limit, --runs, and other analyses and forms.\n"
     "\n"
     "With --exit-status report: 0 if the program ended with 0, all of it was recorded and there is no race; 1 if there is a race; 125 if\n"
     "nothing or not everything was recorded; 2 to 4 if the replay failed. A program that failed ends it with its own status, and with 123\n"
@@ -333,8 +335,8 @@ static void go_online(void)
         refuse("--strict, --until-fault and --workers are of a replay: --online replays nothing");
     if (options.has_stacks)
         refuse("--stacks is of a trace: --online has the calls of each race without it");
-    if (options.replays || options.has_form || options.has_flow || options.orders || options.has_limit)
-        refuse("--replay, --trace, --order, --flow and --limit are of a trace: --online writes none");
+    if (options.replays || options.has_form || options.has_flow || options.orders || thin_is_on || options.has_limit)
+        refuse("--replay, --trace, --order, --flow, --thin and --limit are of a trace: --online writes none");
     if (options.runs > 1)
         refuse("--runs merges the reports of replays: it does not go with --online");
     if (options.trace && options.report)
@@ -363,7 +365,7 @@ static void check_together(void)
 
 void read_options(int count, char **words)
 {
-    enum { ONLINE = 256, STOP_AT_RACE, REPLAY, REPORT, SUPPRESS, EXPLAIN, BY_SITE, STRICT, UNTIL_FAULT, FORMAT, ANALYSIS, EXIT_STATUS, ORDER, TRACE, STACKS, FLOW, LIMIT, ROOT, PATHS, SHAKE, REPEAT, REPLAYERS };
+    enum { ONLINE = 256, STOP_AT_RACE, REPLAY, REPORT, SUPPRESS, EXPLAIN, BY_SITE, STRICT, UNTIL_FAULT, FORMAT, ANALYSIS, EXIT_STATUS, ORDER, TRACE, STACKS, FLOW, THIN, LIMIT, ROOT, PATHS, SHAKE, REPEAT, REPLAYERS };
     static const struct option names[] = {
         {"output", 1, NULL, 'o'},         {"replay", 0, NULL, REPLAY}, {"report", 1, NULL, REPORT}, {"suppress", 1, NULL, SUPPRESS},
         {"exit-status", 1, NULL, EXIT_STATUS}, {"limit", 1, NULL, LIMIT},   {"paths", 0, NULL, PATHS},   {"quiet", 0, NULL, 'q'},
@@ -371,7 +373,7 @@ void read_options(int count, char **words)
         {"explain", 0, NULL, EXPLAIN},    {"by-site", 0, NULL, BY_SITE}, {"format", 1, NULL, FORMAT}, {"help", 0, NULL, 'h'},
         {"order", 0, NULL, ORDER},        {"analysis", 1, NULL, ANALYSIS}, {"strict", 0, NULL, STRICT},
         {"until-fault", 0, NULL, UNTIL_FAULT}, {"version", 0, NULL, 'V'}, {"trace", 1, NULL, TRACE}, {"stacks", 0, NULL, STACKS},
-        {"flow", 0, NULL, FLOW},          {"workers", 1, NULL, REPLAYERS}, {"online", 0, NULL, ONLINE}, {"stop-at-race", 0, NULL, STOP_AT_RACE},
+        {"flow", 0, NULL, FLOW},          {"thin", 0, NULL, THIN},       {"workers", 1, NULL, REPLAYERS}, {"online", 0, NULL, ONLINE}, {"stop-at-race", 0, NULL, STOP_AT_RACE},
         {NULL, 0, NULL, 0},
     };
     for (int got; (got = getopt_long(count, words, "+o:qhV", names, NULL)) != -1;)
@@ -394,6 +396,7 @@ void read_options(int count, char **words)
         case TRACE: trace_form = read_trace(optarg); options.has_form = true; break;
         case STACKS: keep_stacks(); break;
         case FLOW: options.has_flow = options.orders = true; break;
+        case THIN: thin_is_on = true; break;
         case LIMIT: options.limit = read_number(optarg, 0, UINT64_MAX, "--limit wants a number of bytes"); options.has_limit = true; break;
         case ROOT: sites_set_root(read_folder(optarg)); break;
         case SHAKE: set_shaking(optarg); break;

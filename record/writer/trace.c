@@ -7,6 +7,7 @@
 
 #include "output.h"
 #include "sites.h"
+#include "thin.h"
 
 const struct form *trace_form = &text_form;
 uint64_t trace_events, trace_lost;
@@ -100,10 +101,18 @@ static struct thread *place_of(uint32_t number)
     return &table->all[at];
 }
 
+/* It has an event that is no access. */
+static void end_stretch(struct thread *thread)
+{
+    static uint64_t stretches;
+    thread->stretch = ++stretches;
+}
+
 /* Threads are named by their first event. */
 struct thread *trace_new_thread(uint32_t number)
 {
     struct thread *thread = place_of(number);
+    end_stretch(thread);
     thread->text[0] = 't';
     char *end = put_number(thread->text + 1, ++thread_count);
     *end++ = ' ';
@@ -138,6 +147,8 @@ static uint64_t place_if_instrumented(uint64_t place)
 void trace_reuse(struct thread *thread, uint64_t address, uint64_t bytes, uint64_t place)
 {
     place = place_if_instrumented(place);
+    end_stretch(thread);
+    thin_forget(address, bytes);
     while (bytes) {
         uint64_t part = bytes < REUSE_BYTES ? bytes : REUSE_BYTES;
         if (address + part <= ADDRESS_END)
@@ -157,6 +168,7 @@ void trace_got(uint64_t address, uint64_t bytes, uint64_t place)
 
 void trace_lock(struct thread *thread, enum verb verb, struct label *lock, uint64_t place)
 {
+    end_stretch(thread);
     trace_form->of_lock(thread, verb, lock, place);
 }
 
@@ -165,16 +177,19 @@ void trace_other_thread(uint32_t number, enum verb verb, uint32_t other, uint64_
 {
     trace_thread(number);
     trace_thread(other);
+    end_stretch(trace_thread(number));
     trace_form->of_thread(trace_thread(number), verb, trace_thread(other), place);
 }
 
 void trace_ignore(struct thread *thread, enum verb verb)
 {
+    end_stretch(thread);
     trace_form->alone(thread, verb);
 }
 
 void trace_atomic(uint32_t number, bool stores, uint64_t address, uint64_t place)
 {
+    end_stretch(trace_thread(number));
     if (trace_form->of_atomic)
         trace_form->of_atomic(trace_thread(number), stores, address, place);
 }

@@ -1,0 +1,162 @@
+#!/usr/bin/env python3
+"""What `record/run --thin` leaves out: accesses that a thread repeats, without another event of its own, another thread at that word, or a new use of it
+in between.
+
+- the rule, by a second reading of it: random traces have the same races with and without their repeats, and so has a recorded one
+- the programs of tests/record and tests/record/order race at the same lines when they are recorded so
+- `tests/record/thin/repeats.c`: a comment READS n or WRITES n says how many words of a line are left
+
+`tests/run` calls `tests`. By itself this file runs these tests alone.
+"""
+
+import concurrent.futures
+import pathlib
+import random
+import re
+import sys
+import tempfile
+
+sys.path.insert(0, str(pathlib.Path(__file__).parent))
+sys.dont_write_bytecode = True
+import analysis_tests
+import record_order_tests
+import record_tests
+from alone import run_alone
+from record_tests import RUN, SOURCES, WORKERS, Findings, build, command, marked
+
+# Programs of tests/record that end otherwise than by themselves, need something else beside them, or have no race and no words to compare.
+OTHERS = ("ends", "loads", "plugin", "busy", "jumps", "empty", "sizes")
+
+
+def without_repeats(lines):
+    """The lines of a trace that are no repeats, each with its number, by words of 4 bytes."""
+    stretches, used = {}, {}
+    for number, line in enumerate(lines, 1):
+        words = line.split()
+        if number > 1 and len(words) > 2 and words[1] in ("read", "write"):
+            address, whose = int(words[2], 16) // 4, (words[0], stretches.get(words[0]))
+            if used.get(address, (None,))[0] != whose:
+                used[address] = whose, set()
+            done = used[address][1]
+            is_repeat = "write" in done or words[1] in done and words[1] == "read"
+            done.add(words[1])
+            if is_repeat:
+                continue
+        elif number > 1 and len(words) > 1 and not line.startswith("#"):
+            stretches[words[0]] = number
+            if words[1] == "reuse":
+                first, size = int(words[2], 16), int(words[3])
+                for address in range(first // 4, (first + size - 1) // 4 + 1):
+                    used.pop(address, None)
+        yield number, line
+
+
+def random_trace(source):
+    """A trace with few words, so that they meet, and runs of accesses by one thread."""
+    threads, locks, words = ["t1", "t2", "t3"][: source.randint(2, 3)], "abc"[: source.randint(1, 3)], [0x1000, 0x1004, 0x1008][: source.randint(1, 3)]
+    held, depth = {thread: {} for thread in threads}, dict.fromkeys(threads, 0)
+    lines, thread = ["eraser trace 3", *(f"t1 start {thread}" for thread in threads[1:])], "t1"
+    for _ in range(source.choice([20, 50, 100])):
+        thread = source.choice(threads) if source.random() < 0.4 else thread
+        verb, lock = source.choices(["access", "lock", "unlock", "signal", "await", "reuse", "bracket"], [72, 8, 8, 3, 3, 3, 3])[0], source.choice(locks)
+        if verb == "access":
+            lines.append(f"{thread} {source.choice(['read', 'write'])} {source.choice(words):#x} f.c:{len(lines)}")
+        elif verb == "lock":
+            mode = source.choice(["", "r"])
+            if all(lock not in held[other] or other != thread and mode == held[other][lock] == "r" for other in threads):
+                held[thread][lock] = mode
+                lines.append(f"{thread} {mode}lock {lock}")
+        elif verb == "unlock" and lock in held[thread]:
+            lines.append(f"{thread} {held[thread].pop(lock)}unlock {lock}")
+        elif verb in ("signal", "await"):
+            lines.append(f"{thread} {verb} s{source.randint(1, 2)}")
+        elif verb == "reuse":
+            lines.append(f"{thread} reuse {source.choice(words):#x} {source.choice([1, 4, 8, 12])}")
+        elif verb == "bracket":
+            depth[thread] ^= 1
+            lines.append(f"{thread} ignore-{'on' if depth[thread] else 'off'}")
+    return [*lines, "end"]
+
+
+def report(lines, *options):
+    """The report of a trace, without the number of steps, the errors and the status."""
+    found = analysis_tests.run([*options, "-"], "".join(f"{line}\n" for line in lines).encode())
+    return re.sub(r"^steps \d+", "steps", found[0].decode(), flags=re.M), *found[1:]
+
+
+def rule_fault(lines):
+    """What differs in the reports of a trace without its repeats, whose lines count as they did before. By locks the reasons are the same, too."""
+    numbers, kept = zip(*without_repeats(lines))
+    for options in (["--analysis", "both"], ["--explain"]):
+        text, errors, status = report(kept, *options)
+        text = re.sub(r"\bline (\d+)", lambda found: f"line {numbers[int(found[1]) - 1]}", text)
+        if (text, errors, status) != report(lines, *options):
+            return f"{options}: {lines}: {text}, not {report(lines, *options)}"
+    return None
+
+
+def random_traces(findings, pool):
+    faults = list(pool.map(lambda seed: rule_fault(random_trace(random.Random(seed))), range(100)))
+    findings.check("random traces without their repeats have the same races", not any(faults), next(filter(None, faults), ""))
+    left_out = sum(len(lines) - len(list(without_repeats(lines))) for lines in (random_trace(random.Random(seed)) for seed in range(100)))
+    findings.check("random traces have repeats", left_out > 1000, f"{left_out}")
+
+
+def repeats(folder, findings):
+    source = SOURCES / "thin/repeats.c"
+    for compiler in ("gcc", "clang"):
+        program, built = build(folder, source, compiler, "-O0")
+        findings.check(f"{program.name} is built", built.returncode == 0 and built.stderr == "", built.stderr)
+        for form in "34":
+            trace = folder / "repeats.trace"
+            done = command([RUN, "--thin", "--order", "--trace", form, "-o", trace, program])
+            text = record_tests.text_in(trace, form)
+            wanted = record_tests.counts(source)
+            found = {key: len(re.findall(rf"^t\d+ {key[0]} \S+ {re.escape(key[1])}$", text, re.M)) for key in wanted}
+            is_told = re.fullmatch(r"record: \d+ events recorded, 0 lost, \d\d repeats left out\n", done.stderr)
+            findings.check(f"{program.name} as a trace {form}", (done.returncode, found) == (0, wanted) and is_told, f"{done} {found}, not {wanted}")
+            # Two words have four bytes each that are written once.
+            left = len(text.splitlines()) - len(list(without_repeats(text.splitlines())))
+            findings.check(f"{program.name} as a trace {form} has no repeat but of bytes", left == 6, f"{left} {text}")
+            command([RUN, "-q", "--order", "--trace", form, "-o", trace, program])
+            fault = rule_fault(record_tests.text_in(trace, form).splitlines())
+            findings.check(f"{program.name} without --thin", fault is None, fault)
+
+
+def racing(folder, findings, source):
+    """A program has the races that are marked, by locks or by order."""
+    program, _ = build(folder, source, "gcc", "-O0")
+    if source.parent.name == "order":
+        trace = folder / f"{source.stem}.trace"
+        done = command([RUN, "-q", "--thin", "--order", "-o", trace, program])
+        text = trace.read_text()
+        fault = f"{done}" if done.returncode or done.stderr else record_order_tests.order_fault(text) or record_order_tests.program_fault(source, text)
+    else:
+        path = folder / f"{source.stem}.report"
+        done = command([RUN, "-q", "--thin", "--report", path, program])
+        found = record_tests.races(path.read_text()) if path.exists() else None
+        is_right = done.returncode == record_tests.STATUS.get(source.stem, 0) and found == marked(source, "RACE")
+        fault = None if is_right else f"{done} {found}"
+    findings.check(f"{source.name} with --thin", fault is None, fault)
+
+
+def refused(folder, findings):
+    done = command([RUN, "--online", "--thin", "true"])
+    findings.check("--thin with --online", (done.returncode, done.stdout) == (125, "") and "--thin" in done.stderr, f"{done}")
+
+
+def tests(record):
+    findings = Findings(record)
+    command([record_tests.TOP / "record/build"])
+    with tempfile.TemporaryDirectory() as name, concurrent.futures.ThreadPoolExecutor(WORKERS) as pool:
+        folder = pathlib.Path(name)
+        random_traces(findings, pool)
+        repeats(folder, findings)
+        refused(folder, findings)
+        sources = [source for source in sorted(SOURCES.glob("*.c*")) + sorted((SOURCES / "order").glob("*.c*")) if source.stem not in OTHERS]
+        for run in [pool.submit(racing, folder, findings, source) for source in sources]:
+            run.result()
+
+
+if __name__ == "__main__":
+    run_alone(tests)
