@@ -419,7 +419,7 @@ ALONG bool is_settled(struct self *self, uint64_t first, uint64_t last, bool wri
     return true;
 }
 
-/* To remember an access and to look for it takes some 80 instructions, a fifth of an access. If the words that a thread uses are too many for that, it
+/* To remember an access and to look for it takes some 80 instructions, a quarter of an access. If the words that a thread uses are too many for that, it
  * gains nothing, and rests for 64 times as long. */
 APART static void judge(struct self *self)
 {
