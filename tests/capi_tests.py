@@ -381,7 +381,7 @@ PLANTED = {
     ),
     "it never rests": ("        self->rest = 64 * self->misses;", "        self->rest = 0;"),
     "it rests for ever": ("        self->rest--;\n", "        ;\n"),
-    "nothing is remembered": ("        known->words[group_of(first)] |= bits_of(first, last);\n", "        ;\n"),
+    "nothing is remembered": ("|= bits_of(first, last);", "|= 0;"),
 }
 # Bugs of an audit, with what the calls then come to.
 SPAN = "eraser_record(&place->shard, &self->thread, draw(e), word * 4, writes)"
