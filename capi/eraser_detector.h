@@ -83,7 +83,8 @@ const char *eraser_text(uint32_t status);
  *
  * Signal handlers. A call inside another call of the same thread does nothing and answers ERASER_BUSY, so a handler never waits for what it interrupted.
  * A call that interrupts other code works, and may ask malloc for memory: a handler that may interrupt malloc brackets itself by eraser_pause and
- * eraser_resume, and its calls answer ERASER_BUSY.
+ * eraser_resume, and its calls answer ERASER_BUSY. A handler that may have interrupted a call returns: it doesn't leave by longjmp or pthread_exit. Nor is a
+ * thread cancelled asynchronously in a call.
  *
  * Priorities. A call waits for a short time for those of other threads on the same words, and lets others run meanwhile (sched_yield). Among threads of
  * SCHED_FIFO or SCHED_RR with different priorities, which share a processor, such a wait may not end: give them one priority.

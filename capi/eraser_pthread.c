@@ -28,6 +28,8 @@ typedef atomic_bool spin;
 
 /* Not put into its callers: what is seldom done, so that what is done at each access stays short, and what asks where it returns to. */
 #define APART __attribute__((noinline))
+/* Put into its callers, each of which knows more of it. */
+#define ALONG static inline __attribute__((always_inline))
 
 /* The holder may have lost its processor, so whoever waits long lets others run. */
 APART static void wait_for(spin *lock)
@@ -71,9 +73,11 @@ struct place {
     _Alignas(64) atomic_uint_least64_t version; /* one more, under the lock, with each call that may have changed the state of a word */
 };
 
-/* Accesses of a block that were settled, a bit for each word: one of a kind, by a thread with these locks, while the shard had this version. */
+/* Accesses of a block that were settled, a bit for each word: one of a kind, by a thread with these locks, while the block's shard had this version. */
 struct settled {
-    uint64_t block, version, locks, words[BLOCK / GROUP];
+    uint64_t block, locks, version;
+    const struct place *place;
+    uint64_t words[BLOCK / GROUP];
 };
 
 /* Numbers of locks by their addresses, those of one part of the addresses. Where a lock would stand, or behind that, there it is, with no gap before it. */
@@ -95,6 +99,8 @@ struct self {
     unsigned endings, count, ignoring;
     uint64_t locks, given; /* the number of what is held, see `number_locks`, and the last one that was given */
     uint64_t turn; /* how far that turns the places of what is settled */
+    uint64_t page; /* of its last access, and where the shard of that is */
+    struct place *place;
     uint64_t rest; /* how many settled accesses aren't remembered, see `judge` */
     uint64_t hits, misses, evictions;
     struct {
@@ -130,8 +136,8 @@ static uint64_t started;
 
 /* Initial-exec: the first use in a thread asks for no memory, so a signal handler may be the first. */
 #define OF_THREAD static _Thread_local __attribute__((tls_model("initial-exec")))
-enum { CALL = 1, PAUSE = 2 };
-OF_THREAD volatile sig_atomic_t busy; /* CALL, if the thread is in a call, and PAUSE for each pause */
+OF_THREAD volatile sig_atomic_t in_call; /* a handler leaves it as it was */
+OF_THREAD atomic_uint pauses; /* how many are open: a handler may open one, and leave it open */
 OF_THREAD volatile sig_atomic_t forks; /* how many forks are under way, one inside the other, for which all locks are taken */
 OF_THREAD struct {
     uint64_t start;
@@ -170,6 +176,21 @@ static uint64_t name_of(const eraser_detector *e)
 
 /* ---- Threads ---- */
 
+/* Begins what is done in a call and outside of one. What it returns goes to `reopen`. */
+static sig_atomic_t shut(void)
+{
+    sig_atomic_t was = in_call;
+    in_call = true;
+    atomic_signal_fence(memory_order_seq_cst);
+    return was;
+}
+
+static void reopen(sig_atomic_t was)
+{
+    atomic_signal_fence(memory_order_seq_cst);
+    in_call = was;
+}
+
 static void forget(struct self *self)
 {
     if (mine.self == self)
@@ -186,7 +207,7 @@ static void end_thread(void *given)
     eraser_detector *e = self->detector;
     if (++self->endings < PTHREAD_DESTRUCTOR_ITERATIONS - 1 && pthread_setspecific(e->key, self) == 0)
         return;
-    busy += CALL;
+    sig_atomic_t was = shut();
     take(&e->crowd);
     *self->link = self->next;
     if (self->next)
@@ -200,7 +221,7 @@ static void end_thread(void *given)
     leave(&e->crowd);
     if (!e->audits)
         forget(self);
-    busy -= CALL;
+    reopen(was);
 }
 
 /* A new handle for a thread. Seats are numbered from 0. */
@@ -219,6 +240,7 @@ static uint32_t meet(eraser_detector *e, struct self **found)
     self->detector = e;
     self->locks = self->given = NO_LOCKS;
     self->rest = e->audits ? UINT64_MAX : 0; /* an audit is told of each access */
+    self->page = UINT64_MAX; /* none */
     take(&e->crowd);
     self->number = e->threads + 1;
     uint32_t status = new_thread(e, &self->thread, self->number);
@@ -242,7 +264,7 @@ static uint32_t meet(eraser_detector *e, struct self **found)
 static inline uint32_t end(uint32_t status)
 {
     atomic_signal_fence(memory_order_seq_cst);
-    busy -= CALL;
+    in_call = false;
     return status;
 }
 
@@ -265,11 +287,17 @@ static inline uint32_t begin(const eraser_detector *e)
 {
     if (!e)
         return ERASER_EMPTY_HANDLE;
-    if (busy)
+    if (in_call || atomic_load_explicit(&pauses, memory_order_relaxed))
         return ERASER_BUSY;
-    busy = CALL;
+    in_call = true;
     atomic_signal_fence(memory_order_seq_cst);
     return ERASER_QUIET;
+}
+
+/* In a call: whether `mine` is the thread's own record of this detector. It is, if its last call was for that one. */
+static inline bool is_known(const eraser_detector *e)
+{
+    return mine.start == e->start;
 }
 
 /* Begins a call that is of the thread's own record, and finds that. */
@@ -278,7 +306,7 @@ static inline uint32_t enter(eraser_detector *e, struct self **found)
     uint32_t status = begin(e);
     if (status != ERASER_QUIET)
         return status;
-    status = mine.start == e->start ? ERASER_QUIET : find_self(e);
+    status = is_known(e) ? ERASER_QUIET : find_self(e);
     if (status != ERASER_QUIET)
         return end(status);
     *found = mine.self;
@@ -287,12 +315,12 @@ static inline uint32_t enter(eraser_detector *e, struct self **found)
 
 void eraser_pause(void)
 {
-    busy += PAUSE;
+    atomic_fetch_add_explicit(&pauses, 1, memory_order_relaxed);
 }
 
 void eraser_resume(void)
 {
-    busy -= PAUSE;
+    atomic_fetch_sub_explicit(&pauses, 1, memory_order_relaxed);
 }
 
 uint32_t eraser_self(eraser_detector *e)
@@ -344,50 +372,54 @@ static uint32_t note(struct place *place, uint64_t word, uint32_t thread)
  * its version, and the load can't miss that; what happens after it changes the version later. Of calls of several shards there may be no one order in which
  * all of these accesses are placed so. Only the shard's note of who used the word last isn't renewed. */
 
-/* Where a thread remembers accesses of a kind to the words around an address. Those of a block that have another kind or other locks have other places. */
-static inline struct settled *settled_of(struct self *self, uint64_t at, bool writes)
+static inline uint64_t version_of(const struct place *place)
 {
-    return &self->settled[(at / 4 / BLOCK + writes * (BLOCKS / 2) + self->turn) % BLOCKS];
+    return atomic_load_explicit(&place->version, memory_order_acquire);
 }
 
-static inline uint64_t *group_of(struct settled *known, uint64_t at)
+/* Under the shard's lock. */
+static inline void change_version(struct place *place)
 {
-    return &known->words[at / 4 / GROUP % (BLOCK / GROUP)];
+    atomic_store_explicit(&place->version, version_of(place) + 1, memory_order_release);
 }
 
-/* The bits of the words that have a byte from `at` on before `end`. There are none if the words are of two groups. */
-static inline uint64_t bits_of(uint64_t at, uint64_t end)
+/* Where a thread remembers accesses of a kind to the words around one. Those of a block that have another kind or other locks have other places. */
+static inline struct settled *settled_of(struct self *self, uint64_t word, bool writes)
 {
-    uint64_t first = at / 4, last = (end - 1) / 4;
-    return first / GROUP == last / GROUP ? (UINT64_MAX >> (GROUP - 1 - (last - first))) << first % GROUP : 0;
+    return &self->settled[(word / BLOCK + writes * (BLOCKS / 2) + self->turn) % BLOCKS];
 }
 
-/* Whether an access may be left out. No byte is remembered that has no address. */
-static inline bool is_remembered(eraser_detector *e, struct self *self, uint64_t at, uint64_t size, bool writes)
+static inline unsigned group_of(uint64_t word)
 {
-    if (size - 1 >= 4 * GROUP)
+    return word / GROUP % (BLOCK / GROUP);
+}
+
+/* The bits of the words from one to another of its group. */
+static inline uint64_t bits_of(uint64_t first, uint64_t last)
+{
+    return (UINT64_MAX >> (GROUP - 1 - (last - first))) << first % GROUP;
+}
+
+static inline bool is_of_group(uint64_t first, uint64_t last)
+{
+    return first / GROUP == last / GROUP;
+}
+
+/* Whether an access of the words from one to another of its group may be left out. No word is remembered that has no address. */
+ALONG bool is_settled(struct self *self, uint64_t first, uint64_t last, bool writes)
+{
+    const struct settled *known = settled_of(self, first, writes);
+    if (known->block != first / BLOCK || known->locks != self->locks)
         return false;
-    struct settled *known = settled_of(self, at, writes);
-    uint64_t bits = bits_of(at, at + size);
-    bool is = known->block == at / 4 / BLOCK && known->locks == self->locks && bits && (*group_of(known, at) & bits) == bits &&
-        known->version == atomic_load_explicit(&place_of(e, at)->version, memory_order_acquire);
-    self->hits += is;
-    return is;
-}
-
-/* So it is, if it is a call by itself. Nothing else is called here, since this is what most accesses take. */
-static inline bool is_settled(eraser_detector *e, uint64_t at, uint64_t size, bool writes)
-{
-    if (!e || busy)
+    uint64_t words = known->words[group_of(first)], bits = bits_of(first, last);
+    bool are = (first ^ last) <= 1 ? words >> first % GROUP & 1 && words >> last % GROUP & 1 : (words & bits) == bits;
+    if (!are || known->version != version_of(known->place))
         return false;
-    busy = CALL;
-    atomic_signal_fence(memory_order_seq_cst);
-    bool is = mine.start == e->start && !mine.self->rest && is_remembered(e, mine.self, at, size, writes);
-    end(ERASER_QUIET);
-    return is;
+    self->hits++;
+    return true;
 }
 
-/* To remember an access and to look for it takes some 80 instructions, a fifth of an access. If the words that a thread uses are too many for that, it
+/* To remember an access and to look for it takes some 80 instructions, a quarter of an access. If the words that a thread uses are too many for that, it
  * gains nothing, and rests for 64 times as long. */
 APART static void judge(struct self *self)
 {
@@ -396,33 +428,19 @@ APART static void judge(struct self *self)
     self->hits = self->misses = self->evictions = 0;
 }
 
-/* Of an access that was settled at this version. */
-static inline void remember(struct self *self, uint64_t version, uint64_t at, uint64_t end, bool writes)
+/* Of an access of these words that was settled, under the shard's lock. */
+APART static void remember(struct self *self, const struct place *place, uint64_t first, uint64_t last, bool writes)
 {
-    if (self->rest) {
-        self->rest--;
-        return;
-    }
-    struct settled *known = settled_of(self, at, writes);
-    uint64_t block = at / 4 / BLOCK;
+    struct settled *known = settled_of(self, first, writes);
+    uint64_t block = first / BLOCK, version = version_of(place);
     self->misses++;
     if (known->block != block || known->version != version || known->locks != self->locks) {
         if (known->locks && known->block != block && ++self->evictions == BLOCKS / 2)
             judge(self);
-        *known = (struct settled){.block = block, .version = version, .locks = self->locks};
+        *known = (struct settled){.block = block, .locks = self->locks, .version = version, .place = place};
     }
-    *group_of(known, at) |= bits_of(at, end);
-}
-
-/* Under the shard's lock. */
-static inline uint64_t version_of(struct place *place)
-{
-    return atomic_load_explicit(&place->version, memory_order_relaxed);
-}
-
-static inline void change_version(struct place *place)
-{
-    atomic_store_explicit(&place->version, version_of(place) + 1, memory_order_release);
+    if (is_of_group(first, last))
+        known->words[group_of(first)] |= bits_of(first, last);
 }
 
 /* ---- Parts of accesses ---- */
@@ -440,9 +458,9 @@ static uint64_t draw(eraser_detector *e)
 }
 
 /* Each word's access of a part, under a ticket of its own. It answers as eraser_access_span does. */
-APART static uint32_t record_span(eraser_detector *e, struct place *place, struct self *self, uint64_t at, uint64_t end, bool writes, uint64_t *first_race)
+APART static uint32_t record_words(eraser_detector *e, struct place *place, struct self *self, uint64_t first, uint64_t last, bool writes, uint64_t *first_race)
 {
-    for (uint64_t word = at / 4; word <= (end - 1) / 4; word++) {
+    for (uint64_t word = first; word <= last; word++) {
         uint32_t status = eraser_record(&place->shard, &self->thread, draw(e), word * 4, writes);
         if (status == ERASER_RACE && *first_race == UINT64_MAX)
             *first_race = word * 4;
@@ -452,37 +470,45 @@ APART static uint32_t record_span(eraser_detector *e, struct place *place, struc
     return *first_race == UINT64_MAX ? ERASER_QUIET : ERASER_RACE;
 }
 
-/* One page's part of an access. `found` gets its first race, if it has none yet. */
-static inline uint32_t access_part(eraser_detector *e, struct self *self, uint64_t at, uint64_t end, bool writes, struct found *found)
+APART static struct place *find_place(eraser_detector *e, struct self *self, uint64_t page)
 {
-    struct place *place = place_of(e, at);
-    uint64_t first_race = UINT64_MAX;
+    self->page = page;
+    return self->place = place_of(e, page * PAGE);
+}
+
+/* One page's part of an access, and its first race. */
+ALONG uint32_t access_part(eraser_detector *e, struct self *self, uint64_t at, uint64_t size, bool writes, struct found *found)
+{
+    uint64_t first_race = UINT64_MAX, first = at / 4, last = (at + size - 1) / 4;
+    uint32_t other = 0;
     uint8_t settled = 0;
+    struct place *place = self->page == at / PAGE ? self->place : find_place(e, self, at / PAGE);
     take(&place->lock);
-    uint32_t status = e->audits ? record_span(e, place, self, at, end, writes, &first_race)
-                                : eraser_access_span(&place->shard, &self->thread, at, end - at, writes, &first_race, &settled);
-    if (status != ERASER_IGNORED) {
-        if (!settled)
-            change_version(place);
-        for (uint64_t word = at / 4; word <= (end - 1) / 4; word++) {
-            uint32_t other = note(place, word, self->number);
-            if (word * 4 == first_race && found->word == UINT64_MAX)
-                *found = (struct found){first_race, other};
+    uint32_t status = e->audits ? record_words(e, place, self, first, last, writes, &first_race)
+                                : eraser_access_span(&place->shard, &self->thread, at, size, writes, &first_race, &settled);
+    if (settled && self->rest)
+        self->rest--;
+    else if (settled)
+        remember(self, place, first, last, writes);
+    else if (status != ERASER_IGNORED)
+        change_version(place);
+    if (status != ERASER_IGNORED)
+        for (uint64_t word = first; word <= last; word++) {
+            uint32_t before = note(place, word, self->number);
+            if (word == first_race / 4)
+                other = before;
         }
-    }
-    uint64_t version = version_of(place);
     leave(&place->lock);
-    if (settled)
-        remember(self, version, at, end, writes);
+    *found = (struct found){first_race, other};
     return status;
 }
 
-/* No thread ends inside on_race, which would leave what it holds locked, and errno is the program's. */
-APART static void report(eraser_detector *e, const struct self *self, struct eraser_race race, struct found found)
+/* Calls on_race, and returns the status of the access. No thread ends there, which would leave what it holds locked, and errno is the program's. */
+APART static uint32_t report(eraser_detector *e, const struct self *self, struct eraser_race race, uint64_t word, uint32_t other, uint32_t status)
 {
-    race.word = (const volatile void *)(uintptr_t)found.word;
+    race.word = (const volatile void *)(uintptr_t)word;
     race.thread = self->number;
-    race.other = found.other;
+    race.other = other;
     race.lock_count = self->count;
     race.locks = self->addresses;
     race.lock_writes = self->writes;
@@ -491,37 +517,80 @@ APART static void report(eraser_detector *e, const struct self *self, struct era
     e->on_race(e->context, &race);
     pthread_setcancelstate(cancels, &cancels);
     errno = error;
+    return status <= ERASER_IGNORED ? ERASER_RACE : status;
 }
 
-/* An access that is to be told to the shards of its words. */
-APART static uint32_t access_bytes(eraser_detector *e, const volatile void *address, size_t size, bool writes, const void *site)
+ALONG uint32_t end_access(eraser_detector *e, const struct self *self, uint64_t at, uint64_t size, bool writes, const void *site, struct found found,
+    uint32_t status)
 {
-    struct self *self;
-    uint32_t status = enter(e, &self);
-    if (status != ERASER_QUIET)
-        return status;
-    uint64_t first = (uintptr_t)address, last = first + size;
-    if (!is_in_range(first, size))
-        return end(ERASER_ADDRESS_OUT_OF_RANGE);
-    struct found found = {UINT64_MAX, 0};
-    for (uint64_t at = first; at < last && status <= ERASER_IGNORED; at = end_of_part(at, last))
-        status = access_part(e, self, at, end_of_part(at, last), writes, &found);
     if (found.word != UINT64_MAX) {
-        report(e, self, (struct eraser_race){.address = address, .size = size, .writes = writes, .site = site}, found);
-        if (status <= ERASER_IGNORED)
-            status = ERASER_RACE;
+        struct eraser_race race = {.address = (const volatile void *)(uintptr_t)at, .size = size, .writes = writes, .site = site};
+        status = report(e, self, race, found.word, found.other, status);
     }
     return end(status);
 }
 
+/* The rest of a call: an access that isn't left out. Its bytes are any, and the thread may not be known yet. */
+APART static uint32_t access_bytes(eraser_detector *e, uint64_t first, uint64_t size, bool writes, const void *site)
+{
+    struct found found = {UINT64_MAX, 0}, part;
+    uint32_t status = is_known(e) ? ERASER_QUIET : find_self(e);
+    if (status != ERASER_QUIET)
+        return end(status);
+    if (!is_in_range(first, size))
+        return end(ERASER_ADDRESS_OUT_OF_RANGE);
+    for (uint64_t at = first, last = first + size, next; at < last && status <= ERASER_IGNORED; at = next) {
+        next = end_of_part(at, last);
+        status = access_part(e, mine.self, at, next - at, writes, &part);
+        if (found.word == UINT64_MAX)
+            found = part;
+    }
+    return end_access(e, mine.self, first, size, writes, site, found, status);
+}
+
+/* The same by a thread that is known, of bytes that most often are on one page. */
+APART static uint32_t access_page(eraser_detector *e, uint64_t at, uint64_t size, bool writes, const void *site)
+{
+    struct found found;
+    struct self *self = mine.self;
+    if (size - 1 >= PAGE - at % PAGE || at >= ADDRESSES)
+        return access_bytes(e, at, size, writes, site);
+    uint32_t status = access_part(e, self, at, size, writes, &found);
+    return end_access(e, self, at, size, writes, site, found, status);
+}
+
+/* The same of more words, which may be left out. */
+APART static uint32_t access_words(eraser_detector *e, uint64_t at, uint64_t size, bool writes, const void *site)
+{
+    uint64_t first = at / 4, last = (at + size - 1) / 4;
+    bool is = size - 1 < 4 * GROUP && is_of_group(first, last) && is_settled(mine.self, first, last, writes);
+    return is ? end(ERASER_QUIET) : access_page(e, at, size, writes, site);
+}
+
+/* Nothing else is called at an access of a word or a pair that is left out, since that is what most are. */
+ALONG uint32_t use(eraser_detector *e, uint64_t at, uint64_t size, bool writes, const void *site)
+{
+    uint64_t first = at / 4, last = (at + size - 1) / 4;
+    uint32_t status = begin(e);
+    if (status != ERASER_QUIET)
+        return status;
+    if (!is_known(e))
+        return access_bytes(e, at, size, writes, site);
+    if (mine.self->rest)
+        return access_page(e, at, size, writes, site);
+    if (size - 1 >= 8 || (first ^ last) > 1)
+        return access_words(e, at, size, writes, site);
+    return is_settled(mine.self, first, last, writes) ? end(ERASER_QUIET) : access_page(e, at, size, writes, site);
+}
+
 APART uint32_t eraser_read(eraser_detector *e, const volatile void *address, size_t size)
 {
-    return is_settled(e, (uintptr_t)address, size, false) ? ERASER_QUIET : access_bytes(e, address, size, false, __builtin_return_address(0));
+    return use(e, (uintptr_t)address, size, false, __builtin_return_address(0));
 }
 
 APART uint32_t eraser_write(eraser_detector *e, const volatile void *address, size_t size)
 {
-    return is_settled(e, (uintptr_t)address, size, true) ? ERASER_QUIET : access_bytes(e, address, size, true, __builtin_return_address(0));
+    return use(e, (uintptr_t)address, size, true, __builtin_return_address(0));
 }
 
 /* Of one page. The notes may stay: a race needs another thread after this, and then that one is the last. */
@@ -641,7 +710,7 @@ static bool grow(struct table *table)
 }
 
 /* Whether a lock has a number. Where it stands, or may be put. */
-static bool is_known(const struct table *table, uintptr_t lock, uint32_t *at)
+static bool has_number(const struct table *table, uintptr_t lock, uint32_t *at)
 {
     if (!table->room)
         return false;
@@ -666,7 +735,7 @@ static uint32_t number_of(eraser_detector *e, uintptr_t lock, uint32_t *number)
     struct table *table = table_of(e, lock);
     uint32_t status = ERASER_QUIET, at = 0;
     take(&table->lock);
-    if (!is_known(table, lock, &at)) {
+    if (!has_number(table, lock, &at)) {
         if (2 * (table->count + 1) <= table->room || grow(table)) {
             at = find(table, lock);
             table->known[at] = (struct known){lock, new_number(e, table)};
@@ -702,7 +771,7 @@ uint32_t eraser_destroying(eraser_detector *e, const volatile void *lock)
     struct table *table = table_of(e, (uintptr_t)lock);
     uint32_t at;
     take(&table->lock);
-    if (is_known(table, (uintptr_t)lock, &at)) {
+    if (has_number(table, (uintptr_t)lock, &at)) {
         table->spare[(table->first_spare + table->spares++) & (table->room - 1)] = table->known[at].number;
         table->count--;
         close_gap(table, at);
@@ -804,9 +873,9 @@ static void before_fork(void)
 {
     if (forks)
         forks++;
-    if (busy & CALL)
+    if (in_call)
         return;
-    busy += CALL;
+    in_call = true;
     for_each_lock(take);
     forks = 1;
 }
@@ -816,7 +885,7 @@ static void after_fork(void)
     if (!forks || --forks)
         return;
     for_each_lock(leave);
-    busy -= CALL;
+    in_call = false;
 }
 
 /* The other threads are not in the child. A call that needs no lock may have been under way in one, so nobody uses what it had, and it isn't freed. */
@@ -849,10 +918,11 @@ void eraser_forget(void)
 enum { CHILD_GOES_ON = true };
 #endif
 
-static void watch_forks(void)
+/* Under `starts`. Whether forks are watched, from the first detector on. */
+static bool watch_forks(void)
 {
-    if (CHILD_GOES_ON)
-        pthread_atfork(before_fork, after_fork, begin_child);
+    static bool are_watched = !CHILD_GOES_ON;
+    return are_watched = are_watched || pthread_atfork(before_fork, after_fork, begin_child) == 0;
 }
 
 /* ---- Audits ---- */
@@ -941,7 +1011,6 @@ static uint64_t spread_of(const eraser_detector *e)
 
 eraser_detector *eraser_start(const struct eraser_options *options)
 {
-    static pthread_once_t once = PTHREAD_ONCE_INIT;
     static const struct eraser_options usual;
     if (!options)
         options = &usual;
@@ -978,25 +1047,32 @@ eraser_detector *eraser_start(const struct eraser_options *options)
         errno = error;
         return NULL;
     }
-    pthread_once(&once, watch_forks);
-    busy += CALL;
+    sig_atomic_t was = shut();
     take(&starts);
-    e->start = ++started;
-    e->link = &detectors;
-    e->next = detectors;
-    if (e->next)
-        e->next->link = &e->next;
-    detectors = e;
+    bool are_watched = watch_forks();
+    if (are_watched) {
+        e->start = ++started;
+        e->link = &detectors;
+        e->next = detectors;
+        if (e->next)
+            e->next->link = &e->next;
+        detectors = e;
+    }
     leave(&starts);
-    busy -= CALL;
-    return e;
+    reopen(was);
+    if (are_watched)
+        return e;
+    pthread_key_delete(e->key);
+    give_back(e);
+    errno = ENOMEM;
+    return NULL;
 }
 
 void eraser_stop(eraser_detector *e)
 {
     if (!e)
         return;
-    busy += CALL;
+    sig_atomic_t was = shut();
     take(&starts);
     *e->link = e->next;
     if (e->next)
@@ -1010,7 +1086,7 @@ void eraser_stop(eraser_detector *e)
     forget_all(e->selves);
     forget_all(e->ended);
     give_back(e);
-    busy -= CALL;
+    reopen(was);
 }
 
 /* ---- Words for people ---- */

@@ -6,6 +6,7 @@
 - the same lists in audit mode: the same answers, and all calls settle into a run of as many steps as the reference counts
 - what a thread remembers of its accesses: the layer finds what it has to, and doesn't if one of some bugs is planted in it. In audit mode a settlement names
   what other bugs come to, but for those that none can see
+- a million words take at most 5 bytes each, and nothing more when they are used again
 - the programs of tests/capi, plain and with AddressSanitizer, UndefinedBehaviorSanitizer and ThreadSanitizer: many threads, wrong handles, lives of locks,
   threads and detectors, signal handlers, forks
 - the headers have no warning in C11 and in C++17, by gcc and clang, and the statuses in Rust are the header's
@@ -318,11 +319,14 @@ PROGRAMS = {
     "breaks": ([], ["apart"]),
     "threads": (["64", "1500"], ["8", "1500"]),
     "settled": (["16", "20"], ["4", "5"]),
+    "grows": ([], []),
 }
+# A sanitizer's malloc doesn't say what is taken.
+PLAIN = {"grows"}
 # Those that are run in audit mode too, which keeps each call.
 AUDITED = {"audits": [], "crowd": [], "handles": []}
 # What a program is linked with besides.
-LINKED = {"settled": ["-Wl,--wrap=eraser_access_span"]}
+LINKED = {"settled": ["-Wl,--wrap=eraser_access_span"], "lives": ["-Wl,--wrap=pthread_atfork"]}
 BUILDS = {
     "plain": ["-O2"],
     "AddressSanitizer and UndefinedBehaviorSanitizer": ["-fsanitize=address,undefined", "-fno-sanitize-recover=all"],
@@ -341,7 +345,7 @@ def programs(record, folder):
             runs.append(command([target, *AUDITED[name]], env=AUDIT))
         return built, runs
 
-    asked = [(name, kind) for kind in BUILDS for name in PROGRAMS]
+    asked = [(name, kind) for kind in BUILDS for name in PROGRAMS if kind == "plain" or name not in PLAIN]
     with concurrent.futures.ThreadPoolExecutor(2) as pool:
         for (name, kind), (built, found) in zip(asked, pool.map(run, asked)):
             record(f"capi: {name} ({kind}) is built", built.returncode == 0 and built.stderr == "", f"{built}")
@@ -352,8 +356,8 @@ def programs(record, folder):
 # Bugs of what a thread remembers, each as the text that it takes the place of.
 PLANTED = {
     "a reset keeps the version": ("    change_version(place);\n    leave", "    leave"),
-    "an access keeps the version": ("        if (!settled)\n            change_version(place);\n", ""),
-    "a version isn't compared": (" &&\n        known->version == atomic_load_explicit(&place_of(e, at)->version, memory_order_acquire)", ""),
+    "an access keeps the version": ("    else if (status != ERASER_IGNORED)\n        change_version(place);\n", ""),
+    "a version isn't compared": (" || known->version != version_of(known->place)", ""),
     "a release is forgotten": ("        number_locks(self);\n    }\n    return end(status);\n}\n\n/* ---- Forks", "    }\n    return end(status);\n}\n\n/* ---- Forks"),
     "an acquire is forgotten": ("        self->count++;\n        number_locks(self);", "        self->count++;"),
     "the older lock's release is one of the younger": ("            number_lock(self, at);\n        }\n        number_locks", "        }\n        number_locks"),
@@ -363,25 +367,28 @@ PLANTED = {
     "an ignore bracket is forgotten": ("self->ignoring ? IGNORING : locks_below", "locks_below"),
     "an inner end is the end of ignoring": ("self->ignoring -= status == ERASER_QUIET", "self->ignoring *= status != ERASER_QUIET"),
     "kinds are one": (" + writes * (BLOCKS / 2)", " + 0 * writes"),
-    "blocks are one": ("known->block == at / 4 / BLOCK && ", ""),
-    "locks aren't compared": ("known->locks == self->locks && ", ""),
-    "a first word stands for all": ("(*group_of(known, at) & bits) == bits", "(*group_of(known, at) & bits)"),
-    "groups are one": ("known->words[at / 4 / GROUP % (BLOCK / GROUP)]", "known->words[at * 0]"),
-    "two groups are one": ("first / GROUP == last / GROUP ? (", "last - first < GROUP ? ("),
+    "blocks are one": ("known->block != first / BLOCK || ", ""),
+    "locks aren't compared": ("first / BLOCK || known->locks != self->locks", "first / BLOCK"),
+    "a first word stands for all": ("(words & bits) == bits", "(words & bits)"),
+    "a first word stands for two": (" && words >> last % GROUP & 1", ""),
+    "a second word stands for two": ("words >> first % GROUP & 1 && ", ""),
+    "groups are one": ("return word / GROUP % (BLOCK / GROUP);", "return word * 0;"),
+    "two groups are one": ("first / GROUP == last / GROUP", "last - first < GROUP"),
     "a new version isn't remembered": ("known->block != block || known->version != version ||", "known->block != block ||"),
     "bits of older versions stay": (
         "        *known = (struct settled){",
         "        if (known->block == block && known->locks == self->locks)\n            known->version = version;\n        else\n            *known = (struct settled){",
     ),
     "it never rests": ("        self->rest = 64 * self->misses;", "        self->rest = 0;"),
-    "it rests for ever": ("        self->rest--;\n", ""),
-    "nothing is remembered": ("    *group_of(known, at) |= bits_of(at, end);\n", ""),
+    "it rests for ever": ("        self->rest--;\n", "        ;\n"),
+    "nothing is remembered": ("|= bits_of(first, last);", "|= 0;"),
 }
 # Bugs of an audit, with what the calls then come to.
 SPAN = "eraser_record(&place->shard, &self->thread, draw(e), word * 4, writes)"
 MISTAKES = {
     "none": ("e->threads++;", "e->threads++;", "quiet"),
     "the shard of the next page": ("address / PAGE * e->spread", "(address / PAGE + 1) * e->spread", "entries"),
+    "the shard of the page before": ("self->page == at / PAGE ?", "self->page != UINT64_MAX ?", "entries"),
     "shards as without an audit": ("e->audits ? UINT64_C(1) << 40 : ", "", "entries"),
     "an access of two pages in the shard of the first": ("return page_end < end ? page_end : end;", "return end + 0 * page_end;", "entries"),
     "shards in another order": (

@@ -12,7 +12,7 @@ static eraser_detector *detector;
 static int data[WORDS], of_handler, of_child, before_child;
 static char locks[LOCKS], handler_lock;
 static atomic_bool stops;
-static atomic_uint busy_calls, quiet_calls, other_calls, races;
+static atomic_uint busy_calls, quiet_calls, other_calls, races, handled;
 
 static void count_race(void *context, const struct eraser_race *race)
 {
@@ -72,6 +72,49 @@ static void check_signals(void)
     }
     stops = true;
     CHECK(pthread_join(thread, NULL) == 0 && other_calls == 0);
+}
+
+/* One signal's handler opens a pause, and the next one's closes it, at any instruction. No pause and no end of one is lost. */
+static bool is_paused;
+static void change_pause(int number)
+{
+    (void)number;
+    if (is_paused)
+        eraser_resume();
+    else
+        eraser_pause();
+    is_paused = !is_paused;
+    atomic_fetch_add(&handled, 1);
+}
+
+static void *call_shortly(void *unused)
+{
+    sigset_t blocked;
+    while (!stops)
+        for (int nth = 0; nth < 100; nth++)
+            CHECK(eraser_self(detector) < 10);
+    sigemptyset(&blocked);
+    sigaddset(&blocked, SIGUSR2);
+    CHECK(pthread_sigmask(SIG_BLOCK, &blocked, NULL) == 0 && (eraser_self(detector) == 0) == is_paused);
+    if (is_paused)
+        eraser_resume();
+    CHECK(eraser_self(detector) != 0);
+    return unused;
+}
+
+static void check_pauses(void)
+{
+    pthread_t thread;
+    struct sigaction action = {.sa_handler = change_pause};
+    stops = false;
+    CHECK(sigaction(SIGUSR2, &action, NULL) == 0 && pthread_create(&thread, NULL, call_shortly, NULL) == 0);
+    for (unsigned sent = 0; handled < SIGNALS; sent++) {
+        CHECK(pthread_kill(thread, SIGUSR2) == 0);
+        if (sent % 8 == 0)
+            sched_yield();
+    }
+    stops = true;
+    CHECK(pthread_join(thread, NULL) == 0);
 }
 
 static void *at_work(void *given)
@@ -150,6 +193,7 @@ int main(int words, char **given)
     (void)given;
     CHECK((detector = eraser_start(&options)) != NULL);
     check_signals();
+    check_pauses();
     check_forks(words == 1);
     eraser_stop(detector);
     printf("fine\n");

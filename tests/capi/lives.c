@@ -5,6 +5,16 @@
 #include <malloc.h>
 #include <stdatomic.h>
 
+/* There is no memory for the handlers of forks, if that is said. It is linked with --wrap=pthread_atfork. */
+static bool has_no_memory;
+int __real_pthread_atfork(void (*)(void), void (*)(void), void (*)(void));
+int __wrap_pthread_atfork(void (*)(void), void (*)(void), void (*)(void));
+
+int __wrap_pthread_atfork(void (*before)(void), void (*after)(void), void (*in_child)(void))
+{
+    return has_no_memory ? ENOMEM : __real_pthread_atfork(before, after, in_child);
+}
+
 enum { LOCKS = 3000, STEADY = 300, ROUNDS = 40000, DETECTORS = 3 };
 
 static eraser_detector *detector;
@@ -241,6 +251,9 @@ int main(void)
 {
     struct eraser_options options = {.on_race = count_race, .context = &races};
     CHECK(pthread_key_create(&keys[0], end_value) == 0);
+    has_no_memory = true;
+    CHECK(eraser_start(&options) == NULL && errno == ENOMEM);
+    has_no_memory = false;
     CHECK((detector = eraser_start(&options)) != NULL);
     CHECK(pthread_key_create(&keys[1], end_value) == 0);
     check_refusals();

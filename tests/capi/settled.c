@@ -117,8 +117,12 @@ static void check_left_out(void)
     ASKED(settle(word, true), 0);
     leave_lock(&first_lock);
     /* More words than one, and those of two groups, which are asked for each time. */
-    CHECK(eraser_write(detector, &lone[62], 2 * sizeof(int)) == ERASER_QUIET && eraser_write(detector, &lone[62], 2 * sizeof(int)) == ERASER_QUIET);
-    ASKED(CHECK(eraser_write(detector, &lone[62], 2 * sizeof(int)) == ERASER_QUIET), 0);
+    for (int at = 60; at <= 62; at += 2) {
+        size_t size = (size_t)(64 - at) * sizeof(int);
+        CHECK(eraser_write(detector, &lone[at], size) == ERASER_QUIET && eraser_write(detector, &lone[at], size) == ERASER_QUIET);
+        ASKED(CHECK(eraser_write(detector, &lone[at], size) == ERASER_QUIET), 0);
+    }
+    ASKED(CHECK(eraser_write(detector, &lone[61], 2 * sizeof(int)) == ERASER_QUIET), 0);
     ASKED(CHECK(eraser_write(detector, &lone[63], 2 * sizeof(int)) == ERASER_QUIET), 1);
     ASKED(CHECK(eraser_write(detector, &lone[63], 2 * sizeof(int)) == ERASER_QUIET), 1);
     CHECK(eraser_freeing(detector, lone, sizeof lone) == ERASER_QUIET);
@@ -221,6 +225,15 @@ static void check_nothing_missed(void)
     CHECK(other(word + 1, true, NULL, NULL) == ERASER_QUIET);
     settle(word, true);
     CHECK(eraser_write(detector, word, 2 * sizeof *word) == ERASER_RACE);
+    renew(word);
+    CHECK(other(word, true, NULL, NULL) == ERASER_QUIET);
+    settle(word + 1, true);
+    CHECK(eraser_write(detector, word, 2 * sizeof *word) == ERASER_RACE);
+    renew(word);
+    CHECK(eraser_freeing(detector, word + 2, sizeof *word) == ERASER_QUIET && other(word + 2, true, NULL, NULL) == ERASER_QUIET);
+    settle(word, true);
+    settle(word + 1, true);
+    CHECK(eraser_write(detector, word, 3 * sizeof *word) == ERASER_RACE);
     renew(word);
     CHECK(eraser_freeing(detector, word + 64, sizeof *word) == ERASER_QUIET && other(word + 64, true, NULL, NULL) == ERASER_QUIET);
     settle(word, true);
