@@ -28,7 +28,7 @@ use Rattle.er_text.specs.declared.endings.Lost.{Lost}
 use Rattle.er_trace.specs.Names.{NameTable}
 use Rattle.er_trace.specs.Trace.{Recording}
 use Rattle.er_unordered.specs.Reports.{unordered_report}
-use Rattle.er_run.proofs.PassLemmas.{beside-unstopped, part-unstopped}
+use Rattle.er_run.proofs.PassLemmas.{part-unstopped}
 
 -- the lines that tell of no refused step
 own-line : (b : Bool) (line : Line) (lines : List Line) (views : List LineView) → map line_view lines ≡ views → map line_view (cond b (line ∷ lines) lines) ≡ cond b (line_view line ∷ views) views
@@ -175,9 +175,9 @@ module _ (part : Option PartView) (of_pages : ℕ) (told : Option (List ℕ)) (l
         lockset = still-named part of_pages lost r.names reports.lockset left.lockset lockset built.lockset.names;
         unordered = still-named part of_pages lost r.names reports.unordered left.unordered unordered built.unordered.names;
       });
-      whole = λ orders.
+      whole = λ whole.
           unstopped part of_pages lost r asked.rules asked.explain reports.lockset left.lockset lockset
-          (subst (λ (b : Bool). IfSome reports.lockset (λ one. IsReportOfRun None b None r asked.rules asked.explain one)) (beside-unstopped part asked.analysis orders) built.lockset.says);
+          (subst (λ (b : Bool). IfSome reports.lockset (λ one. IsReportOfRun None b None r asked.rules asked.explain one)) whole built.lockset.says);
       ending = ends;
       order = order-by told read;
       fault = tt;

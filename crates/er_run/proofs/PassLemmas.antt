@@ -44,15 +44,8 @@ or-false : (b : Bool) → (b || false) ≡ true → b ≡ true
 or-false true some = refl
 or-false false some = some
 
-or-true : (b : Bool) → (b || true) ≡ true
-or-true true = refl
-or-true false = refl
-
 pub part-unstopped : (part : Option PartView) (analysis : Analysis) → is_some part ≡ true → is_unstopped part analysis ≡ true
 part-unstopped part analysis some = ap (λ (b : Bool). b || asks_order analysis) some
-
-pub beside-unstopped : (part : Option PartView) (analysis : Analysis) → asks_order analysis ≡ true → is_unstopped part analysis ≡ true
-beside-unstopped part analysis orders = ap (λ (b : Bool). is_some part || b) orders ∙ or-true (is_some part)
 
 pub same-unstopped : (part : Option PartView) (analysis : Analysis) (there beside unstopped : Bool) → there ≡ asks_order analysis → beside ≡ there → unstopped ≡ (is_some part || beside)
     → is_unstopped part analysis ≡ unstopped

@@ -145,3 +145,15 @@ IsOfReading Memory = Unit {0}
 IsOfReading (Write fault) = ⊥
 IsOfReading (Replay fault) = ⊥
 IsOfReading (Beyond limit) = ⊥
+
+-- the fault is one of reading, or the table is full
+abbrev pub IsOfOneWorker : RunFault → Type 0
+IsOfOneWorker (Read fault) = Unit {0}
+IsOfOneWorker (Damaged damage) = Unit {0}
+IsOfOneWorker Memory = Unit {0}
+IsOfOneWorker (Replay replaying.TableFull) = Unit {0}
+IsOfOneWorker (Replay replaying.Memory) = ⊥
+IsOfOneWorker (Replay replaying.WorkerNotStarted) = ⊥
+IsOfOneWorker (Replay replaying.WorkerLost) = ⊥
+IsOfOneWorker (Write fault) = ⊥
+IsOfOneWorker (Beyond limit) = ⊥

@@ -7,7 +7,8 @@
 //! those that the text, the rules and the analysis define (`reports`), what was written is exactly the report of the lockset rule (`report`),
 //! a fault of the text is the text's first fault (`fault`), the replay knows how the text ended (`ending`), and nothing was written after any
 //! fault but a failed write, which leaves a beginning of the report (`nothing`, `fault`). Several workers give what one worker gives,
-//! without a stop (`whole`). They report a full table only if some step asks for a set of locks (`fault`).
+//! without a stop (`whole`). They report a full table only if some step asks for a set of locks (`fault`). A replay of a part
+//! (`Options::with_part`) gives what the part gives of the reports of its steps (`reports`), without a stop (`unstopped`).
 //!
 //! ```text
 //! let text: &[u8] = b"eraser trace 1\nt1 write 0x1000\nt2 write 0x1000\n";

@@ -64,16 +64,16 @@ fn given_if(report: Option<Report>, later: bool, of_pages: u64, lost: Option<u64
 fn given(mut report: Report, later: bool, of_pages: u64, lost: Option<u64>) -> Report
     ensures { IsGivenOf later of_pages lost report result }
 {
-    if later {
-        return own_of(report, of_pages, lost);
-    }
     report.lost = lost;
+    if later {
+        return own_of(report, of_pages);
+    }
     report
 }
 
 // The report without its lines of refused steps, and with this number of steps.
-fn own_of(mut report: Report, of_pages: u64, lost: Option<u64>) -> Report
-    ensures { IsOwnOf of_pages lost report result }
+fn own_of(mut report: Report, of_pages: u64) -> Report
+    ensures { IsOwnOf of_pages report result }
 {
     report.lines.retain(
         |line| -> bool
@@ -82,7 +82,6 @@ fn own_of(mut report: Report, of_pages: u64, lost: Option<u64>) -> Report
     );
     report.steps = of_pages_in(report.steps, of_pages);
     report.refused = 0;
-    report.lost = lost;
     report
 }
 

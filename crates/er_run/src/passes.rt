@@ -8,7 +8,7 @@ ghost use Rattle.er_parts.specs.Parts.{PartView};
 ghost use Rattle.er_report.specs.Reports.{asks_locks, asks_order};
 ghost use Rattle.er_report.specs.declared.reports.Analysis.TheVariants.{Lockset};
 ghost use Rattle.er_rules.specs.Rules.{targets_of};
-ghost use Rattle.er_run.specs.Faults.{FailsBy, IsFaultOfText, IsNoDamage, IsOfReading, looks_for_damage};
+ghost use Rattle.er_run.specs.Faults.{FailsBy, IsFaultOfText, IsNoDamage, IsOfOneWorker, IsOfReading, looks_for_damage};
 ghost use Rattle.er_run.specs.Inner.Outcomes.{AllStand, AreBuilt, CrewStands, IsOrderBuilt, IsOutcomeOf, IsReplayOf, IsRunBuilt};
 ghost use Rattle.er_run.specs.Reports.{is_unstopped};
 ghost use Rattle.er_text.specs.Ending.{IsEndingOf};
@@ -124,6 +124,7 @@ pub(crate) fn reports_by_one<R: Threads + Wait + Sync, D: Read, S: Shortcut<D>, 
     requires reader { has_failed reader.old ≡ false }
     ensures replay { IsReplayOf (D.remaining (inner_of reader.old)) options.now (targets_of suppressions.now) analysis (taken_of reader.old) (taken_of reader.new) (has_failed reader.new) result }
     ensures alone { is_unstopped options.now.part analysis ≡ false → IfErr result IsOfReading }
+    ensures one { asks_order analysis ≡ false → IfErr result IsOfOneWorker }
 {
     let all = analysts_of(alloc, table, suppressions, options, analysis)?;
     let readers = options.workers;
@@ -202,6 +203,7 @@ fn end(found: Analysed<Analysts<'_, '_>>, options: &Options) -> Result<ReplayedT
     ensures outcome { (asked : Asked) (told : Option (List ℕ)) (limit : ℕ) → (asked.strict ≡ true → options.now.part ≡ None) → IsAnswered (λ r. AllStand found.entry.analyst.first.first found.entry.analyst.first.second found.entry.analyst.second.inspector asked r × HasCounted options.now.part found.entry.of_pages r.steps) options.now.part told limit found.entry.trace.names
         → IfSome told (λ text. IsEndingOf text found.entry.ending) → IsOutcomeOf options.now.part told limit asked result }
     ensures alone { options.now.part ≡ None → is_some found.entry.analyst.first.second ≡ false → IfErr result IsOfReading }
+    ensures one { is_some found.entry.analyst.first.second ≡ false → IfErr result IsOfOneWorker }
     ensures failed { FailsBy false false result }
 {
     let Analysed {
@@ -243,6 +245,7 @@ fn reports_of(
         → StandsIf (λ (one : Ran). HasRunFor one asked r) (asks_locks asked.analysis) analysts.entry.first → StandsIf (λ (one : OrderRan). HasOrdered one asked r) (asks_order asked.analysis) analysts.entry.second
         → IfErr result (λ why. IsFaultOfText options.now.part asked.analysis told limit why) }
     ensures alone { options.now.part ≡ None → is_some analysts.entry.second ≡ false → IsOk result }
+    ensures one { is_some analysts.entry.second ≡ false → IfErr result IsOfOneWorker }
     ensures failed { FailsBy false false result }
     ensures undamaged { IfErr result IsNoDamage }
 {
@@ -305,6 +308,7 @@ fn run_report(
     ensures fault { (part : Option PartView) (asked : Asked) (told : Option (List ℕ)) (limit : ℕ) (r : Recording) → IfSome told (λ text. IsPartOf part text limit r) → is_unstopped part asked.analysis ≡ unstopped
         → StandsIf (λ (one : Ran). HasRunFor one asked r) (asks_locks asked.analysis) lockset.entry → IfErr result (λ why. IsFaultOfText part asked.analysis told limit why) }
     ensures alone { unstopped ≡ false → IsOk result }
+    ensures one { IfErr result IsOfOneWorker }
     ensures failed { FailsBy false false result }
     ensures undamaged { IfErr result IsNoDamage }
 {

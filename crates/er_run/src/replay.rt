@@ -1,5 +1,5 @@
 //! Bytes in, reports out.
-ghost use Rattle.std.specs.Prelude.{◌≡◌, ◌+◌, ◌≤◌, ◌<◌, false, All, IfSome, IfOk, IfErr, OnOk, IsTrue, IsFalse, None, is_some};
+ghost use Rattle.std.specs.Prelude.{◌≡◌, ◌+◌, ◌≤◌, ◌<◌, false, true, All, IfSome, IfOk, IfErr, OnOk, IsTrue, IsFalse, None, is_some};
 ghost use Rattle.er_damage.specs.Damaged.{IsDamageOf, no_damage};
 ghost use Rattle.er_device.specs.Device.{inner_of, has_failed, taken_of};
 ghost use Rattle.er_print.specs.Printed.{report_text};
@@ -9,10 +9,10 @@ ghost use Rattle.er_report.specs.Reports.{HaveNames, asks_locks, asks_order};
 ghost use Rattle.er_report.specs.declared.reports.Analysis.TheVariants.{Lockset};
 ghost use Rattle.er_rules.specs.Rules.{targets_of};
 ghost use Rattle.er_batch.specs.Limits.{bytes_past_limit};
-ghost use Rattle.er_run.specs.Faults.{FailsBy, IsFaultOfText, IsNoDamage, IsOfReading, looks_for_damage};
+ghost use Rattle.er_run.specs.Faults.{FailsBy, IsFaultOfText, IsNoDamage, IsOfOneWorker, IsOfReading, looks_for_damage};
 ghost use Rattle.er_run.specs.Inner.Written.{WritesFound};
 ghost use Rattle.er_run.specs.Replays.{IsReplayed, IsFailed, WritesNothing, is_stopped};
-ghost use Rattle.er_run.specs.Reports.{AreReportsOfText, IsOrderOfText, has_races, is_verdict_of, stop_in};
+ghost use Rattle.er_run.specs.Reports.{AreReportsOfText, IsOrderOfText, has_races, is_unstopped, is_verdict_of, stop_in};
 ghost use Rattle.er_text.specs.Ending.{IsEndingOf};
 
 use crate::outcome::ReplayedTrace;
@@ -55,6 +55,7 @@ where
     ensures failed { FailsBy (has_failed reader.new) (has_failed writer.new) result }
     ensures taken { taken_of reader.new ≤ taken_of reader.old + options.now.byte_limit + bytes_past_limit }
     ensures whole { 1 < options.now.workers → IfOk result (λ verdict. IsFalse (is_stopped verdict)) }
+    ensures unstopped { is_some options.now.part ≡ true → IfOk result (λ verdict. IsFalse (is_stopped verdict)) }
 {
     let alloc = rt.alloc();
     match replay_reports(
@@ -102,11 +103,12 @@ fn write_found<W: Write>(
 ///
 /// The text is read to its end, and the steps of each batch of lines are forgotten once they are answered, so that memory goes by the words,
 /// the names and the lines of the reports. With `explain` each race that is printed has its reasons, and each word has a book of the
-/// accesses that a reason may name. A strict replay of a damaged trace returns its damage. Of a part, and beside a report by happens-before, the report
-/// of the lockset rule is whole: a step that finds no room is a fault. A replay of a part looks for no damage. By the lockset rule alone a quarter of several workers, but at least one, answer
-/// a batch while the others read the next one; by another analysis all of them read, and one answers. If one thread reads, the shortcut may have
-/// lines ready. The watcher is told behind each batch how far the replay has come, and called once more at the end. What it does changes nothing
-/// of what is returned.
+/// accesses that a reason may name. A strict replay of a damaged trace returns its damage. A replay of a part looks for none. Of a part, and
+/// beside a report by happens-before, the report of the lockset rule is whole: a step that finds no room is a fault.
+///
+/// By the lockset rule alone a quarter of several workers, but at least one, answer a batch while the others read the next one; by another
+/// analysis all of them read, and one answers. If one thread reads, the shortcut may have lines ready. The watcher is told behind each batch how
+/// far the replay has come, and called once more at the end. What it does changes nothing of what is returned.
 ///
 /// # Errors
 /// `Read`: the text has a fault, a read failed, or memory was refused to the reader or to a step. `Replay`: the table of locksets is full, or
@@ -139,7 +141,9 @@ where
     ensures failed { FailsBy (has_failed reader.new) false result }
     ensures taken { taken_of reader.new ≤ taken_of reader.old + options.now.byte_limit + bytes_past_limit }
     ensures whole { 1 < options.now.workers → IfOk result (λ found. IfSome found.reports.lockset (λ report. report.stop ≡ None)) }
+    ensures unstopped { is_unstopped options.now.part analysis ≡ true → IfOk result (λ found. IfSome found.reports.lockset (λ report. report.stop ≡ None)) }
     ensures alone { options.now.workers ≡ 1 → options.now.part ≡ None → analysis ≡ Lockset → IfErr result IsOfReading }
+    ensures one { options.now.workers ≡ 1 → analysis ≡ Lockset → IfErr result IsOfOneWorker }
 {
     let table = LocksetTable::keyed(alloc, options.max_sets, options.keys)?;
     let found = if options.workers > 1 && !analysis.asks_order() {

@@ -65,15 +65,15 @@ abbrev pub is_own : Line → Bool
 is_own line = not (is_refusal (line_view line))
 
 -- the report without its lines of refused steps, and with this number of steps
-pub record IsOwnOf (of_pages : ℕ) (lost : Option ℕ) (old new : Report) : Type 0 where
+pub record IsOwnOf (of_pages : ℕ) (old new : Report) : Type 0 where
   pub lines : new.lines.items ≡ filter is_own old.lines.items
-  pub others : new ≡ record old { lines = new.lines; steps = of_pages; refused = 0; lost = lost }
+  pub others : new ≡ record old { lines = new.lines; steps = of_pages; refused = 0 }
   pub few : old.steps < 2 ^ 64
 
 -- what a part, a later one or not, gives of a report, with so many lost events
 pub record IsGivenOf (later : Bool) (of_pages : ℕ) (lost : Option ℕ) (old new : Report) : Type 0 where
   pub whole : later ≡ false → new ≡ record old { lost = lost }
-  pub own : later ≡ true → IsOwnOf of_pages lost old new
+  pub own : later ≡ true → IsOwnOf of_pages (record old { lost = lost }) new
 
 -- the same of a report that may be there
 abbrev pub IsGivenIf : Bool → ℕ → Option ℕ → Option Report → Option Report → Type 0
@@ -86,7 +86,7 @@ pub record IsOutcomeOf (part : Option PartView) (told : Option (List ℕ)) (limi
   pub reports : IfOk result (λ found. IfSome told (λ text. AreReportsOfText part asked.analysis text limit asked.rules asked.explain found.trace.names found.reports))
   pub there : IfOk result (λ found. (is_some found.reports.lockset ≡ asks_locks asked.analysis) × (is_some found.reports.unordered ≡ asks_order asked.analysis))
   pub named : IfOk result (λ found. HaveNames found.trace.names found.reports)
-  pub whole : asks_order asked.analysis ≡ true → IfOk result (λ found. IfSome found.reports.lockset (λ report. report.stop ≡ None))
+  pub whole : is_unstopped part asked.analysis ≡ true → IfOk result (λ found. IfSome found.reports.lockset (λ report. report.stop ≡ None))
   pub ending : IfOk result (λ found. IfSome told (λ text. IsEndingOf text found.ending))
   pub order : IfOk result (λ found. IfSome told (λ text. IsOrderOfText part asked.analysis text limit found.has_order))
   pub fault : IfErr result (λ why. IsFaultOfText part asked.analysis told limit why)

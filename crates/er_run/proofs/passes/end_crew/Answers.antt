@@ -1,5 +1,5 @@
 -- Damage that is looked for comes before the report of the workers and before their fault.
-use Rattle.std.proofs.Common.{◌≡◌, ◌∙◌, None, Some, IfSome, subst, sym, Ok}
+use Rattle.std.proofs.Common.{◌∙◌, None, Some, subst, sym, Ok}
 use Rattle.er_batch.specs.Analysts.{HasCrewRun}
 use Rattle.er_report.specs.declared.reports.Analysis.{Analysis}
 use Rattle.er_run.specs.Faults.{IsFaultOfText, fault_of}

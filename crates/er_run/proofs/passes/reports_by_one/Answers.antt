@@ -22,6 +22,7 @@ returns-in-Ok g c =
         taken = search rules;
       };
       alone = λ none. c.end.ensures.alone (alone-whole c.args.options.now.part c.args.analysis none) (all.stands.0.0.1.there ∙ alone-unordered c.args.options.now.part c.args.analysis none);
+      one = λ none. c.end.ensures.one (all.stands.0.0.1.there ∙ none);
     }
 
 pub returns-in-Err : goal.returns-in-Err
@@ -36,4 +37,5 @@ returns-in-Err g c =
         taken = search rules;
       };
       alone = λ none. tt;
+      one = λ none. tt;
     }

@@ -2,9 +2,11 @@
 use Rattle.std.proofs.Common.{Bool, Err, subst, sym}
 use Rattle.er_batch.specs.declared.verdict.Verdict.{Verdict}
 use Rattle.er_device.specs.Device.{has_failed, inner_of}
+use Rattle.er_report.specs.declared.reports.Analysis.TheVariants.{Lockset}
 use Rattle.er_rules.specs.Rules.{targets_of}
 use Rattle.er_run.specs.Faults.{FailsBy}
 use Rattle.er_run.specs.declared.outcome.ReplayedTrace.{ReplayedTrace}
+use Rattle.er_run.proofs.PassLemmas.{part-unstopped}
 use Rattle.er_run.proofs.ReplayLemmas.{failed-of, fails-again, nothing, untouched, unwritten, whole-of, whole-verdict}
 use Rattle.er_run.proofs.replay.replay_text.Goals as goal
 
@@ -23,6 +25,10 @@ returns-in-Ok-clause-nothing g c = nothing _ _ c.in-Ok.found.trace.names c.in-Ok
 
 pub returns-in-Ok-clause-whole : goal.returns-in-Ok-clause-whole
 returns-in-Ok-clause-whole g c = λ several. whole-verdict c.in-Ok.found.reports c.write_found-verdict.result (c.in-Ok.ensures.whole several) c.write_found-verdict.ensures.verdict
+
+pub returns-in-Ok-clause-unstopped : goal.returns-in-Ok-clause-unstopped
+returns-in-Ok-clause-unstopped g c = λ some.
+    whole-verdict c.in-Ok.found.reports c.write_found-verdict.result (c.in-Ok.ensures.unstopped (part-unstopped c.args.options.now.part Lockset some)) c.write_found-verdict.ensures.verdict
 
 pub returns-in-Err-clause-fault : goal.returns-in-Err-clause-fault
 returns-in-Err-clause-fault g c =
