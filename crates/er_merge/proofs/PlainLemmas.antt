@@ -37,10 +37,10 @@ use Rattle.er_merge.proofs.EndLemmas.{decimal_plain}
 use Rattle.er_merge.proofs.ReadLemmas.{ArePlain, IsPrintable, NoFeeds, no_feed}
 use Rattle.er_merge.proofs.WholeLemmas.{deed_pieces, reason_pieces}
 
-abbrev Plain : List ℕ → Type 0
+abbrev pub Plain : List ℕ → Type 0
 Plain text = list_all no_feed text ≡ true
 
-both : (a b : List ℕ) → Plain a → Plain b → Plain (a ++ b)
+pub both : (a b : List ℕ) → Plain a → Plain b → Plain (a ++ b)
 both a b first second = list_all-append no_feed a b ∙ (rw (first, second) refl)
 
 name_plain : (names : List (List ℕ)) (n : ℕ) → list_all (list_all no_feed) names ≡ true → Plain (name_at names n)
@@ -52,7 +52,7 @@ name_plain (name ∷ names) (suc n) plain = name_plain names n (and_parts (list_
 hex_digit : (d : ℕ) → d < 16 → no_feed (digit_char d) ≡ true
 hex_digit d small = grind (arith, nat_tests, small)
 
-hex_plain : (count n : ℕ) → Plain (hex_digits count n)
+pub hex_plain : (count n : ℕ) → Plain (hex_digits count n)
 unfolding hex_digits
 hex_plain zero n = refl
 hex_plain (suc k) n = both (hex_digits k (n / 16)) (digit_char (n % 16) ∷ []) (hex_plain k (n / 16)) (rw (hex_digit (n % 16) (omega arith)) refl)

@@ -24,7 +24,7 @@ use Rattle.er_merge.proofs.PlainLemmas.{all_printable}
 use Rattle.er_merge.proofs.WholeLemmas.{entries_again}
 
 -- each part has what its report says
-abbrev Say : NameTable → List Summary → List PartReport → Type 0
+abbrev pub Say : NameTable → List Summary → List PartReport → Type 0
 Say names [] [] = Unit {0}
 Say names [] (part ∷ parts) = ⊥
 Say names (s ∷ reports) [] = ⊥
@@ -33,7 +33,7 @@ Say names (s ∷ reports) (part ∷ parts) = (content_view part.content ≡ cont
 pub text_read : (names : NameTable) (s : Summary) (text : List ℕ) (is : IsPartText names s text) → HasPlainNames names → part_of text ≡ Ok (record { heading = is.heading; content = content_of names s })
 text_read names s text is plain = part_read names s is.heading is.line text is.counts (all_printable names s.lines plain is.lines) is.says is.one is.is
 
-all_say : (names : NameTable) (reports : List Summary) (texts : List (List ℕ)) (parts : List PartReport) → HasPlainNames names → ArePartTexts names reports texts → AreParts texts parts → Say names reports parts
+pub all_say : (names : NameTable) (reports : List Summary) (texts : List (List ℕ)) (parts : List PartReport) → HasPlainNames names → ArePartTexts names reports texts → AreParts texts parts → Say names reports parts
 all_say names [] [] [] plain are read = tt
 all_say names [] [] (part ∷ parts) plain are read = absurd (cc)
 all_say names [] (text ∷ texts) parts plain are read = absurd are
@@ -66,7 +66,7 @@ figures_say names f figure g left right (s ∷ reports) (part ∷ parts) say =
     let this = left part ∙ ap f say.0 ∙ right s in
     ap (λ (n : ℕ). n ∷ map (figure_of figure) parts) this ∙ ap (λ (ns : List ℕ). g s ∷ ns) (figures_say names f figure g left right reports parts say.1)
 
-sums_say : (names : NameTable) (f : ContentView → ℕ) (figure : Figure) (g : Summary → ℕ) → ((part : PartReport) → figure_of figure part ≡ f (content_view part.content)) → ((s : Summary) → f (content_of names s) ≡ g s)
+pub sums_say : (names : NameTable) (f : ContentView → ℕ) (figure : Figure) (g : Summary → ℕ) → ((part : PartReport) → figure_of figure part ≡ f (content_view part.content)) → ((s : Summary) → f (content_of names s) ≡ g s)
     → (reports : List Summary) (parts : List PartReport) → Say names reports parts → sum_in parts figure ≡ sum (map g reports)
 sums_say names f figure g left right reports parts say = sym (sum-map (figure_of figure) parts) ∙ ap sum (figures_say names f figure g left right reports parts say)
 

@@ -1,10 +1,14 @@
--- The laws that tie merged texts to merged reports.
-use Rattle.std.specs.Prelude.{◌≡◌, ℕ, All, List, Ok, Err}
+-- The laws that tie merged texts to merged reports, and these to the report of a trace.
+use Rattle.std.specs.Prelude.{◌≡◌, ℕ, ◌++◌, All, List, Ok, Err, map}
+use Rattle.er_merge.specs.Headings.{about_text, heading_text}
 use Rattle.er_merge.specs.Merging.{Merges}
 use Rattle.er_merge.specs.Parts.{part_of}
 use Rattle.er_merge.specs.Texts.{AddressesFollow, ArePartTexts, HasPlainNames, IsPartText, LineFits, RacesAloneShare, all_lines, content_of}
+use Rattle.er_merge.specs.Traces.{AreTextsOfParts, Divided, IsHeadingOf, IsTextOfPart, report_of_part, whole_report}
 use Rattle.er_merge.specs.declared.faults.LineFault.{LineFault}
-use Rattle.er_merge.specs.declared.faults.MergeFault.TheVariants.{Line}
+use Rattle.er_merge.specs.declared.faults.MergeFault.{MergeFault}
+use Rattle.er_merge.specs.declared.faults.MergeFault.TheVariants.{Line, Memory}
+use Rattle.er_merge.specs.declared.headings.PartHeading.{PartHeading}
 use Rattle.er_merge.specs.declared.merging.Merged.{Merged}
 use Rattle.er_parts.specs.Merged.{merged}
 use Rattle.er_print.specs.Printed.{report_text}
@@ -31,3 +35,18 @@ TextsMergeAsReports = (names : NameTable) (reports : List Summary) (texts : List
 -- it is enough that races alone have one number together
 abbrev pub AddressesFollowWords : Type 0
 AddressesFollowWords = (names : NameTable) (lines : List LineView) → HasPlainNames names → All LineFits lines → RacesAloneShare names lines → AddressesFollow names lines
+
+-- what is merged of the texts of all parts of a trace is what is printed for the report of the trace, with its number of races
+abbrev pub PartsMakeTheText : Type 0
+PartsMakeTheText = (d : Divided) (parts : List ℕ) (about texts : ℕ → List ℕ) (made : Merged) → AreTextsOfParts d parts about texts → Merges (map texts parts) (Ok made)
+    → (made.text.items ≡ report_text d.trace.names (whole_report d)) × (made.races ≡ (whole_report d).races)
+
+-- and if all say the same of the trace, nothing but memory can be wanting
+abbrev pub PartsAreMerged : Type 0
+PartsAreMerged = (d : Divided) (parts : List ℕ) (about : List ℕ) (texts : ℕ → List ℕ) (fault : MergeFault) → AreTextsOfParts d parts (λ (i : ℕ). about) texts
+    → Merges (map texts parts) (Err fault) → fault ≡ Memory
+
+-- what is written for a heading, and then for the report of its part, is such a text. Of the trace it says what the heading does
+abbrev pub PartsAreWrittenSo : Type 0
+PartsAreWrittenSo = (d : Divided) (heading : PartHeading) → IsHeadingOf d heading
+    → IsTextOfPart d heading.part (about_text heading) (heading_text heading ++ report_text d.trace.names (report_of_part d heading.part))

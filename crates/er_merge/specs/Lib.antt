@@ -5,3 +5,4 @@ pub mod Lines
 pub mod Parts
 pub mod Merging
 pub mod Texts
+pub mod Traces

@@ -1,5 +1,5 @@
 //! The laws of merged reports: each function does nothing, and its contract is proved of the definitions.
-ghost use Rattle.er_merge.specs.Laws.{AddressesFollowWords, ReportsAreReadBack, TextsHaveNoFault, TextsMergeAsReports};
+ghost use Rattle.er_merge.specs.Laws.{AddressesFollowWords, PartsAreMerged, PartsAreWrittenSo, PartsMakeTheText, ReportsAreReadBack, TextsHaveNoFault, TextsMergeAsReports};
 
 /// What is printed for a part's report, behind a first line, is read back as the report.
 pub fn a_report_is_read_back()
@@ -19,4 +19,17 @@ pub fn merged_texts_are_merged_reports()
 /// If races alone share a line of the trace, then the addresses that are read of the lines are in the order of the words.
 pub fn addresses_follow_words()
     ensures { AddressesFollowWords }
+{}
+
+/// The texts of the reports of all parts of a trace, each once and in any order, are merged into the text of the report of the trace, byte for byte. If they
+/// all say the same of the trace, only a want of memory keeps them from being merged.
+pub fn parts_of_a_trace_make_its_report()
+    ensures text { PartsMakeTheText }
+    ensures merged { PartsAreMerged }
+{}
+
+/// The first line of a part, as `put_heading` writes it, and then the report of the part are such a text. What the line says of the trace is the same for
+/// all parts.
+pub fn a_part_is_written_so()
+    ensures { PartsAreWrittenSo }
 {}
