@@ -36,12 +36,12 @@ _eraser() {
         _eraser_words "1 2 4 8 16 32 64"
         return
         ;;
-    replay:--byte-limit | replay:--max-races | explain:--byte-limit) return ;;
+    replay:--byte-limit | replay:--max-races | replay:--part | explain:--byte-limit) return ;;
     esac
     case $command:$word in
     :-*) _eraser_words "--help --version -h -V" ;;
     :*) _eraser_words "replay explain print merge demo help" ;;
-    replay:-?*) _eraser_words "--analysis --suppress --write-rules --unused-rules --max-races --explain --by-site --format --source --strict --until-fault --progress --hints --workers --shards --byte-limit --help -h" ;;
+    replay:-?*) _eraser_words "--analysis --suppress --write-rules --unused-rules --max-races --explain --by-site --format --source --strict --until-fault --part --progress --hints --workers --shards --byte-limit --help -h" ;;
     replay:*) _eraser_files ;;
     explain:-?*) _eraser_words "--byte-limit --help -h" ;;
     explain:*) _eraser_files ;;

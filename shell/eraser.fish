@@ -22,6 +22,7 @@ complete -c eraser -n '__fish_seen_subcommand_from replay' -l format -x -a 'text
 complete -c eraser -n '__fish_seen_subcommand_from replay' -l source -x -a '(__fish_complete_directories)' -d 'With --format html, show the lines around each site, from the files below this folder'
 complete -c eraser -n '__fish_seen_subcommand_from replay' -l strict -d 'End with 2 if the trace is damaged, and write no report'
 complete -c eraser -n '__fish_seen_subcommand_from replay' -l until-fault -d 'Report the steps before the first faulty line of the trace, and then its fault'
+complete -c eraser -n '__fish_seen_subcommand_from replay' -l part -x -d 'Replay part I of N alone, as 2/8, with at most 4096 parts; merge makes one report of those of all parts'
 complete -c eraser -n '__fish_seen_subcommand_from replay' -l progress -d 'Show on standard error, about twice a second, how far the replay has come'
 complete -c eraser -n '__fish_seen_subcommand_from replay' -l hints -d 'Write on standard error, as on a terminal, what helps people behind the line of a fault'
 complete -c eraser -n '__fish_seen_subcommand_from replay' -l workers -x -a '(seq 16)' -d 'How many threads replay the trace, 1 to 16'

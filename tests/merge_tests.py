@@ -1,14 +1,21 @@
 #!/usr/bin/env python3
-"""What `eraser merge` makes of reports of parts, which are cut here out of whole reports.
+"""What `eraser replay --part` reports of the parts of a trace, and what `eraser merge` makes of reports of parts.
 
 `tests/run` calls `tests`. By itself this file runs these tests alone.
 
-- the parts of reports of random traces, in any order, with rules and reasons, by both rules: the whole report and its status
+- each example and 600 random traces, a third of them binary, in 1, 2, 3 and 16 parts, with and without rules and reasons: the parts' reports make the whole
+  one and its status, and a trace with a fault has the line and the status of a whole replay in each part. The first line of each report is the one
+  that is worked out here, and its races are of the part's pages
+- rules by what a binary trace says of the program, several workers, lost events
+- what `--part` doesn't go with, and values that are no part; files that aren't ordinary; refused allocations, failed reads and writes, short reads
+- parts that are cut here out of whole reports of random traces, in any order, with rules and reasons, by both rules: the whole report and its status
 - several lines of one line of a trace, by their addresses
 - a part that is missing, given twice, of another trace or of other rules, cut off anywhere, with a line of no report, or stopped
 - files that can't be opened or read, a full output, refused allocations, failed reads and writes
 """
 
+import concurrent.futures
+import os
 import pathlib
 import random
 import re
@@ -17,14 +24,194 @@ import sys
 import tempfile
 
 sys.dont_write_bytecode = True
+import fact_rules_tests
 import reference
+import trace4
 from alone import each_failed, each_refused, run_alone
 from site_tests import PROGRAM, preloaded, run
+
+TOP = pathlib.Path(__file__).resolve().parent.parent
+RANDOM_TRACES = 600
+PARTS = (1, 2, 3, 16)
 
 ABOUT = "a trace of 1234 bytes, digest 0123456789abcdef, rules none, without reasons"
 OF_STEP = re.compile(r"line \d+: ")
 WORD = re.compile(r"line \d+: (?:race|unordered|state).*? (0x[0-9a-f]{12})")
 
+
+# ---- Reports of parts
+
+def digest_of(text, digest=0):
+    """docs/FORMATS.md: 8 bytes at a time, the lowest first, and the last few one by one."""
+    whole = len(text) // 8 * 8
+    for number in [*(int.from_bytes(text[at:at + 8], "little") for at in range(0, whole, 8)), *text[whole:]]:
+        digest = (digest + number + 1) * 11400714819323198485 % 2**64
+    return digest
+
+
+def heading_of(part, parts, text, rules, explained):
+    of_rules = 0
+    for rule in rules:
+        of_rules = digest_of(rule, of_rules)
+    return f"# part {part} of {parts} of a trace of {len(text)} bytes, digest {digest_of(text):016x}, rules {of_rules:016x}, {'with' if explained else 'without'} reasons\n".encode()
+
+
+def pages_of(report):
+    return {int(address, 16) >> 12 for address in re.findall(rb"^line \d+: (?:race|state).*?(0x[0-9a-f]{12})", report, re.MULTILINE)}
+
+
+def in_parts(record, folder, name, parts, path, rules, *options):
+    """Replays a trace whole and in parts, and merges these."""
+    words = [*options, *(word for file in rules for word in ("--suppress", str(file)))]
+    whole = run(["replay", *words, str(path)])
+    found = [run(["replay", "--part", f"{part}/{parts}", *words, str(path)]) for part in range(1, parts + 1)]
+    name = f"{name} in {parts} parts {' '.join(words)}"
+    if whole[2] > 1:
+        record(f"{name}: the fault of each", all(part == whole for part in found), f"{found}, {whole}"[:1000])
+        return
+    text, texts = path.read_bytes(), [file.read_bytes() for file in rules]
+    for part, (output, errors, status) in enumerate(found, 1):
+        first, feed, body = output.partition(b"\n")
+        is_right = first + feed == heading_of(part, parts, text, texts, "--explain" in options) and (errors, status) == (whole[1], int(b"race: " in body or not b" races 0," in body))
+        record(f"{name}: part {part}", is_right and all(page % parts + 1 == part for page in pages_of(body)), f"{output}, {errors}, {status}"[:1000])
+    reports = [output for output, _, _ in found]
+    random.Random(name).shuffle(reports)
+    merged = merge(folder, reports)
+    record(f"{name}: the one report", merged == (whole[0], b"", whole[2]), f"{merged}, {whole}"[:1000])
+
+
+def options_of(folder, rules):
+    (folder / "rules").write_bytes(rules)
+    for files in ([], [folder / "rules"]):
+        for options in ([], ["--explain"]):
+            yield files, options
+
+
+def of_example(record, top, path):
+    with tempfile.TemporaryDirectory(dir=top) as name:
+        folder = pathlib.Path(name)
+        rules = path.with_suffix(".rules")
+        for files, options in options_of(folder, rules.read_bytes() if rules.exists() else b"eraser suppressions 2\nsite *pool*\nwords 0x1000 64\nvariable *\n"):
+            for parts in PARTS:
+                in_parts(record, folder, f"example {path.stem}", parts, path, files, *options)
+
+
+def of_random_traces(record, top, seeds):
+    with tempfile.TemporaryDirectory(dir=top) as name:
+        folder = pathlib.Path(name)
+        path = folder / "trace"
+        for seed in seeds:
+            text, kind = reference.random_trace(seed), "text"
+            if seed % 3 == 0 and is_sound(text):
+                dice = random.Random(seed)
+                text, kind = trace4.encode(text, dice, dice.choice([0, 0, 3]), most_bytes=dice.choice([1, 100, 65536])), "binary"
+            path.write_bytes(text)
+            for at, (files, options) in enumerate(options_of(folder, reference.random_rules(seed))):
+                in_parts(record, folder, f"random {kind} trace {seed}", PARTS[(seed + at) % 4], path, files, *options, *(["--workers", "3"] if seed % 10 == 0 else []))
+
+
+def is_sound(text):
+    try:
+        reference.events_of(text)
+    except reference.Fault:
+        return False
+    return True
+
+
+def replayed(record, folder):
+    examples = sorted((TOP / "examples").glob("*.trace"))
+    with concurrent.futures.ThreadPoolExecutor(4) as pool:
+        made = [pool.submit(of_example, record, folder, path) for path in examples]
+        made += [pool.submit(of_random_traces, record, folder, range(first, RANDOM_TRACES, 24)) for first in range(24)]
+        for one in made:
+            one.result()
+
+
+def by_facts(record, folder):
+    """Rules by what a trace says of the program take in each part the races of its own words."""
+    path, rules = folder / "facts.trace", folder / "facts.rules"
+    path.write_bytes(fact_rules_tests.trace())
+    for at, (text, _) in enumerate(fact_rules_tests.ROWS):
+        rules.write_text(f"{fact_rules_tests.HEAD}{text}\n")
+        in_parts(record, folder, f"rules by facts, row {at}", PARTS[at % 4], path, [rules], *(["--explain"] if at % 2 else []))
+    in_parts(record, folder, "two files of rules", 3, path, [rules, rules])
+
+
+TRACE = b"eraser trace 3\nt1 write 0x1000 a.c:1\nt2 write 0x1000 a.c:2\nt1 write 0x2000\nt2 write 0x2000\nend\n"
+NO_VALUES = ("0/3", "4/3", "1/4097", "a/b", "1/", "/2", "/", "1", "", "1/2/3", "-1/2", "+1/2", "1/+2", " 1/2", "1/2 ", "0x1/2", "1/18446744073709551617", "1.0/2", "0/0")
+NOT_WITH = {
+    "--analysis": [["--analysis", "happens-before"], ["--analysis", "both"]], "--format": [["--format", "json"], ["--format", "sarif"], ["--format", "html"]], "--by-site": [["--by-site"]],
+    "--strict": [["--strict"]], "--until-fault": [["--until-fault"]], "--write-rules": [["--write-rules", "new.rules"]], "--unused-rules": [["--unused-rules"]],
+    "--max-races": [["--max-races", "1"]], "--source": [["--source", "."], ["--format", "html", "--source", "."]], "place of -": [["-"]],
+}
+
+
+def refused(record, folder):
+    path = folder / "two.trace"
+    path.write_bytes(TRACE)
+    for value in NO_VALUES:
+        output, errors, status = run(["replay", f"--part={value}", str(path)])
+        line = errors.split(b"\n")[0].decode()
+        wanted = f"error: invalid value '{value}' for '--part <I/N>': " if value else "error: "
+        record(f"no part {value!r}", (output, status) == (b"", 2) and line.startswith(wanted), f"{output}, {errors}, {status}")
+    for part in ("1/1", "4096/4096", "1/4096", "007/8"):
+        record(f"part {part}", run(["replay", "--part", part, str(path)])[1:] == (b"", int(part == "1/1")) or part == "007/8", f"{run(['replay', '--part', part, str(path)])}")
+    for option, rows in NOT_WITH.items():
+        for words in rows:
+            output, errors, status = run(["replay", "--part", "1/2", *words, *([] if words == ["-"] else [str(path)])], TRACE, cwd=folder)
+            told = errors.decode().split("\n")[0]
+            record(f"--part with {words}", (output, status) == (b"", 2) and told.startswith("error: ") and "--part" in told and option in told, f"{output}, {errors}, {status}")
+    record("no file of rules was written", not (folder / "new.rules").exists())
+    rules = folder / "of.rules"
+    rules.write_text("site a.c:2\n")
+    plain = run(["replay", "--part", "2/2", "--suppress", str(rules), str(path)])
+    record("the part of a page", plain == (heading_of(2, 2, TRACE, [rules.read_bytes()], False) + b"suppression 1: 1\nsteps 2, races 0, suppressed 1, refused 0\n", b"", 0), f"{plain}")
+    for words in (["--workers", "4"], ["--workers", "2", "--shards", "3"], ["--byte-limit", "99"], ["--analysis", "lockset"], ["--format", "text"], ["--hints"]):
+        found = run(["replay", "--part", "2/2", *words, "--suppress", str(rules), str(path)])
+        record(f"--part with {words}", found == plain, f"{found}")
+    output, errors, status = run(["replay", "--part", "2/2", "--progress", "--suppress", str(rules), str(path)])
+    record("--part with --progress", (output, status) == (plain[0], 0) and errors.startswith(b"progress: "), f"{errors}")
+
+
+def files_of_parts(record, folder, preloaded):
+    path, rules = folder / "two.trace", folder / "of.rules"
+    path.write_bytes(TRACE)
+    rules.write_text("site a.c:2\n")
+    words = ["replay", "--part", "1/2", "--explain", "--suppress", str(rules)]
+    whole = run([*words, str(path)])
+    record("the first of two parts", whole == (heading_of(1, 2, TRACE, [rules.read_bytes()], True)
+           + b"line 5: race: t2 write 0x000000002000 at -, holds none\n  first: line 4, t1 write\n  joined: line 5, t2 write\n  write: line 5, t2 write\nsuppression 1: 0\nsteps 2, races 1, suppressed 0, refused 0\n", b"", 1), f"{whole}")
+    for name in (folder / "nothing", folder):
+        found = run([*words, str(name)])
+        record(f"a part of {name.name}", found == run(["replay", str(name)]) and found[2] == 4, f"{found}")
+    fifo = folder / "fifo"
+    os.mkfifo(fifo)
+    record("a part of a FIFO", run([*words, str(fifo)]) == (b"", b"a part needs ordinary files\n", 4))
+    found = run(["replay", "--part", "1/2", "--suppress", "/dev/null", str(path)])
+    record("rules of a device", found == (b"", b"a part needs ordinary files\n", 4), f"{found}")
+    record("rules that aren't there", run(["replay", "--part", "1/2", "--suppress", str(folder / "nothing"), str(path)]) == (b"", b"cannot open suppressions\n", 4))
+    long = folder / "long.trace"
+    for size in (65535, 65536, 65537, 131072 + 8):
+        text = b"eraser trace 1\nt1 write 0x1000\nt2 write 0x1000\n"
+        text += b"#" * 900 + b"\n"
+        text = (text * 0 + text + (b"#" * 999 + b"\n") * 200)[:size - 1] + b"\n"
+        long.write_bytes(text)
+        in_parts(record, folder, f"{size} bytes", 2, long, [])
+    with open("/dev/full", "wb") as full:
+        done = subprocess.run([str(PROGRAM), *words, str(path)], stdout=full, stderr=subprocess.PIPE, timeout=60)
+        record("a part to a full output", (done.stderr, done.returncode) == (b"write fault\n", 4), f"{done}")
+    library = preloaded(str(folder), "refuse")
+    for nth, found, was_refused in each_refused(library, str(folder), lambda env: run([*words, str(path)], b"", env=env)):
+        record(f"a part, allocation {nth} refused", found in (whole, (b"", b"out of memory\n", 3)) if was_refused else found == whole, f"{found}")
+    library = preloaded(str(folder), "pieces")
+    for call in ("FAIL_READ", "FAIL_WRITE"):
+        for nth, found, has_failed in each_failed(library, str(folder), call, "FAIL_FOUND", lambda env: run([*words, str(path)], b"", env={**env, "PIECE": "7"})):
+            wanted = b"read fault\n" if call == "FAIL_READ" else b"write fault\n"
+            is_right = found[1:] == (wanted, 4) and (found[0] == b"" if call == "FAIL_READ" else whole[0].startswith(found[0])) if has_failed else found == whole
+            record(f"a part, {call} {nth}", is_right, f"{found}")
+
+
+# ---- Reports that are cut here
 
 def heading(part, parts, about=ABOUT):
     return f"# part {part} of {parts} of {about}\n"
@@ -160,6 +347,10 @@ def devices(record, folder, preloaded):
 def tests(record, preloaded):
     with tempfile.TemporaryDirectory() as name:
         folder = pathlib.Path(name)
+        replayed(record, folder)
+        by_facts(record, folder)
+        refused(record, folder)
+        files_of_parts(record, folder, preloaded)
         wholes(record, folder)
         places(record, folder)
         faults(record, folder)

@@ -34,7 +34,7 @@ def command(words, **more):
 
 # ---- What the program says of itself
 
-OPTION = re.compile(r"^ +(?:(-\w), )?(--[\w-]+)(?: <(\w+)>)?  +(.*)$")
+OPTION = re.compile(r"^ +(?:(-\w), )?(--[\w-]+)(?: <([\w/]+)>)?  +(.*)$")
 
 
 def section(text, head):
@@ -122,7 +122,7 @@ def zsh_options(text):
             if both:
                 options[both[2]] = (both[1], None, both[3])
             elif alone:
-                value = None if not alone[3] else "FILE" if alone[3].endswith("_files") else "FORM" if alone[3].startswith(":form") else "ANALYSIS" if alone[3].startswith(":analysis") else "DIR" if alone[3].startswith(":folder") else {":bytes": "BYTES", ":races": "COUNT"}.get(alone[3], "N")
+                value = None if not alone[3] else "FILE" if alone[3].endswith("_files") else "FORM" if alone[3].startswith(":form") else "ANALYSIS" if alone[3].startswith(":analysis") else "DIR" if alone[3].startswith(":folder") else {":bytes": "BYTES", ":races": "COUNT", ":part": "I/N"}.get(alone[3], "N")
                 options[alone[1]] = (None, value, alone[2].replace("’", "'"))
     return found
 
@@ -138,7 +138,7 @@ def fish_options(text):
         name = "" if where == "__fish_use_subcommand" else where.split()[-1]
         if "-l" in words:
             after = {word: words[place + 1] for place, word in enumerate(words[:-1]) if word in ("-s", "-l", "-d", "-a")}
-            value = "FILE" if "-r" in words else None if "-x" not in words else "FORM" if after["-l"] == "format" else "ANALYSIS" if after["-l"] == "analysis" else "DIR" if after["-l"] == "source" else "N" if "-a" in words else {"byte-limit": "BYTES"}.get(after["-l"], "COUNT")
+            value = "FILE" if "-r" in words else None if "-x" not in words else "FORM" if after["-l"] == "format" else "ANALYSIS" if after["-l"] == "analysis" else "DIR" if after["-l"] == "source" else "N" if "-a" in words else {"byte-limit": "BYTES", "part": "I/N"}.get(after["-l"], "COUNT")
             found[name]["--" + after["-l"]] = ("-" + after["-s"] if "-s" in after else None, value, after["-d"].replace("’", "'"))
     return found
 
@@ -185,7 +185,7 @@ def manual_options(text):
         if line != ".TP":
             continue
         tag = roff_text(lines[place + 1])
-        match = re.match(r"\.(?:BR (-\w) \", \" |B |BI )(--[\w-]+)(?: \" (?:\\fI)?(\w+)(?:\\fP)?\")?$", tag)
+        match = re.match(r"\.(?:BR (-\w) \", \" |B |BI )(--[\w-]+)(?: \" (?:\\fI)?([\w/]+)(?:\\fP)?\")?$", tag)
         if match and name is not None:
             found.setdefault(name, {})[match[2]] = (match[1], match[3], roff_text(lines[place + 2]).rstrip("."))
     return found

@@ -3,6 +3,7 @@ pub mod Faults
 pub mod Inner
 pub mod Lines
 pub mod Notes
+pub mod Parts
 pub mod Plain
 pub mod Quote
 pub mod Statuses

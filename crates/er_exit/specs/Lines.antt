@@ -9,7 +9,7 @@ use Rattle.er_text.specs.declared.endings.Lost.{Lost}
 use Rattle.er_merge.specs.Faults.{text_of as merge_text}
 use Rattle.er_merge.specs.declared.faults.MergeFault.TheVariants as merging
 use Rattle.er_exit.specs.declared.faults.Fault.{Fault}
-use Rattle.er_exit.specs.declared.faults.Fault.TheVariants.{Arguments, Text, Suppressions, Damaged, NoStep, Memory, TableFull, Beyond, OpenTrace, OpenSuppressions, Read, ReadSuppressions, Write, WriteRules, Refused, WorkerNotStarted, WorkerLost, Unsettled, Merging, OpenReport, ReadReport}
+use Rattle.er_exit.specs.declared.faults.Fault.TheVariants.{Arguments, Text, Suppressions, Damaged, NoStep, Memory, TableFull, Beyond, OpenTrace, NoFile, OpenSuppressions, Read, ReadSuppressions, Write, WriteRules, Refused, WorkerNotStarted, WorkerLost, Unsettled, Merging, OpenReport, ReadReport}
 
 -- a fault in words
 abbrev pub text_of : Fault → List ℕ
@@ -22,6 +22,7 @@ text_of Memory = codes "out of memory"
 text_of TableFull = codes "table full"
 text_of (Beyond limit) = limit_text limit
 text_of OpenTrace = codes "cannot open trace"
+text_of NoFile = codes "a part needs ordinary files"
 text_of (OpenSuppressions file) = codes "cannot open suppressions"
 text_of Read = codes "read fault"
 text_of (ReadSuppressions file) = codes "read fault"

@@ -2,7 +2,7 @@
 use Rattle.std.specs.Prelude.{ℕ, cond, nat_lt}
 use Rattle.er_merge.specs.Faults.{status_of}
 use Rattle.er_exit.specs.declared.faults.Fault.{Fault}
-use Rattle.er_exit.specs.declared.faults.Fault.TheVariants.{Arguments, Text, Suppressions, Damaged, NoStep, Memory, TableFull, Beyond, OpenTrace, OpenSuppressions, Read, ReadSuppressions, Write, WriteRules, Refused, WorkerNotStarted, WorkerLost, Unsettled, Merging, OpenReport, ReadReport}
+use Rattle.er_exit.specs.declared.faults.Fault.TheVariants.{Arguments, Text, Suppressions, Damaged, NoStep, Memory, TableFull, Beyond, OpenTrace, NoFile, OpenSuppressions, Read, ReadSuppressions, Write, WriteRules, Refused, WorkerNotStarted, WorkerLost, Unsettled, Merging, OpenReport, ReadReport}
 
 -- behind a demo: whether it made a race
 abbrev pub demo_status : ℕ → ℕ
@@ -25,6 +25,7 @@ fault_status WorkerLost = 3
 fault_status (Unsettled why) = 3
 fault_status (Merging fault) = status_of fault
 fault_status OpenTrace = 4
+fault_status NoFile = 4
 fault_status (OpenSuppressions file) = 4
 fault_status Read = 4
 fault_status (ReadSuppressions file) = 4

@@ -40,6 +40,8 @@ pub enum Fault {
     Beyond(Limit),
     /// The trace can't be opened.
     OpenTrace,
+    /// A file of the replay of a part isn't an ordinary one, so it can't be read twice.
+    NoFile,
     /// The suppressions can't be opened, of several files the one of that number.
     OpenSuppressions(Option<u64>),
     /// A read failed.
@@ -86,6 +88,7 @@ impl Fault {
             Fault::Unsettled(unsettled) => (3, unsettled.text()),
             Fault::Merging(fault) => fault.row(),
             Fault::OpenTrace => (4, "cannot open trace"),
+            Fault::NoFile => (4, "a part needs ordinary files"),
             Fault::OpenSuppressions(_) => (4, "cannot open suppressions"),
             Fault::OpenReport(_) => (4, "cannot open report"),
             Fault::Read | Fault::ReadSuppressions(_) | Fault::ReadReport(_) => (4, "read fault"),

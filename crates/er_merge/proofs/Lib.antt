@@ -1,6 +1,7 @@
 pub mod AddressLemmas
 pub mod BodyLemmas
 pub mod ContentLemmas
+pub mod DigestLemmas
 pub mod EndLemmas
 pub mod EntryLemmas
 pub mod FaultLemmas

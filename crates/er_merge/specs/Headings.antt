@@ -1,16 +1,22 @@
 -- The first line of the report of a part.
 use Rattle.std.specs.Prelude.{ℕ, ◌+◌, ◌*◌, ◌%◌, ◌^◌, Bool, true, false, List, [], ◌∷◌, ◌++◌, codes, decimal}
+use Rattle.std.specs.Int.{from_le_bytes, w64}
 use Rattle.er_lines.specs.Number.{hex_digits}
 use Rattle.er_merge.specs.declared.headings.PartHeading.{PartHeading}
 
--- the digest with one byte more
+-- the digest with one number more
 unfoldable pub digest_with : ℕ → ℕ → ℕ
-digest_with digest byte = (digest + (byte + 1)) % 2 ^ 64 * 11400714819323198485 % 2 ^ 64
+digest_with digest number = (digest + (number + 1)) % 2 ^ 64 * 11400714819323198485 % 2 ^ 64
 
--- and with these
+-- and with each of these bytes as a number
+abbrev pub digest_each : ℕ → List ℕ → ℕ
+digest_each digest [] = digest
+digest_each digest (byte ∷ bytes) = digest_each (digest_with digest byte) bytes
+
+-- and with these bytes: 8 at a time as one number, the lowest first, and the last few one by one
 abbrev pub digest_after : ℕ → List ℕ → ℕ
-digest_after digest [] = digest
-digest_after digest (byte ∷ bytes) = digest_after (digest_with digest byte) bytes
+digest_after digest (a ∷ b ∷ c ∷ d ∷ e ∷ f ∷ g ∷ h ∷ bytes) = digest_after (digest_with digest (from_le_bytes w64 (a ∷ b ∷ c ∷ d ∷ e ∷ f ∷ g ∷ h ∷ []))) bytes
+digest_after digest bytes = digest_each digest bytes
 
 abbrev pub reasons : Bool → List ℕ
 reasons true = codes ", with reasons"

@@ -1,6 +1,6 @@
 //! The first line of the report of a part.
 ghost use Rattle.std.specs.Prelude.{◌≡◌, ◌++◌, OnOk};
-ghost use Rattle.er_merge.specs.Headings.{about_text, digest_after, digest_with, heading_text, reasons};
+ghost use Rattle.er_merge.specs.Headings.{about_text, digest_after, digest_each, digest_with, heading_text, reasons};
 
 use er_lines::{put_hex, put_number};
 use std::alloc::AllocError;
@@ -25,23 +25,38 @@ pub struct PartHeading {
 /// The digest of no bytes.
 pub const NO_DIGEST: u64 = 0;
 
-/// The digest of bytes behind those that have this digest. If one byte of a text is another one, so is the digest.
+/// The digest of bytes behind those that have this digest. It takes 8 bytes at a time. If one byte of a text is another one, so is the digest.
+#[tactic(auto, using(crate::proofs::DigestLemmas::rest_digested))]
 pub fn digest_after(digest: u64, bytes: &[u8]) -> u64
     ensures { result ≡ digest_after digest bytes.now }
 {
+    let mut sum = digest;
+    let mut rest = bytes;
+    while let Some((word, more)) = rest.split_first_chunk::<8>() {
+        sum = digest_with(sum, u64::from_le_bytes(*word));
+        rest = more;
+    }
+    digest_each(sum, rest)
+}
+
+// The digest with each of these bytes as a number of its own.
+fn digest_each(digest: u64, bytes: &[u8]) -> u64
+    ensures { result ≡ digest_each digest bytes.now }
+{
     let mut digest = digest;
     for byte in bytes {
-        digest = digest_with(digest, *byte);
+        digest = digest_with(digest, u64::from(*byte));
     }
     digest
 }
 
 #[tactic(auto, unfolding(crate::specs::Headings::digest_with))]
-fn digest_with(digest: u64, byte: u8) -> u64
-    ensures { result ≡ digest_with digest byte }
+fn digest_with(digest: u64, number: u64) -> u64
+    ensures { result ≡ digest_with digest number }
 {
     digest
-        .wrapping_add(u64::from(byte) + 1)
+        .wrapping_add(number)
+        .wrapping_add(1)
         .wrapping_mul(11_400_714_819_323_198_485)
 }
 

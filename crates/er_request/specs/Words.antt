@@ -77,6 +77,7 @@ usual_limit = 268435456
 pub record IsUsual (replay : Replaying) : Type 0 where
   pub input : replay.trace.now ≡ codes "-"
   pub limit : replay.byte_limit ≡ usual_limit
+  pub part : replay.part ≡ None
   pub analysis : replay.analysis ≡ Lockset
   pub form : replay.form ≡ Text
   pub source : replay.source ≡ None

@@ -36,58 +36,59 @@ enum Shape {
     DefaultWord(&'static str, ValueParser<'static>, &'static str),
 }
 
-// An option, or a word that must be given, and the option that it can't be used with.
+// An option, or a word that must be given, and the options that it can't be used with.
 #[derive(Clone, Copy)]
 struct Row {
     name: &'static str,
     shape: Shape,
-    without: Option<&'static str>,
+    without: &'static [&'static str],
     help: &'static str,
 }
 
 // `--help` lists the rows of a command in their order.
 #[rattlefmt::skip]
-const REPLAY: [Row; 17] = [
-    Row { name: "analysis", shape: Shape::Default("ANALYSIS", ValueParser::Names(&ANALYSES), "lockset"), without: None,
+const REPLAY: [Row; 18] = [
+    Row { name: "analysis", shape: Shape::Default("ANALYSIS", ValueParser::Names(&ANALYSES), "lockset"), without: &[],
           help: "Report accesses that no lock protects, accesses and reuses that were not ordered in this run, or both" },
-    Row { name: "suppress", shape: Shape::Values("FILE", ValueParser::String), without: None, help: "Count the races that this file's rules take, and leave their lines out" },
-    Row { name: "write-rules", shape: Shape::Value("FILE", ValueParser::String), without: None, help: "Write rules to this file that take each race of the report" },
-    Row { name: "unused-rules", shape: Shape::Flag, without: None, help: "Name each rule that took no race, on standard error" },
-    Row { name: "max-races", shape: Shape::Value("COUNT", ValueParser::Unsigned(0, u64::MAX)), without: Some("by-site"),
+    Row { name: "suppress", shape: Shape::Values("FILE", ValueParser::String), without: &[], help: "Count the races that this file's rules take, and leave their lines out" },
+    Row { name: "write-rules", shape: Shape::Value("FILE", ValueParser::String), without: &["part"], help: "Write rules to this file that take each race of the report" },
+    Row { name: "unused-rules", shape: Shape::Flag, without: &["part"], help: "Name each rule that took no race, on standard error" },
+    Row { name: "max-races", shape: Shape::Value("COUNT", ValueParser::Unsigned(0, u64::MAX)), without: &["by-site", "part"],
           help: "Write the lines of the first races alone, and how many were left out" },
-    Row { name: "explain", shape: Shape::Flag, without: None, help: "Name the accesses that make each race" },
-    Row { name: "by-site", shape: Shape::Flag, without: None, help: "Write a table of the sites with races, most words first, and explain a race of each" },
-    Row { name: "format", shape: Shape::Default("FORM", ValueParser::Names(&FORMS), "text"), without: Some("by-site"),
+    Row { name: "explain", shape: Shape::Flag, without: &[], help: "Name the accesses that make each race" },
+    Row { name: "by-site", shape: Shape::Flag, without: &["part"], help: "Write a table of the sites with races, most words first, and explain a race of each" },
+    Row { name: "format", shape: Shape::Default("FORM", ValueParser::Names(&FORMS), "text"), without: &["by-site"],
           help: "How the report is written: as text for scripts, as JSON for programs, as SARIF for code hosts, or as one page of HTML for people" },
-    Row { name: "source", shape: Shape::Value("DIR", ValueParser::String), without: None, help: "With --format html, show the lines around each site, from the files below this folder" },
-    Row { name: "strict", shape: Shape::Flag, without: None, help: "End with 2 if the trace is damaged, and write no report" },
-    Row { name: "until-fault", shape: Shape::Flag, without: None, help: "Report the steps before the first faulty line of the trace, and then its fault" },
-    Row { name: "progress", shape: Shape::Flag, without: None, help: "Show on standard error, about twice a second, how far the replay has come" },
-    Row { name: "hints", shape: Shape::Flag, without: None, help: "Write on standard error, as on a terminal, what helps people behind the line of a fault" },
-    Row { name: "workers", shape: Shape::Default("N", ValueParser::Signed(1, MOST_WORKERS as i64), "1"), without: None, help: "How many threads replay the trace, 1 to 16" },
-    Row { name: "shards", shape: Shape::Default("N", ValueParser::Signed(1, MOST_SHARDS as i64), "8"), without: None, help: "Into how many parts several workers cut the words, 1 to 64" },
+    Row { name: "source", shape: Shape::Value("DIR", ValueParser::String), without: &["part"], help: "With --format html, show the lines around each site, from the files below this folder" },
+    Row { name: "strict", shape: Shape::Flag, without: &["part"], help: "End with 2 if the trace is damaged, and write no report" },
+    Row { name: "until-fault", shape: Shape::Flag, without: &["part"], help: "Report the steps before the first faulty line of the trace, and then its fault" },
+    Row { name: "part", shape: Shape::Value("I/N", ValueParser::String), without: &[], help: "Replay part I of N alone, as 2/8, with at most 4096 parts; merge makes one report of those of all parts" },
+    Row { name: "progress", shape: Shape::Flag, without: &[], help: "Show on standard error, about twice a second, how far the replay has come" },
+    Row { name: "hints", shape: Shape::Flag, without: &[], help: "Write on standard error, as on a terminal, what helps people behind the line of a fault" },
+    Row { name: "workers", shape: Shape::Default("N", ValueParser::Signed(1, MOST_WORKERS as i64), "1"), without: &[], help: "How many threads replay the trace, 1 to 16" },
+    Row { name: "shards", shape: Shape::Default("N", ValueParser::Signed(1, MOST_SHARDS as i64), "8"), without: &[], help: "Into how many parts several workers cut the words, 1 to 64" },
     BYTE_LIMIT,
-    Row { name: "trace", shape: Shape::Word("TRACE", ValueParser::String), without: None, help: "The trace to replay, or - for standard input" },
+    Row { name: "trace", shape: Shape::Word("TRACE", ValueParser::String), without: &[], help: "The trace to replay, or - for standard input" },
 ];
 
 #[rattlefmt::skip]
 const EXPLAIN: [Row; 3] = [
     BYTE_LIMIT,
-    Row { name: "line", shape: Shape::Word("LINE", ValueParser::Unsigned(0, u64::MAX)), without: None, help: "The line of the trace that the step stands on, from 1" },
-    Row { name: "trace", shape: Shape::Word("TRACE", ValueParser::String), without: None, help: "The trace, or - for standard input" },
+    Row { name: "line", shape: Shape::Word("LINE", ValueParser::Unsigned(0, u64::MAX)), without: &[], help: "The line of the trace that the step stands on, from 1" },
+    Row { name: "trace", shape: Shape::Word("TRACE", ValueParser::String), without: &[], help: "The trace, or - for standard input" },
 ];
 
 #[rattlefmt::skip]
-const PRINT: [Row; 1] = [Row { name: "trace", shape: Shape::DefaultWord("TRACE", ValueParser::String, "-"), without: None, help: "The trace, or - for standard input" }];
+const PRINT: [Row; 1] = [Row { name: "trace", shape: Shape::DefaultWord("TRACE", ValueParser::String, "-"), without: &[], help: "The trace, or - for standard input" }];
 
 #[rattlefmt::skip]
-const MERGE: [Row; 1] = [Row { name: "reports", shape: Shape::Words("REPORT", ValueParser::String), without: None, help: "The reports of all parts, in any order" }];
+const MERGE: [Row; 1] = [Row { name: "reports", shape: Shape::Words("REPORT", ValueParser::String), without: &[], help: "The reports of all parts, in any order" }];
 
 #[rattlefmt::skip]
-const DEMO: [Row; 1] = [Row { name: "name", shape: Shape::Word("NAME", ValueParser::Names(&DEMOS)), without: None, help: "What the threads do" }];
+const DEMO: [Row; 1] = [Row { name: "name", shape: Shape::Word("NAME", ValueParser::Names(&DEMOS)), without: &[], help: "What the threads do" }];
 
 #[rattlefmt::skip]
-const BYTE_LIMIT: Row = Row { name: "byte-limit", shape: Shape::Default("BYTES", ValueParser::Unsigned(1, MOST_BYTES), "268435456"), without: None,
+const BYTE_LIMIT: Row = Row { name: "byte-limit", shape: Shape::Default("BYTES", ValueParser::Unsigned(1, MOST_BYTES), "268435456"), without: &[],
                               help: "The most bytes that a text may have, 1 to 4611686018427387904" };
 
 const AFTER_EXPLAIN: &str = "\
@@ -187,7 +188,7 @@ fn part_of<'a>(alloc: Global, part: Part) -> Result<Command<'a>, AllocError> {
 
 fn argument_of<'a>(alloc: Global, row: Row) -> Result<Arg<'a>, AllocError> {
     let named = Arg::new(alloc, row.name).help(row.help);
-    let argument = match row.shape {
+    let mut argument = match row.shape {
         Shape::Flag => named.long(row.name).action(ArgAction::SetTrue),
         Shape::Value(value, takes) => with_value(named, value, takes).long(row.name),
         Shape::Default(value, takes, default) => with_value(named, value, takes)
@@ -205,10 +206,10 @@ fn argument_of<'a>(alloc: Global, row: Row) -> Result<Arg<'a>, AllocError> {
             with_value(named, value, takes).default_value(default)
         }
     };
-    match row.without {
-        Some(other) => argument.conflicts_with(other),
-        None => Ok(argument),
+    for other in row.without {
+        argument = argument.conflicts_with(other)?;
     }
+    Ok(argument)
 }
 
 fn with_value<'a>(argument: Arg<'a>, value: &'a str, takes: ValueParser<'a>) -> Arg<'a> {

@@ -1,6 +1,7 @@
 //! What a command line asks for.
 ghost use Rattle.std.specs.Prelude.{◌<◌, ◌≤◌, ◌^◌};
 
+use er_parts::Part;
 use er_report::{Analysis, Form};
 
 /// What a command line asks for.
@@ -31,6 +32,8 @@ pub struct Replay<'a> {
     pub max_races: Option<u64>,
     /// The path of the trace, or `-` for standard input.
     pub trace: &'a str,
+    /// Which part of the trace is replayed, or None if all of it is. Given only with the path of a file, and of a replay whose report is text.
+    pub part: Option<Part>,
     /// By which rule accesses are races.
     pub analysis: Analysis,
     /// How the reports are written.

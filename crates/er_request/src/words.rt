@@ -6,6 +6,7 @@ use crate::options::{DEMOS, MOST_BYTES, MOST_SHARDS, MOST_WORKERS, eraser_comman
 use crate::request::{Demo, Explain, Replay, Request};
 use clap::error::ErrorKind;
 use clap::{ArgMatches, Command, Error};
+use er_parts::Part;
 use er_report::{Analysis, Form};
 use std::alloc::{AllocError, Global};
 
@@ -63,6 +64,7 @@ fn usual_replay<'a>(alloc: Global, hints: bool) -> Replay<'a>
         unused_rules: false,
         max_races: None,
         trace: "-",
+        part: None,
         analysis: Analysis::Lockset,
         form: Form::Text,
         source: None,
@@ -96,7 +98,15 @@ fn read_by_parser<'a>(alloc: Global, words: &'a [String]) -> Read<'a> {
 fn request_by<'a>(alloc: Global, command: &mut Command<'a>, words: &'a [String]) -> Read<'a> {
     let matches = command.try_get_matches_from_mut(words)?;
     let found = request_of(alloc, &matches);
+    let no_part = no_part_of(&matches);
     drop(matches);
+    if let Some(value) = no_part {
+        drop(found);
+        let text = format!(in alloc;
+            "invalid value '{value}' for '--part <I/N>': it has to be two numbers, as in 2/8, with 1 <= I <= N <= 4096"
+        )?;
+        return Err(command.error(ErrorKind::ValueValidation, text.as_str())?);
+    }
     let Some(request) = found? else {
         return Err(command.error(ErrorKind::InvalidValue, "a value is missing")?);
     };
@@ -119,7 +129,15 @@ fn conflict_of(request: &Request<'_>) -> Option<&'static str> {
     {
         return Some("--write-rules would replace a file of --suppress: give it another path");
     }
-    None
+    replay.part.and(conflict_of_part(replay))
+}
+
+// What `eraser merge` can't read of a part, and what is not read twice.
+fn conflict_of_part(replay: &Replay<'_>) -> Option<&'static str> {
+    if replay.analysis != Analysis::Lockset || replay.form != Form::Text {
+        return Some("--part goes with --analysis lockset and --format text alone");
+    }
+    (replay.trace == "-").then_some("--part reads the trace twice: give it a file in place of -")
 }
 
 // None if a value is missing that the parser requires or gives.
@@ -149,6 +167,7 @@ fn replay_of<'a>(found: &ArgMatches<'a>, suppressions: Vec<&'a str>) -> Option<R
         unused_rules: found.get_flag("unused-rules"),
         max_races: found.get_one::<u64>("max-races"),
         trace: found.get_str("trace")?,
+        part: found.get_str("part").and_then(part_in),
         analysis: analysis_of(found)?,
         form,
         source: found.get_str("source"),
@@ -162,6 +181,23 @@ fn replay_of<'a>(found: &ArgMatches<'a>, suppressions: Vec<&'a str>) -> Option<R
         byte_limit: found.get_one::<u64>("byte-limit")?.min(MOST_BYTES),
         suppressions,
     }))
+}
+
+// The value of `--part`, if it is no part.
+fn no_part_of<'a>(all: &ArgMatches<'a>) -> Option<&'a str> {
+    let (_, found) = all.subcommand()?;
+    let value = found.get_str("part")?;
+    part_in(value).is_none().then_some(value)
+}
+
+// Which part a text names, as `2/8` does.
+fn part_in(text: &str) -> Option<Part> {
+    let (index, count) = text.split_once('/')?;
+    let (index, count) = (index.parse::<u64>().ok()?, count.parse::<u64>().ok()?);
+    if text.contains('+') {
+        return None;
+    }
+    Part::new(index, count)
 }
 
 fn analysis_of(found: &ArgMatches<'_>) -> Option<Analysis> {

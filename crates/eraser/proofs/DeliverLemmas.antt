@@ -1,8 +1,9 @@
 -- What was delivered is what was asked for.
-use Rattle.std.proofs.Common.{◌≡◌, ◌≢◌, ◌≤◌, ◌-◌, ◌∙◌, ℕ, Bool, true, false, cond, is_some, List, [], length, Option, Some, None, IsSome, IfOk, IfErr, Result, Ok, Err, inl, inr, refl, sym, subst, ap, arith}
+use Rattle.std.proofs.Common.{◌≡◌, ◌≢◌, ◌≤◌, ◌-◌, ◌∙◌, ◌++◌, ℕ, Bool, true, false, cond, is_some, List, [], length, Option, Some, None, IsSome, IfOk, IfErr, Result, Ok, Err, inl, inr, refl, sym, subst, ap, arith}
 use Rattle.std.specs.Io.KnownBytes.{Appends, Keeps}
 use Rattle.er_batch.specs.declared.verdict.Verdict.{Verdict}
 use Rattle.er_batch.specs.declared.verdict.Verdict.TheVariants.{Clean, Races, Stopped}
+use Rattle.er_exit.specs.Parts.{IsHeading}
 use Rattle.er_exit.specs.declared.faults.Fault.{Fault}
 use Rattle.er_exit.specs.declared.faults.Fault.TheVariants as fault
 use Rattle.er_forms.specs.Forms.{IsForm}
@@ -37,7 +38,7 @@ use Rattle.eraser.specs.declared.replaying.Ended.{Ended}
 -- what is known of reports of a text without the races that rules take, and of those of them that are left
 pub record AreTriaged (replay : Replay) (text : List ℕ) (rules : List Target) (names : NameTable) (found left : Reports) : Type 0 where
   pub raced : Reports
-  pub reports : AreReportsOfText replay.analysis text replay.byte_limit rules replay.explain names raced
+  pub reports : AreReportsOfText replay.part replay.analysis text replay.byte_limit rules replay.explain names raced
   pub facts : MayLack replay rules raced found
   pub locks : is_some found.lockset ≡ asks_locks replay.analysis
   pub order : is_some found.unordered ≡ asks_order replay.analysis
@@ -65,7 +66,7 @@ pub ends : {F : Type 0} (remaining : F → Option (List ℕ)) (replay : Replay) 
     (notes : List ℕ) (count : ℕ) (result : Result Ended Fault) → AreTriaged replay text rules names found left → ((bytes : List ℕ) × AreShown remaining replay names rules left bytes × Appends old new bytes)
     → notes ≡ notes_text replay.unused_rules found rules (length (lines_of found) - length (lines_of left)) → count ≡ unordered_of has_order found
     → IfOk result (λ ended. ended.status ≡ verdict_status (is_verdict_of left)) → IfOk result (λ ended. ended.notes.items ≡ notes)
-    → IfOk result (λ ended. (ended.ending ≡ ending) × (ended.unordered ≡ count)) → IsEndingOf text ending → IsOrderOfText replay.analysis text replay.byte_limit has_order
+    → IfOk result (λ ended. (ended.ending ≡ ending) × (ended.unordered ≡ count)) → IsEndingOf text ending → IsOrderOfText replay.part replay.analysis text replay.byte_limit has_order
     → IfOk result (EndsAs remaining replay text rules old new)
 ends remaining replay text rules names found left ending has_order old new notes count (Err why) triaged written noted counted status same_notes same is order = tt
 ends remaining replay text rules names found left ending has_order old new notes count (Ok ended) triaged (bytes, shown, appended) noted counted status same_notes (same, same_count) is order = record {
@@ -100,34 +101,36 @@ as_fault (Err writing.Memory) = Err fault.Memory
 as_fault (Err writing.Write) = Err fault.Write
 
 -- what was made was written, if it was made
-written : {A E X : Type 0} (Are : List ℕ → Type 0) (old new : Option (List ℕ)) (text : Result A E) (items : A → List ℕ) (result : Result X WriteFault) → IfOk text (λ t. Are (items t))
-    → ((bytes : List ℕ) → IfOk text (λ t. items t ≡ bytes) → WritesReport old new bytes result) → IfErr text (λ e. result ≡ Err writing.Memory) → WritesSome Are old new (as_fault result)
-written Are old new (Ok t) items (Ok x) are wrote memory = (items t, are, wrote (items t) refl)
-written Are old new (Ok t) items (Err writing.Memory) are wrote memory = wrote (items t) refl
-written Are old new (Ok t) items (Err writing.Write) are wrote memory = (items t, are, wrote (items t) refl)
-written Are old new (Err e) items (Ok x) are wrote memory = cc
-written Are old new (Err e) items (Err writing.Memory) are wrote memory = wrote [] tt
-written Are old new (Err e) items (Err writing.Write) are wrote memory = cc
+written : {A E X : Type 0} (Are : List ℕ → Type 0) (heading : List ℕ) (old new : Option (List ℕ)) (text : Result A E) (items : A → List ℕ) (result : Result X WriteFault) → IfOk text (λ t. Are (heading ++ items t))
+    → ((bytes : List ℕ) → IfOk text (λ t. items t ≡ bytes) → WritesReport old new (heading ++ bytes) result) → IfErr text (λ e. result ≡ Err writing.Memory) → WritesSome Are old new (as_fault result)
+written Are heading old new (Ok t) items (Ok x) are wrote memory = (heading ++ items t, are, wrote (items t) refl)
+written Are heading old new (Ok t) items (Err writing.Memory) are wrote memory = wrote (items t) refl
+written Are heading old new (Ok t) items (Err writing.Write) are wrote memory = (heading ++ items t, are, wrote (items t) refl)
+written Are heading old new (Err e) items (Ok x) are wrote memory = cc
+written Are heading old new (Err e) items (Err writing.Memory) are wrote memory = wrote [] tt
+written Are heading old new (Err e) items (Err writing.Write) are wrote memory = cc
 
 -- a form that was made is what is asked for
-shown_if : {F A E : Type 0} (remaining : F → Option (List ℕ)) (replay : Replay) (names : NameTable) (rules : List Target) (reports : Reports) (table : PlaceTable) (excerpts : List Excerpt) (text : Result A E)
-    (items : A → List ℕ) → MayHavePlaces remaining replay reports table → (replay.source ≡ None → excerpts ≡ []) → IfOk text (λ t. IsForm replay.form names table rules excerpts reports (items t))
-    → IfOk text (λ t. AreShown remaining replay names rules reports (items t))
-shown_if remaining replay names rules reports table excerpts (Ok t) items places sources form = record { table = table; excerpts = excerpts; places = places; sources = sources; form = form }
-shown_if remaining replay names rules reports table excerpts (Err e) items places sources form = tt
+shown_if : {F A E : Type 0} (remaining : F → Option (List ℕ)) (replay : Replay) (names : NameTable) (rules : List Target) (reports : Reports) (table : PlaceTable) (excerpts : List Excerpt) (heading : List ℕ)
+    (text : Result A E) (items : A → List ℕ) → MayHavePlaces remaining replay reports table → (replay.source ≡ None → excerpts ≡ []) → IsHeading replay.part replay.explain heading
+    → IfOk text (λ t. IsForm replay.form names table rules excerpts reports (items t)) → IfOk text (λ t. AreShown remaining replay names rules reports (heading ++ items t))
+shown_if remaining replay names rules reports table excerpts heading (Ok t) items places sources headed form =
+    record { table = table; excerpts = excerpts; places = places; sources = sources; heading = heading; body = items t; headed = headed; form = form; says = refl }
+shown_if remaining replay names rules reports table excerpts heading (Err e) items places sources headed form = tt
 
-pub delivered : {F A E X : Type 0} (remaining : F → Option (List ℕ)) (replay : Replay) (names : NameTable) (rules : List Target) (reports : Reports) (table : PlaceTable) (excerpts : List Excerpt) (old new : Option (List ℕ))
-    (text : Result A E) (items : A → List ℕ) (result : Result X WriteFault) → MayHavePlaces remaining replay reports table → (replay.source ≡ None → excerpts ≡ [])
-    → IfOk text (λ t. IsForm replay.form names table rules excerpts reports (items t)) → ((bytes : List ℕ) → IfOk text (λ t. items t ≡ bytes) → WritesReport old new bytes result)
+pub delivered : {F A E X : Type 0} (remaining : F → Option (List ℕ)) (replay : Replay) (names : NameTable) (rules : List Target) (reports : Reports) (table : PlaceTable) (excerpts : List Excerpt) (heading : List ℕ)
+    (old new : Option (List ℕ)) (text : Result A E) (items : A → List ℕ) (result : Result X WriteFault) → MayHavePlaces remaining replay reports table → (replay.source ≡ None → excerpts ≡ [])
+    → IsHeading replay.part replay.explain heading → IfOk text (λ t. IsForm replay.form names table rules excerpts reports (items t))
+    → ((bytes : List ℕ) → IfOk text (λ t. items t ≡ bytes) → WritesReport old new (heading ++ bytes) result)
     → IfErr text (λ e. result ≡ Err writing.Memory) → WritesSome (AreShown remaining replay names rules reports) old new (as_fault result)
-delivered remaining replay names rules reports table excerpts old new text items result places sources form wrote memory =
-    written (AreShown remaining replay names rules reports) old new text items result (shown_if remaining replay names rules reports table excerpts text items places sources form) wrote memory
+delivered remaining replay names rules reports table excerpts heading old new text items result places sources headed form wrote memory =
+    written (AreShown remaining replay names rules reports) heading old new text items result (shown_if remaining replay names rules reports table excerpts heading text items places sources headed form) wrote memory
 
 -- nothing was, for want of memory
-pub no-memory : {A E X : Type 0} (old new : Option (List ℕ)) (text : Result A E) (items : A → List ℕ) (result : Result X WriteFault) → result ≡ Err writing.Memory
-    → ((bytes : List ℕ) → IfOk text (λ t. items t ≡ bytes) → WritesReport old new bytes result) → Keeps old new
-no-memory old new (Ok t) items result is wrote = rw is at (wrote (items t) refl)
-no-memory old new (Err e) items result is wrote = rw is at (wrote [] tt)
+pub no-memory : {A E X : Type 0} (heading : List ℕ) (old new : Option (List ℕ)) (text : Result A E) (items : A → List ℕ) (result : Result X WriteFault) → result ≡ Err writing.Memory
+    → ((bytes : List ℕ) → IfOk text (λ t. items t ≡ bytes) → WritesReport old new (heading ++ bytes) result) → Keeps old new
+no-memory heading old new (Ok t) items result is wrote = rw is at (wrote (items t) refl)
+no-memory heading old new (Err e) items result is wrote = rw is at (wrote [] tt)
 
 -- nothing is counted without a report by happens-before
 uncounted : (has_order : Bool) (o : Option Report) → is_some o ≡ false → cond has_order 0 (races_in o) ≡ 0

@@ -1,11 +1,13 @@
 -- How a replay ends.
-use Rattle.std.proofs.Common.{◌≡◌, ◌∙◌, ℕ, Bool, true, false, nat_lt, is_some, IsFalse, inl, inr, List, [], append-nil, take, Option, Some, None, IsSome, IfSome, IfOk, IfErr, Result, Ok, Err, refl, sym, ap, subst}
+use Rattle.std.proofs.Common.{◌≡◌, ◌∙◌, ◌++◌, ℕ, Bool, true, false, nat_lt, is_some, IsFalse, inl, inr, List, [], append-nil, take, Option, Some, None, IsSome, IfSome, IfOk, IfErr, Result, Ok, Err, refl, sym, ap, subst}
 use Rattle.std.specs.Io.KnownBytes.{Appends, Keeps}
 use Rattle.er_batch.specs.Runs.{IsRunOf}
+use Rattle.er_exit.specs.Parts.{IsHeading}
 use Rattle.er_exit.specs.declared.faults.Fault.{Fault}
 use Rattle.er_exit.specs.declared.faults.Fault.TheVariants as fault
 use Rattle.er_forms.specs.Forms.{IsForm}
 use Rattle.er_journal.specs.declared.answers.Stopped.{Stopped}
+use Rattle.er_parts.specs.Parts.{PartView}
 use Rattle.er_print.specs.Printed.{report_text, reports_text}
 use Rattle.er_report.specs.Report.{Summary, told}
 use Rattle.er_report.specs.Reports.{asks_locks, asks_order}
@@ -51,7 +53,7 @@ text_alone names reports report one none = rw (one, none) (append-nil (report_te
 verdict_alone : (reports : Reports) (report : Report) → reports.lockset ≡ Some report → reports.unordered ≡ None → is_verdict_of reports ≡ verdict_by report.stop (nat_lt 0 report.races)
 verdict_alone reports report one none = rw (one, none) refl
 
-verdict_from : (lost : Option ℕ) (r : Recording) (stop : Option Stopped) (s : Summary) → s ≡ report_with lost r [] false stop → verdict_by s.stop (nat_lt 0 s.races) ≡ verdict_of r [] false stop
+verdict_from : (lost : Option ℕ) (r : Recording) (stop : Option Stopped) (s : Summary) → s ≡ report_with None lost r [] false stop → verdict_by s.stop (nat_lt 0 s.races) ≡ verdict_of r [] false stop
 verdict_from lost r None s says = ap (λ (t : Summary). verdict_by t.stop (nat_lt 0 t.races)) says
 verdict_from lost r (Some stop) s says = ap (λ (t : Summary). verdict_by t.stop (nat_lt 0 t.races)) says
 
@@ -67,9 +69,9 @@ record IsAlone (text : List ℕ) (found left : Reports) (bytes : List ℕ) : Typ
   pub one : left.lockset ≡ Some report
   pub none : left.unordered ≡ None
   pub none_found : found.unordered ≡ None
-  pub run : IsRunOf text usual_limit recording stop
-  pub says : told report ≡ report_with (lost_told text) recording [] false stop
-  pub bytes_are : bytes ≡ output_of text recording [] false stop
+  pub run : IsRunOf None text usual_limit recording stop
+  pub says : told report ≡ report_with None (lost_told text) recording [] false stop
+  pub bytes_are : bytes ≡ output_of None text recording [] false stop
 
 -- without rules none asks for facts
 nothing_lacks : (replay : Replay) (raced found : Reports) → MayLack replay [] raced found → raced ≡ found
@@ -79,12 +81,13 @@ nothing_lacks replay raced found (inr (asks, again, left)) = absurd (cc)
 alone : {F : Type 0} (remaining : F → Option (List ℕ)) (replay : Replay) (text bytes : List ℕ) (output : IsOutput remaining replay text [] bytes) → IsUsual replay → IsAlone text output.found output.left bytes
 alone remaining replay text bytes output usual = with_report (there output.found.lockset (output.locks ∙ ap asks_locks usual.analysis))
   where
-    reports : AreReportsOfText Lockset text usual_limit [] false output.names output.found
+    reports : AreReportsOfText None Lockset text usual_limit [] false output.names output.found
     reports =
-        subst (λ (r : Reports). AreReportsOfText Lockset text usual_limit [] false output.names r) (nothing_lacks replay output.raced output.found output.facts)
-        (subst (λ (a : Analysis). AreReportsOfText a text usual_limit [] false output.names output.raced) usual.analysis
-        (subst (λ (limit : ℕ). AreReportsOfText replay.analysis text limit [] false output.names output.raced) usual.limit
-        (subst (λ (explain : Bool). AreReportsOfText replay.analysis text replay.byte_limit [] explain output.names output.raced) usual.explain output.reports)))
+        subst (λ (r : Reports). AreReportsOfText None Lockset text usual_limit [] false output.names r) (nothing_lacks replay output.raced output.found output.facts)
+        (subst (λ (a : Analysis). AreReportsOfText None a text usual_limit [] false output.names output.raced) usual.analysis
+        (subst (λ (limit : ℕ). AreReportsOfText None replay.analysis text limit [] false output.names output.raced) usual.limit
+        (subst (λ (explain : Bool). AreReportsOfText None replay.analysis text replay.byte_limit [] explain output.names output.raced) usual.explain
+        (subst (λ (part : Option PartView). AreReportsOfText part replay.analysis text replay.byte_limit [] replay.explain output.names output.raced) usual.part output.reports))))
 
     first : KeepFirst None output.found output.left
     first = subst (λ (m : Option ℕ). KeepFirst m output.found output.left) usual.max_races output.first
@@ -92,10 +95,14 @@ alone remaining replay text bytes output usual = with_report (there output.found
     none : output.found.unordered ≡ None
     none = not_there output.found.unordered (output.order ∙ ap asks_order usual.analysis)
 
-    form : bytes ≡ reports_text output.names output.left
-    form = subst (λ (form : Form). IsForm form output.names output.shown.table [] output.shown.excerpts output.left bytes) usual.form output.shown.form
+    headless : output.shown.heading ≡ []
+    headless = subst (λ (part : Option PartView). IsHeading part replay.explain output.shown.heading) usual.part output.shown.headed
 
-    with_run : (report : Report) → output.found.lockset ≡ Some report → IsReportOfRun false (lost_told text) reports.recording [] false report → IsAlone text output.found output.left bytes
+    form : bytes ≡ reports_text output.names output.left
+    form = output.shown.says ∙ ap (λ (heading : List ℕ). heading ++ output.shown.body) headless
+        ∙ subst (λ (form : Form). IsForm form output.names output.shown.table [] output.shown.excerpts output.left output.shown.body) usual.form output.shown.form
+
+    with_run : (report : Report) → output.found.lockset ≡ Some report → IsReportOfRun None false (lost_told text) reports.recording [] false report → IsAlone text output.found output.left bytes
     with_run report one is = record {
       recording = reports.recording;
       report = report;
@@ -110,7 +117,7 @@ alone remaining replay text bytes output usual = with_report (there output.found
     }
 
     with_report : (report : Report) × (output.found.lockset ≡ Some report) → IsAlone text output.found output.left bytes
-    with_report (report, one) = with_run report one (subst (λ (o : Option Report). IfSome o (λ r. IsReportOfRun false (lost_told text) reports.recording [] false r)) one reports.lockset)
+    with_report (report, one) = with_run report one (subst (λ (o : Option Report). IfSome o (λ r. IsReportOfRun None false (lost_told text) reports.recording [] false r)) one reports.lockset)
 
 pub usual-ends : {F : Type 0} (remaining : F → Option (List ℕ)) (replay : Replay) (text : List ℕ) (old new : Option (List ℕ)) (ended : Ended) → IsUsual replay → EndsAs remaining replay text [] old new ended
     → ReplaysTo text old new ended.status × (IsEndingOf text ended.ending × (ended.unordered ≡ 0))
@@ -130,17 +137,17 @@ usual-ends remaining replay text old new ended usual ends =
       (ends.ending, counted ends.output.found ends.order left.none_found),
     )
   where
-    counted : (reports : Reports) → (has_order : Bool) × (IsOrderOfText replay.analysis text replay.byte_limit has_order × (ended.unordered ≡ unordered_of has_order reports)) → reports.unordered ≡ None
+    counted : (reports : Reports) → (has_order : Bool) × (IsOrderOfText replay.part replay.analysis text replay.byte_limit has_order × (ended.unordered ≡ unordered_of has_order reports)) → reports.unordered ≡ None
         → ended.unordered ≡ 0
     counted reports (has_order, (says, count)) none = count ∙ no_order has_order reports none
 
 -- a fault of such a replay
-found_usually : (replay : Replay) (text : List ℕ) (found : RunFault) → IsUsual replay → IsFaultOfText replay.analysis (Some text) replay.byte_limit found → IsOfReading found → (IsFalse replay.strict → IsNoDamage found)
+found_usually : (replay : Replay) (text : List ℕ) (found : RunFault) → IsUsual replay → IsFaultOfText replay.part replay.analysis (Some text) replay.byte_limit found → IsOfReading found → (IsFalse replay.strict → IsNoDamage found)
     → IsUsualFault text (replay_fault found)
 found_usually replay text found usual cause from lenient =
-    by_case found (subst (λ (limit : ℕ). IsFaultOfText replay.analysis (Some text) limit found) usual.limit cause) from (lenient usual.strict)
+    by_case found (subst (λ (limit : ℕ). IsFaultOfText replay.part replay.analysis (Some text) limit found) usual.limit cause) from (lenient usual.strict)
   where
-    by_case : (found : RunFault) → IsFaultOfText replay.analysis (Some text) usual_limit found → IsOfReading found → IsNoDamage found → IsUsualFault text (replay_fault found)
+    by_case : (found : RunFault) → IsFaultOfText replay.part replay.analysis (Some text) usual_limit found → IsOfReading found → IsNoDamage found → IsUsualFault text (replay_fault found)
     by_case (running.Read (reading.Text f)) is read whole = is
     by_case (running.Read reading.Memory) is read whole = tt
     by_case (running.Read reading.Read) is read whole = tt
@@ -158,9 +165,9 @@ pub usual-fails : {F : Type 0} (remaining : F → Option (List ℕ)) (replay : R
 usual-fails remaining replay text old new why usual fails = by_case why fails
   where
     other : (why : Fault) → IsFoundFault replay text why × Keeps old new → IsUsualFault text why × Keeps old new
-    other why (is, keeps) = (subst (λ (w : Fault). IsUsualFault text w) (sym is.says) (found_usually replay text is.found usual is.cause (is.alone usual.workers usual.analysis) is.lenient), keeps)
+    other why (is, keeps) = (subst (λ (w : Fault). IsUsualFault text w) (sym is.says) (found_usually replay text is.found usual is.cause (is.alone usual.workers usual.part usual.analysis) is.lenient), keeps)
 
-    begun : (bytes : List ℕ) × IsOutput remaining replay text [] bytes × ((n : ℕ) × Appends old new (take n bytes)) → IsBegun text usual_limit [] false old new
+    begun : (bytes : List ℕ) × IsOutput remaining replay text [] bytes × ((n : ℕ) × Appends old new (take n bytes)) → IsBegun None text usual_limit [] false old new
     begun (bytes, output, (n, appended)) =
         let left : IsAlone text output.found output.left bytes = alone remaining replay text bytes output usual in
         record { recording = left.recording; stop = left.stop; count = n; run = left.run; written = subst (λ (b : List ℕ). Appends old new (take n b)) left.bytes_are appended }
@@ -169,6 +176,7 @@ usual-fails remaining replay text old new why usual fails = by_case why fails
     by_case fault.Write fails = (tt, begun fails)
     by_case fault.WriteRules (some, rest) = no_file replay.write_rules usual.write_rules some
     by_case fault.Memory keeps = (tt, keeps)
+    by_case fault.NoFile (some, rest) = no_file replay.part usual.part some
     by_case fault.Arguments fails = other fault.Arguments fails
     by_case (fault.Text f) fails = other (fault.Text f) fails
     by_case (fault.Suppressions file f) fails = other (fault.Suppressions file f) fails

@@ -1,5 +1,5 @@
 -- What a replay leaves, and its exit status.
-use Rattle.std.specs.Prelude.{◌≡◌, ◌≢◌, ◌≤◌, ◌⊎◌, ◌&&◌, ℕ, Bool, true, false, not, cond, List, [], length, ◌-◌, take, codes, Option, Some, None, IsSome, is_some, IfSome, IsFalse, Result, Ok, Err}
+use Rattle.std.specs.Prelude.{◌≡◌, ◌≢◌, ◌≤◌, ◌⊎◌, ◌&&◌, ◌++◌, ℕ, Bool, true, false, not, cond, List, [], length, ◌-◌, take, codes, Option, Some, None, IsSome, is_some, IfSome, IsFalse, Result, Ok, Err}
 use Rattle.std.specs.Io.KnownBytes.{Appends, Keeps}
 use Rattle.std.specs.Str.{bytes_eq}
 use Rattle.er_batch.specs.declared.options.Options.{Options}
@@ -7,6 +7,7 @@ use Rattle.er_batch.specs.declared.verdict.Verdict.{Verdict}
 use Rattle.er_batch.specs.declared.verdict.Verdict.TheVariants.{Clean, Races, Stopped}
 use Rattle.er_binary.specs.Meaning.{meant}
 use Rattle.er_exit.specs.Lines.{fault_line}
+use Rattle.er_exit.specs.Parts.{IsHeading}
 use Rattle.er_exit.specs.Statuses.{fault_status}
 use Rattle.er_exit.specs.Writes.{GetsLine}
 use Rattle.er_exit.specs.declared.faults.Fault.{Fault}
@@ -81,22 +82,26 @@ ArePlacesIn {F = F} remaining limit reports table = (file : F) × IfSome (remain
 abbrev pub MayHavePlaces : {F : Type 0} → (F → Option (List ℕ)) → Replay → Reports → PlaceTable → Type 0
 MayHavePlaces remaining replay reports table = HasNoPlace table ⊎ ((shows_places replay ≡ true) × ArePlacesIn remaining replay.byte_limit reports table)
 
--- these bytes are the form of these reports that is asked for, under these names and rules, with lines of source files only if a folder is given
+-- these bytes are the form of these reports that is asked for, behind its heading, under these names and rules, with lines of source files only if a folder is given
 pub record AreShown {F : Type 0} (remaining : F → Option (List ℕ)) (replay : Replay) (names : NameTable) (rules : List Target) (reports : Reports) (bytes : List ℕ) : Type 0 where
   pub table : PlaceTable
   pub excerpts : List Excerpt
   pub places : MayHavePlaces remaining replay reports table
   pub sources : replay.source ≡ None → excerpts ≡ []
-  pub form : IsForm replay.form names table rules excerpts reports bytes
+  pub heading : List ℕ
+  pub body : List ℕ
+  pub headed : IsHeading replay.part replay.explain heading
+  pub form : IsForm replay.form names table rules excerpts reports body
+  pub says : bytes ≡ heading ++ body
 
--- the text is a trace, and these bytes are the form of its reports by the analysis that is asked for, under these rules, also those by what the trace says
+-- the text is a trace, and these bytes are the form of its reports, or of those of the part that is replayed, by the analysis that is asked for, under these rules, also those by what the trace says
 -- of the program, and with the lines of the first races alone if their number is limited
 pub record IsOutput {F : Type 0} (remaining : F → Option (List ℕ)) (replay : Replay) (text : List ℕ) (rules : List Target) (bytes : List ℕ) : Type 0 where
   pub names : NameTable
   pub raced : Reports
   pub found : Reports
   pub left : Reports
-  pub reports : AreReportsOfText replay.analysis text replay.byte_limit rules replay.explain names raced
+  pub reports : AreReportsOfText replay.part replay.analysis text replay.byte_limit rules replay.explain names raced
   pub facts : MayLack replay rules raced found
   pub locks : is_some found.lockset ≡ asks_locks replay.analysis
   pub order : is_some found.unordered ≡ asks_order replay.analysis
@@ -119,7 +124,7 @@ pub record EndsAs {F : Type 0} (remaining : F → Option (List ℕ)) (replay : R
   pub written : Appends old new bytes
   pub status : ended.status ≡ verdict_status (is_verdict_of output.left)
   pub ending : IsEndingOf text ended.ending
-  pub order : (has_order : Bool) × (IsOrderOfText replay.analysis text replay.byte_limit has_order × (ended.unordered ≡ unordered_of has_order output.found))
+  pub order : (has_order : Bool) × (IsOrderOfText replay.part replay.analysis text replay.byte_limit has_order × (ended.unordered ≡ unordered_of has_order output.found))
   pub notes : ended.notes.items ≡ notes_text replay.unused_rules output.found rules (length (lines_of output.found) - length (lines_of output.left))
 
 -- how each replay ends that has no fault, whatever its text is: its notes are those of some reports, and there are none if none were asked for; by locks
@@ -134,16 +139,17 @@ pub record IsEndOf (replay : Replay) (ended : Ended) : Type 0 where
 pub record IsFoundFault (replay : Replay) (text : List ℕ) (why : Fault) : Type 0 where
   pub found : RunFault
   pub says : why ≡ replay_fault found
-  pub cause : IsFaultOfText replay.analysis (Some text) replay.byte_limit found
+  pub cause : IsFaultOfText replay.part replay.analysis (Some text) replay.byte_limit found
   pub lenient : IsFalse replay.strict → IsNoDamage found
-  pub alone : replay.workers ≡ 1 → replay.analysis ≡ Lockset → IsOfReading found
+  pub alone : replay.workers ≡ 1 → replay.part ≡ None → replay.analysis ≡ Lockset → IsOfReading found
 
 -- why a replay has not all that was asked for, and what it leaves: a beginning of the output if a write failed, all of it if only the file of rules
--- is missing, and else nothing
+-- is missing, and else nothing. A part of the standard input can't be replayed
 abbrev pub FailsAs : {F : Type 0} → (F → Option (List ℕ)) → Replay → List ℕ → List Target → Option (List ℕ) → Option (List ℕ) → Fault → Type 0
 FailsAs remaining replay text rules old new fault.Write = (bytes : List ℕ) × IsOutput remaining replay text rules bytes × ((n : ℕ) × Appends old new (take n bytes))
 FailsAs remaining replay text rules old new fault.WriteRules = IsSome replay.write_rules × ((bytes : List ℕ) × IsOutput remaining replay text rules bytes × Appends old new bytes)
 FailsAs remaining replay text rules old new fault.Memory = Keeps old new
+FailsAs remaining replay text rules old new fault.NoFile = IsSome replay.part × Keeps old new
 FailsAs remaining replay text rules old new other = IsFoundFault replay text other × Keeps old new
 
 -- the reader has failed exactly if this is a failed read, and the output exactly if it is a failed write
@@ -163,12 +169,18 @@ pub record AreOptionsOf (replay : Replay) (options : Options) : Type 0 where
   pub explain : options.explain ≡ replay.explain
   pub strict : options.strict ≡ replay.strict
   pub workers : options.workers ≡ replay.workers
+  pub part : options.part ≡ replay.part
+
+-- and what comes before its report is what is asked for
+pub record IsRunAs (replay : Replay) (options : Options) (heading : List ℕ) : Type 0 where
+  pub options : AreOptionsOf replay options
+  pub heading : IsHeading replay.part replay.explain heading
 
 -- A replay of the standard input with no option
 
 -- the whole report of the text was written, and the status is that of its verdict
 abbrev pub ReplaysTo : List ℕ → Option (List ℕ) → Option (List ℕ) → ℕ → Type 0
-ReplaysTo text old new status = (verdict : Verdict) × IsReplayed text usual_limit [] false old new verdict × (status ≡ verdict_status verdict)
+ReplaysTo text old new status = (verdict : Verdict) × IsReplayed None text usual_limit [] false old new verdict × (status ≡ verdict_status verdict)
 
 -- why there is no report: the text's first fault, or what no text decides
 abbrev pub IsUsualFault : List ℕ → Fault → Type 0
@@ -180,7 +192,7 @@ IsUsualFault text other = ⊥
 
 -- what the output has then: a beginning of the report if a write failed, and else nothing
 abbrev pub LeavesUsually : List ℕ → Option (List ℕ) → Option (List ℕ) → Fault → Type 0
-LeavesUsually text old new fault.Write = IsBegun text usual_limit [] false old new
+LeavesUsually text old new fault.Write = IsBegun None text usual_limit [] false old new
 LeavesUsually text old new other = Keeps old new
 
 -- before its notes or its fault are written: the whole report of the text, or why there is none

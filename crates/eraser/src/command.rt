@@ -23,7 +23,7 @@ use crate::until::{Cut, cut_by, replay_trace, report_cut, trace_path};
 use clap::error::ErrorKind;
 use er_binary::Decoded;
 use er_device::Device;
-use er_exit::{Fault, put, report_fault, run_demo};
+use er_exit::{Fault, heading_of, put, report_fault, run_demo};
 use er_lines::Shortcut;
 use er_load::Workload;
 use er_request::{Replay, Request, read_request};
@@ -143,21 +143,32 @@ where
         Ok(suppressions) => suppressions,
         Err(fault) => return Err(cut_by(rt.alloc(), fault)),
     };
+    let (part, files) = (replay.part, &replay.suppressions);
+    let heading = match heading_of(rt, part, replay.trace, files, replay.explain) {
+        Ok(heading) => heading,
+        Err(fault) => {
+            drop(suppressions);
+            return Err(cut_by(rt.alloc(), fault));
+        }
+    };
     let job = Job {
         replay,
         suppressions: &suppressions,
         options: &options,
+        heading: &heading,
     };
     if replay.progress {
         let size = trace_path(replay).and_then(|path| text_size(rt, path));
         let mut meter = Meter::new(rt, Some(progress), on_terminal, size);
         let shown = replay_trace(rt, job, input, shortcut, output, &mut meter);
         drop(suppressions);
+        drop(heading);
         return shown;
     }
     let mut meter: Meter<'_, R, P> = Meter::new(rt, None, false, None);
     let replayed = replay_trace(rt, job, input, shortcut, output, &mut meter);
     drop(suppressions);
+    drop(heading);
     replayed
 }
 
@@ -251,7 +262,8 @@ pub(crate) fn options_of(replay: &Replay<'_>, keys: NameKeys) -> Options
     ensures { AreOptionsOf replay.now result }
 {
     let options = Options::usual().with_explain(replay.explain);
-    let options = options.with_strict(replay.strict).with_keys(keys);
+    let options = options.with_strict(replay.strict).with_part(replay.part);
+    let options = options.with_keys(keys);
     let options = options.with_byte_limit(replay.byte_limit).unwrap();
     options.with_workers(replay.shards, replay.workers).unwrap()
 }

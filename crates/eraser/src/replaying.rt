@@ -1,10 +1,11 @@
 //! One replay: a trace in, its reports out as they are asked for.
-ghost use Rattle.std.specs.Prelude.{◌≡◌, ℕ, List, false, IsSome, is_some, IfOk, IfErr, IfSome, None};
+ghost use Rattle.std.specs.Prelude.{◌≡◌, ◌++◌, ℕ, List, false, IsSome, is_some, IfOk, IfErr, IfSome, None, Err};
 ghost use Rattle.er_device.specs.Device.{inner_of, has_failed};
 ghost use Rattle.er_batch.specs.declared.verdict.Verdict.TheVariants.{Stopped};
 ghost use Rattle.er_exit.specs.declared.faults.Fault.TheVariants.{WriteRules};
 ghost use Rattle.er_exit.specs.Notes.{HasAdded};
 ghost use Rattle.er_exit.specs.Writes.{LeavesOutput};
+ghost use Rattle.er_print.specs.Written.{FailsWriting, Memory, WritesReport};
 ghost use Rattle.er_report.specs.Reports.{HaveNames, asks_locks, asks_order};
 ghost use Rattle.er_rules.specs.Rules.{targets_of};
 ghost use Rattle.er_run.specs.Reports.{AreReportsOfText, IsOrderOfText, is_verdict_of};
@@ -12,7 +13,7 @@ ghost use Rattle.er_text.specs.Ending.{IsEndingOf};
 ghost use Rattle.eraser.specs.Faults.{replay_fault};
 ghost use Rattle.eraser.specs.Inner.Writes.{WritesSome};
 ghost use Rattle.eraser.specs.Notes.{notes_on};
-ghost use Rattle.eraser.specs.Replays.{AreOptionsOf, AreShown, EndsAs, FailsAs, FailsBy, IsEndOf, unordered_of, verdict_status};
+ghost use Rattle.eraser.specs.Replays.{AreShown, EndsAs, FailsAs, FailsBy, IsEndOf, IsRunAs, unordered_of, verdict_status};
 
 use crate::places::{excerpts_of, places_of, without_known};
 use er_device::Device;
@@ -28,7 +29,7 @@ use er_run::{Options, ReplayedTrace, RunFault, Verdict, Watch, replay_reports, v
 use er_text::Ending;
 use er_trace::Names;
 use er_triage::{Triaged, Wishes, triage};
-use std::alloc::Global;
+use std::alloc::{AllocError, Global};
 use std::fs::File;
 use std::io::{Read, Write};
 use std::rt::Files;
@@ -41,6 +42,8 @@ pub(crate) struct Job<'a> {
     pub(crate) replay: &'a Replay<'a>,
     pub(crate) suppressions: &'a Suppressions,
     pub(crate) options: &'a Options,
+    /// What comes before the report.
+    pub(crate) heading: &'a [u8],
 }
 
 /// What a replay came to that wrote its reports.
@@ -75,8 +78,8 @@ where
     requires output { has_failed output.old ≡ false }
     ensures end { IfOk result (IsEndOf job.entry.replay.now) }
     ensures text { IfOk result (λ ended. IfSome (D.remaining (inner_of source.old)) (λ text. IsEndingOf text ended.ending)) }
-    ensures ends { AreOptionsOf job.entry.replay.now job.entry.options.now → IfOk result (λ ended. IfSome (D.remaining (inner_of source.old)) (λ text. EndsAs R.File.remaining job.entry.replay.now text (targets_of job.entry.suppressions.now) (O.contents (inner_of output.old)) (O.contents (inner_of output.new)) ended)) }
-    ensures fails { AreOptionsOf job.entry.replay.now job.entry.options.now → IfErr result (λ why. IfSome (D.remaining (inner_of source.old)) (λ text. FailsAs R.File.remaining job.entry.replay.now text (targets_of job.entry.suppressions.now) (O.contents (inner_of output.old)) (O.contents (inner_of output.new)) why)) }
+    ensures ends { IsRunAs job.entry.replay.now job.entry.options.now job.entry.heading.now → IfOk result (λ ended. IfSome (D.remaining (inner_of source.old)) (λ text. EndsAs R.File.remaining job.entry.replay.now text (targets_of job.entry.suppressions.now) (O.contents (inner_of output.old)) (O.contents (inner_of output.new)) ended)) }
+    ensures fails { IsRunAs job.entry.replay.now job.entry.options.now job.entry.heading.now → IfErr result (λ why. IfSome (D.remaining (inner_of source.old)) (λ text. FailsAs R.File.remaining job.entry.replay.now text (targets_of job.entry.suppressions.now) (O.contents (inner_of output.old)) (O.contents (inner_of output.new)) why)) }
     ensures nothing { IfErr result (LeavesOutput (O.contents (inner_of output.old)) (O.contents (inner_of output.new))) }
     ensures failed { FailsBy (has_failed source.new) (has_failed output.new) result }
 {
@@ -149,9 +152,9 @@ fn deliver<R: Files + AllocGlobal, O: Write>(
     requires order { is_some reports.unordered ≡ asks_order job.replay.now.analysis }
     ensures end { IfOk result (IsEndOf job.entry.replay.now) }
     ensures text { IfOk result (λ ended. ended.ending ≡ ending) }
-    ensures ends { AreOptionsOf job.entry.replay.now job.entry.options.now → (text : List ℕ) → AreReportsOfText job.entry.replay.now.analysis text job.entry.replay.now.byte_limit (targets_of job.entry.suppressions.now) job.entry.replay.now.explain names.now reports
-        → IsEndingOf text ending → IsOrderOfText job.entry.replay.now.analysis text job.entry.replay.now.byte_limit has_order → IfOk result (EndsAs R.File.remaining job.entry.replay.now text (targets_of job.entry.suppressions.now) (O.contents (inner_of output.old)) (O.contents (inner_of output.new))) }
-    ensures fails { AreOptionsOf job.entry.replay.now job.entry.options.now → (text : List ℕ) → AreReportsOfText job.entry.replay.now.analysis text job.entry.replay.now.byte_limit (targets_of job.entry.suppressions.now) job.entry.replay.now.explain names.now reports
+    ensures ends { IsRunAs job.entry.replay.now job.entry.options.now job.entry.heading.now → (text : List ℕ) → AreReportsOfText job.entry.replay.now.part job.entry.replay.now.analysis text job.entry.replay.now.byte_limit (targets_of job.entry.suppressions.now) job.entry.replay.now.explain names.now reports
+        → IsEndingOf text ending → IsOrderOfText job.entry.replay.now.part job.entry.replay.now.analysis text job.entry.replay.now.byte_limit has_order → IfOk result (EndsAs R.File.remaining job.entry.replay.now text (targets_of job.entry.suppressions.now) (O.contents (inner_of output.old)) (O.contents (inner_of output.new))) }
+    ensures fails { IsRunAs job.entry.replay.now job.entry.options.now job.entry.heading.now → (text : List ℕ) → AreReportsOfText job.entry.replay.now.part job.entry.replay.now.analysis text job.entry.replay.now.byte_limit (targets_of job.entry.suppressions.now) job.entry.replay.now.explain names.now reports
         → IfErr result (FailsAs R.File.remaining job.entry.replay.now text (targets_of job.entry.suppressions.now) (O.contents (inner_of output.old)) (O.contents (inner_of output.new))) }
     ensures nothing { IfErr result (LeavesOutput (O.contents (inner_of output.old)) (O.contents (inner_of output.new))) }
     ensures failed { FailsBy false (has_failed output.new) result }
@@ -197,7 +200,7 @@ fn write_reports<R: Files + AllocGlobal, O: Write>(
     requires named { HaveNames names.now reports.now }
     ensures nothing { IfErr result (LeavesOutput (O.contents (inner_of output.old)) (O.contents (inner_of output.new))) }
     ensures failed { FailsBy false (has_failed output.new) result }
-    ensures shown { AreOptionsOf job.entry.replay.now job.entry.options.now → WritesSome (AreShown R.File.remaining job.entry.replay.now names.now (targets_of job.entry.suppressions.now) reports.now) (O.contents (inner_of output.old)) (O.contents (inner_of output.new)) result }
+    ensures shown { IsRunAs job.entry.replay.now job.entry.options.now job.entry.heading.now → WritesSome (AreShown R.File.remaining job.entry.replay.now names.now (targets_of job.entry.suppressions.now) reports.now) (O.contents (inner_of output.old)) (O.contents (inner_of output.new)) result }
 {
     let excerpts = excerpts_of(rt, job.replay.source, reports, names)?;
     let places = places_of(rt, job, reports);
@@ -205,11 +208,32 @@ fn write_reports<R: Files + AllocGlobal, O: Write>(
     let text = render(rt.alloc(), form, reports, names, &places, rules, &excerpts);
     drop(places);
     drop(excerpts);
-    match write_text(output, text) {
+    match write_headed(output, job.heading, text) {
         Ok(()) => Ok(()),
         Err(WriteFault::Memory) => Err(Fault::Memory),
         Err(WriteFault::Write) => Err(Fault::Write),
     }
+}
+
+// Writes a text behind its heading, unless there was no memory for it.
+fn write_headed<O: Write>(
+    output: &mut Device<O>,
+    heading: &[u8],
+    text: Result<Vec<u8>, AllocError>,
+) -> Result<(), WriteFault>
+    requires open { has_failed output.old ≡ false }
+    ensures bytes { (bytes : List ℕ) → IfOk text (λ text. text.items ≡ bytes) → WritesReport (O.contents (inner_of output.old)) (O.contents (inner_of output.new)) (heading.now ++ bytes) result }
+    ensures memory { IfErr text (λ why. result ≡ Err Memory) }
+    ensures failed { FailsWriting (has_failed output.new) result }
+{
+    let Ok(text) = text else {
+        return Err(WriteFault::Memory);
+    };
+    if output.write_all(heading).is_err() {
+        drop(text);
+        return Err(WriteFault::Write);
+    }
+    write_text(output, Ok(text))
 }
 
 // Writes the file of rules behind the reports, unless the replay stopped.

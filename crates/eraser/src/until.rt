@@ -9,7 +9,7 @@ ghost use Rattle.er_exit.specs.Lines.{fault_line};
 ghost use Rattle.er_exit.specs.Writes.{GetsLine, LeavesOutput};
 ghost use Rattle.er_rules.specs.Rules.{targets_of};
 ghost use Rattle.er_text.specs.Ending.{IsEndingOf};
-ghost use Rattle.eraser.specs.Replays.{AreOptionsOf, EndsAs, FailsAs, FailsFor, IsEndOf};
+ghost use Rattle.eraser.specs.Replays.{EndsAs, FailsAs, FailsFor, IsEndOf, IsRunAs};
 
 use crate::replaying::{Ended, Job, notes_of, replay_from};
 use crate::traces::{Directly, open_trace};
@@ -103,8 +103,8 @@ where
     requires output { has_failed output.old ≡ false }
     ensures end { IfOk result (IsEndOf job.entry.replay.now) }
     ensures text { job.entry.replay.now.trace.now ≡ codes "-" → IfOk result (λ ended. IfSome (I.remaining (inner_of input.old)) (λ text. IsEndingOf text ended.ending)) }
-    ensures ends { job.entry.replay.now.trace.now ≡ codes "-" → AreOptionsOf job.entry.replay.now job.entry.options.now → IfOk result (λ ended. IfSome (I.remaining (inner_of input.old)) (λ text. EndsAs R.File.remaining job.entry.replay.now text (targets_of job.entry.suppressions.now) (O.contents (inner_of output.old)) (O.contents (inner_of output.new)) ended)) }
-    ensures fails { job.entry.replay.now.trace.now ≡ codes "-" → job.entry.replay.now.until_fault ≡ false → AreOptionsOf job.entry.replay.now job.entry.options.now → IfErr result (λ cut. IfSome (I.remaining (inner_of input.old)) (λ text. FailsAs R.File.remaining job.entry.replay.now text (targets_of job.entry.suppressions.now) (O.contents (inner_of output.old)) (O.contents (inner_of output.new)) cut.fault)) }
+    ensures ends { job.entry.replay.now.trace.now ≡ codes "-" → IsRunAs job.entry.replay.now job.entry.options.now job.entry.heading.now → IfOk result (λ ended. IfSome (I.remaining (inner_of input.old)) (λ text. EndsAs R.File.remaining job.entry.replay.now text (targets_of job.entry.suppressions.now) (O.contents (inner_of output.old)) (O.contents (inner_of output.new)) ended)) }
+    ensures fails { job.entry.replay.now.trace.now ≡ codes "-" → job.entry.replay.now.until_fault ≡ false → IsRunAs job.entry.replay.now job.entry.options.now job.entry.heading.now → IfErr result (λ cut. IfSome (I.remaining (inner_of input.old)) (λ text. FailsAs R.File.remaining job.entry.replay.now text (targets_of job.entry.suppressions.now) (O.contents (inner_of output.old)) (O.contents (inner_of output.new)) cut.fault)) }
     ensures unfailed { job.entry.replay.now.trace.now ≡ codes "-" → job.entry.replay.now.until_fault ≡ false → IfOk result (λ ended. (has_failed input.new ≡ false) × (has_failed output.new ≡ false)) }
     ensures failed { job.entry.replay.now.trace.now ≡ codes "-" → job.entry.replay.now.until_fault ≡ false → IfErr result (λ cut. FailsFor (has_failed input.new) (has_failed output.new) cut.fault) }
     ensures alone { job.entry.replay.now.until_fault ≡ false → IfErr result (λ cut. (cut.notes.items ≡ []) × (cut.damage ≡ None)) }
@@ -154,7 +154,7 @@ fn replay_keeping<R: Files + AllocGlobal + Threads + Wait + Sync, D: Read, O: Wr
     requires output { has_failed output.old ≡ false }
     ensures end { IfOk result (IsEndOf job.entry.replay.now) }
     ensures text { IfOk result (λ ended. IfSome (D.remaining (inner_of source.old)) (λ text. IsEndingOf text ended.ending)) }
-    ensures ends { AreOptionsOf job.entry.replay.now job.entry.options.now → IfOk result (λ ended. IfSome (D.remaining (inner_of source.old)) (λ text. EndsAs R.File.remaining job.entry.replay.now text (targets_of job.entry.suppressions.now) (O.contents (inner_of output.old)) (O.contents (inner_of output.new)) ended)) }
+    ensures ends { IsRunAs job.entry.replay.now job.entry.options.now job.entry.heading.now → IfOk result (λ ended. IfSome (D.remaining (inner_of source.old)) (λ text. EndsAs R.File.remaining job.entry.replay.now text (targets_of job.entry.suppressions.now) (O.contents (inner_of output.old)) (O.contents (inner_of output.new)) ended)) }
 {
     let mut keeping = Device::new(Keeping::new(rt.alloc(), source));
     let first = replay_from(rt, job, &mut keeping, &ByText, output, watcher);

@@ -9,6 +9,6 @@ pub returns-clause-usual : goal.returns-clause-usual
 returns-clause-usual g c usual =
     usually g.R.File.Read.remaining c.args.replay.now (g.I.Read.remaining (inner_of c.args.input.now)) (g.O.Write.contents (inner_of c.args.output.now))
     (g.O.Write.contents (inner_of c.replay_trace-replayed.new.output)) (has_failed c.replay_trace-replayed.new.input) (has_failed c.replay_trace-replayed.new.output) (targets_of c.in-Ok.suppressions) c.replay_trace-replayed.result usual (c.in-Ok.ensures.none (c.deref.ensures.value ∙ usual.suppressions))
-    (c.replay_trace-replayed.ensures.ends usual.input c.options_of-options.ensures) (c.replay_trace-replayed.ensures.fails usual.input usual.until_fault c.options_of-options.ensures)
+    (c.replay_trace-replayed.ensures.ends usual.input (record { options = c.options_of-options.ensures; heading = c.in-Ok-heading_of.ensures.heading })) (c.replay_trace-replayed.ensures.fails usual.input usual.until_fault (record { options = c.options_of-options.ensures; heading = c.in-Ok-heading_of.ensures.heading }))
     c.replay_trace-replayed.ensures.end (c.replay_trace-replayed.ensures.alone usual.until_fault)
     (c.replay_trace-replayed.ensures.unfailed usual.input usual.until_fault) (c.replay_trace-replayed.ensures.failed usual.input usual.until_fault)

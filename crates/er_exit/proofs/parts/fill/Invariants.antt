@@ -1,0 +1,9 @@
+-- What was read fits.
+use Rattle.std.proofs.Common.{◌≤◌, ◌-◌, length}
+use Rattle.er_exit.proofs.parts.fill.Given as goal
+
+abbrev pub invariant-loop-filled : goal.invariant-loop-filled
+invariant-loop-filled g l = l.filled ≤ length l.buffer
+
+abbrev pub decreases-loop-filled : goal.decreases-loop-filled
+decreases-loop-filled g l = length l.buffer - l.filled
