@@ -38,11 +38,23 @@ pub(crate) fn open_trace<R: Files + AllocGlobal>(
 
 /// How many bytes the text of a trace has. None if that isn't known before all of it is read.
 pub(crate) fn text_size<R: Files + AllocGlobal>(rt: &R, path: &str) -> Option<u64> {
-    let mut text = Decoded::new(rt.alloc(), open_ordinary(rt, path)?);
+    if is_binary(rt, path) {
+        None
+    } else {
+        size_of(rt, path)
+    }
+}
+
+/// Whether this is the ordinary file of a binary trace.
+pub(crate) fn is_binary<R: Files + AllocGlobal>(rt: &R, path: &str) -> bool {
+    let Some(file) = open_ordinary(rt, path) else {
+        return false;
+    };
+    let mut text = Decoded::new(rt.alloc(), file);
     let _ = text.read(&mut [0]);
     let is_binary = text.is_binary();
     drop(text);
-    if is_binary { None } else { size_of(rt, path) }
+    is_binary
 }
 
 /// Writes the text that a trace means. Returns the exit status.
