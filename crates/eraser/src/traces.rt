@@ -11,7 +11,7 @@ use crate::command::keys_from;
 use er_binary::Decoded;
 pub(crate) use er_binary::Directly;
 use er_device::Device;
-use er_exit::{Fault, open_ordinary, size_of};
+use er_exit::Fault;
 use er_print::WriteFault;
 use er_request::Explain;
 use er_story::{tell_line, write_story};
@@ -34,27 +34,6 @@ pub(crate) fn open_trace<R: Files + AllocGlobal>(
 {
     let file = File::open(rt, path).map_err(|_| Fault::OpenTrace)?;
     Ok(Decoded::new(rt.alloc(), file))
-}
-
-/// How many bytes the text of a trace has. None if that isn't known before all of it is read.
-pub(crate) fn text_size<R: Files + AllocGlobal>(rt: &R, path: &str) -> Option<u64> {
-    if is_binary(rt, path) {
-        None
-    } else {
-        size_of(rt, path)
-    }
-}
-
-/// Whether this is the ordinary file of a binary trace.
-pub(crate) fn is_binary<R: Files + AllocGlobal>(rt: &R, path: &str) -> bool {
-    let Some(file) = open_ordinary(rt, path) else {
-        return false;
-    };
-    let mut text = Decoded::new(rt.alloc(), file);
-    let _ = text.read(&mut [0]);
-    let is_binary = text.is_binary();
-    drop(text);
-    is_binary
 }
 
 /// Writes the text that a trace means. Returns the exit status.
