@@ -150,7 +150,7 @@ def file_tests(record, commands, options, values):
         found = read(text)
         record(f"{shell}: options", found == options, f"\n  {found}\n  {options}")
         for name, says in commands.items():
-            record(f"{shell}: the command {name}", says.replace("'", "\\'") in text and re.search(rf"\b{name}\b", text))
+            record(f"{shell}: the command {name}", says.replace("'", "'\\''" if shell == "zsh" else "\\'") in text and re.search(rf"\b{name}\b", text))
         for (_, place), listed in values.items():
             record(f"{shell}: values of {place}", " ".join(listed) in text, f"{listed}")
     if shutil.which("zsh"):

@@ -219,3 +219,9 @@ usually remaining replay (Some text) old new read written rules (Err cut) usual 
   where
     all : IsUsualFault text cut.fault × LeavesUsually text old new cut.fault → EndsUsually text read written old new (Err cut)
     all (cause, leaves) = (failed, (cause, (leaves, whole)))
+
+-- without files of rules there are none
+pub without-rules : {F : Type 0} (remaining : F → Option (List ℕ)) (replay : Replay) (told old new : Option (List ℕ)) (rules : List Target) (result : Result Ended Cut) → rules ≡ []
+    → IfErr result (λ cut. IfSome told (λ text. FailsAs remaining replay text rules old new cut.fault)) → IfErr result (λ cut. IfSome told (λ text. FailsAs remaining replay text [] old new cut.fault))
+without-rules remaining replay told old new rules result none fails =
+    subst (λ (r : List Target). IfErr result (λ cut. IfSome told (λ text. FailsAs remaining replay text r old new cut.fault))) none fails

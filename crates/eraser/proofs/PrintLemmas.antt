@@ -31,7 +31,7 @@ consumes_more (Some x) None rest front back first second = absurd first
 consumes_more (Some x) (Some y) None front back first second = absurd second
 consumes_more (Some x) (Some y) (Some z) front back first second = first ∙ ap (λ l. front ++ l) second ∙ sym (append_assoc front back z)
 
-appends_more : (old middle new : Option (List ℕ)) (front back : List ℕ) → Appends old middle front → Appends middle new back → Appends old new (front ++ back)
+pub appends_more : (old middle new : Option (List ℕ)) (front back : List ℕ) → Appends old middle front → Appends middle new back → Appends old new (front ++ back)
 appends_more None middle new front back first second = tt
 appends_more (Some x) None new front back first second = absurd first
 appends_more (Some x) (Some y) None front back first second = absurd second
@@ -40,6 +40,22 @@ appends_more (Some x) (Some y) (Some z) front back first second = second ∙ ap 
 pub passed-more : (text left rest old middle new : Option (List ℕ)) (piece : List ℕ) → HasPassed text left old middle → Consumes left rest piece → Appends middle new piece → HasPassed text rest old new
 passed-more text left rest old middle new piece (bytes, (consumed, written)) read wrote =
     (bytes ++ piece, (consumes_more text left rest bytes piece consumed read, appends_more old middle new bytes piece written wrote))
+
+-- a beginning of the front is one of the whole
+pub torn_front : (old new : Option (List ℕ)) (front back : List ℕ) → (n : ℕ) × Appends old new (take n front) → (x : ℕ) × Appends old new (take x (front ++ back))
+torn_front old new front back (n, wrote) =
+    (length (take n front), subst (Appends old new) (sym (ap (take (length (take n front))) parts ∙ take-append_seam (take n front) (drop n front ++ back))) wrote)
+  where
+    parts : front ++ back ≡ take n front ++ (drop n front ++ back)
+    parts = ap (λ l. l ++ back) (sym (take-append-drop n front)) ∙ append_assoc (take n front) (drop n front) back
+
+-- and so is the front with a beginning of the rest
+pub torn_back : (old middle new : Option (List ℕ)) (front back : List ℕ) → Appends old middle front → (n : ℕ) × Appends middle new (take n back) → (x : ℕ) × Appends old new (take x (front ++ back))
+torn_back old middle new front back first (n, wrote) =
+    (length (front ++ take n back), subst (Appends old new) (sym (ap (take (length (front ++ take n back))) parts ∙ take-append_seam (front ++ take n back) (drop n back))) (appends_more old middle new front (take n back) first wrote))
+  where
+    parts : front ++ back ≡ (front ++ take n back) ++ drop n back
+    parts = ap (λ l. front ++ l) (sym (take-append-drop n back)) ∙ sym (append_assoc front (take n back) (drop n back))
 
 -- a reader that is at its end gave all of the text
 whole : (text left : Option (List ℕ)) (bytes : List ℕ) → Consumes text left bytes → IsAtEnd left → IfSome text (λ all. all ≡ bytes)

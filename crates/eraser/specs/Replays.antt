@@ -173,8 +173,8 @@ pub record AreOptionsOf (replay : Replay) (options : Options) : Type 0 where
 
 -- and what comes before its report is what is asked for
 pub record IsRunAs (replay : Replay) (options : Options) (heading : List ℕ) : Type 0 where
-  pub options : AreOptionsOf replay options
-  pub heading : IsHeading replay.part replay.explain heading
+  pub run : AreOptionsOf replay options
+  pub headed : IsHeading replay.part replay.explain heading
 
 -- A replay of the standard input with no option
 

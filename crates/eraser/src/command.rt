@@ -159,10 +159,7 @@ where
     let (part, files) = (replay.part, &replay.suppressions);
     let heading = match heading_of(rt, part, replay.trace, files, replay.explain) {
         Ok(heading) => heading,
-        Err(fault) => {
-            drop(suppressions);
-            return Err(cut_by(rt.alloc(), fault));
-        }
+        Err(fault) => return Err(cut_by(rt.alloc(), fault)),
     };
     let job = Job {
         replay,
@@ -175,13 +172,11 @@ where
         let mut meter = Meter::new(rt, Some(progress), on_terminal, size);
         let shown = replay_trace(rt, job, input, shortcut, output, &mut meter);
         drop(suppressions);
-        drop(heading);
         return shown;
     }
     let mut meter: Meter<'_, R, P> = Meter::new(rt, None, false, None);
     let replayed = replay_trace(rt, job, input, shortcut, output, &mut meter);
     drop(suppressions);
-    drop(heading);
     replayed
 }
 

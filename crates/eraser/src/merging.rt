@@ -58,7 +58,9 @@ fn write_merged<O: Write>(
     }
 }
 
-fn texts_of<R: Files + AllocGlobal>(rt: &R, paths: &[&str]) -> Result<Vec<Vec<u8>>, Fault> {
+fn texts_of<R: Files + AllocGlobal>(rt: &R, paths: &[&str]) -> Result<Vec<Vec<u8>>, Fault>
+    ensures { FailsOutput false result }
+{
     let mut texts = Vec::new(rt.alloc());
     for (place, path) in paths.iter().enumerate() {
         let text = text_at(rt, path, place as u64 + 1)?;
@@ -68,7 +70,9 @@ fn texts_of<R: Files + AllocGlobal>(rt: &R, paths: &[&str]) -> Result<Vec<Vec<u8
 }
 
 // The bytes of the file of this number. They are written into memory, so that a write fails for want of memory alone.
-fn text_at<R: Files + AllocGlobal>(rt: &R, path: &str, number: u64) -> Result<Vec<u8>, Fault> {
+fn text_at<R: Files + AllocGlobal>(rt: &R, path: &str, number: u64) -> Result<Vec<u8>, Fault>
+    ensures { FailsOutput false result }
+{
     let file = File::open(rt, path).map_err(|_| Fault::OpenReport(number))?;
     let mut text = Device::new(Vec::new(rt.alloc()));
     match print_text(&mut Device::new(file), &mut text) {

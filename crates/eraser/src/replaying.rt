@@ -5,7 +5,8 @@ ghost use Rattle.er_batch.specs.declared.verdict.Verdict.TheVariants.{Stopped};
 ghost use Rattle.er_exit.specs.declared.faults.Fault.TheVariants.{WriteRules};
 ghost use Rattle.er_exit.specs.Notes.{HasAdded};
 ghost use Rattle.er_exit.specs.Writes.{LeavesOutput};
-ghost use Rattle.er_print.specs.Written.{FailsWriting, Memory, WritesReport};
+ghost use Rattle.er_print.specs.Written.{FailsWriting, WritesReport};
+ghost use Rattle.er_print.specs.declared.report.WriteFault.TheVariants.{Memory};
 ghost use Rattle.er_report.specs.Reports.{HaveNames, asks_locks, asks_order};
 ghost use Rattle.er_rules.specs.Rules.{targets_of};
 ghost use Rattle.er_run.specs.Reports.{AreReportsOfText, IsOrderOfText, is_verdict_of};
@@ -21,7 +22,7 @@ use er_exit::{Fault, TextNotes, add_notes};
 use er_forms::render;
 use er_lines::Shortcut;
 use er_parallel::ReplayFault;
-use er_print::{WriteFault, write_text};
+use er_print::WriteFault;
 use er_report::Reports;
 use er_request::Replay;
 use er_rules::Suppressions;
@@ -229,11 +230,13 @@ fn write_headed<O: Write>(
     let Ok(text) = text else {
         return Err(WriteFault::Memory);
     };
-    if output.write_all(heading).is_err() {
-        drop(text);
+    let Ok(()) = output.write_all(heading) else {
         return Err(WriteFault::Write);
-    }
-    write_text(output, Ok(text))
+    };
+    let Ok(()) = output.write_all(&text) else {
+        return Err(WriteFault::Write);
+    };
+    Ok(())
 }
 
 // Writes the file of rules behind the reports, unless the replay stopped.
