@@ -15,4 +15,4 @@ returns-in_default-write_all-2-clause-bytes g c bytes same =
     let middle = g.O.Write.contents (inner_of c.write_all.new.self) in
     let new = g.O.Write.contents (inner_of c.write_all-2.new.self) in
     torn_back (g.O.Write.contents (inner_of c.args.output.now)) middle new c.args.heading.now bytes c.in-Ok-write_all.ensures.bytes
-        (subst (λ (text : List ℕ). (n : ℕ) × Appends middle new (take n text)) is c.in_default-write_all-2.ensures.bytes)
+    (subst (λ (text : List ℕ). (n : ℕ) × Appends middle new (take n text)) is c.in_default-write_all-2.ensures.bytes)
