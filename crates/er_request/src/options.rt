@@ -89,7 +89,7 @@ const DEMO: [Row; 1] = [Row { name: "name", shape: Shape::Word("NAME", ValuePars
 
 #[rattlefmt::skip]
 const BYTE_LIMIT: Row = Row { name: "byte-limit", shape: Shape::Default("BYTES", ValueParser::Unsigned(1, MOST_BYTES), "268435456"), without: &[],
-                              help: "The most bytes of text that a trace may have, 1 to 4611686018427387904. Without it the file of a binary trace has no limit" };
+                              help: "The most bytes that a text may have, 1 to 4611686018427387904" };
 
 const AFTER_EXPLAIN: &str = "\
 Example:
