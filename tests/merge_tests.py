@@ -154,8 +154,9 @@ def refused(record, folder):
         line = errors.split(b"\n")[0].decode()
         wanted = f"error: invalid value '{value}' for '--part <I/N>': " if value else "error: "
         record(f"no part {value!r}", (output, status) == (b"", 2) and line.startswith(wanted), f"{output}, {errors}, {status}")
-    for part in ("1/1", "4096/4096", "1/4096", "007/8"):
-        record(f"part {part}", run(["replay", "--part", part, str(path)])[1:] == (b"", int(part == "1/1")) or part == "007/8", f"{run(['replay', '--part', part, str(path)])}")
+    for value, part, parts in (("1/1", 1, 1), ("4096/4096", 4096, 4096), ("1/4096", 1, 4096), ("007/8", 7, 8)):
+        output, errors, status = run(["replay", "--part", value, str(path)])
+        record(f"part {value}", output.startswith(heading_of(part, parts, TRACE, [], False)) and (errors, status) == (b"", int(parts == 1)), f"{output}, {errors}, {status}")
     for option, rows in NOT_WITH.items():
         for words in rows:
             output, errors, status = run(["replay", "--part", "1/2", *words, *([] if words == ["-"] else [str(path)])], TRACE, cwd=folder)
@@ -192,9 +193,8 @@ def files_of_parts(record, folder, preloaded):
     record("rules that aren't there", run(["replay", "--part", "1/2", "--suppress", str(folder / "nothing"), str(path)]) == (b"", b"cannot open suppressions\n", 4))
     long = folder / "long.trace"
     for size in (65535, 65536, 65537, 131072 + 8):
-        text = b"eraser trace 1\nt1 write 0x1000\nt2 write 0x1000\n"
-        text += b"#" * 900 + b"\n"
-        text = (text * 0 + text + (b"#" * 999 + b"\n") * 200)[:size - 1] + b"\n"
+        text = b"eraser trace 1\nt1 write 0x1000\nt2 write 0x1000\n" + b"#" * 900 + b"\n"
+        text = (text + (b"#" * 999 + b"\n") * 200)[:size - 1] + b"\n"
         long.write_bytes(text)
         in_parts(record, folder, f"{size} bytes", 2, long, [])
     with open("/dev/full", "wb") as full:
