@@ -27,11 +27,11 @@ complete -c eraser -n '__fish_seen_subcommand_from replay' -l progress -d 'Show 
 complete -c eraser -n '__fish_seen_subcommand_from replay' -l hints -d 'Write on standard error, as on a terminal, what helps people behind the line of a fault'
 complete -c eraser -n '__fish_seen_subcommand_from replay' -l workers -x -a '(seq 16)' -d 'How many threads replay the trace, 1 to 16'
 complete -c eraser -n '__fish_seen_subcommand_from replay' -l shards -x -a '1 2 4 8 16 32 64' -d 'Into how many parts several workers cut the words, 1 to 64'
-complete -c eraser -n '__fish_seen_subcommand_from replay' -l byte-limit -x -d 'The most bytes of text that a trace may have, 1 to 4611686018427387904. Without it the file of a binary trace has no limit'
+complete -c eraser -n '__fish_seen_subcommand_from replay' -l byte-limit -x -d 'The most bytes that a text may have, 1 to 4611686018427387904'
 complete -c eraser -n '__fish_seen_subcommand_from replay' -s h -l help -d 'Print help'
 complete -c eraser -n '__fish_seen_subcommand_from replay' -F
 
-complete -c eraser -n '__fish_seen_subcommand_from explain' -l byte-limit -x -d 'The most bytes of text that a trace may have, 1 to 4611686018427387904. Without it the file of a binary trace has no limit'
+complete -c eraser -n '__fish_seen_subcommand_from explain' -l byte-limit -x -d 'The most bytes that a text may have, 1 to 4611686018427387904'
 complete -c eraser -n '__fish_seen_subcommand_from explain' -s h -l help -d 'Print help'
 complete -c eraser -n '__fish_seen_subcommand_from explain' -F
 

@@ -148,6 +148,8 @@ def long_text(record):
             record(f"trace 4: a long text {words}", found == (end % (4 * count, races), b"", 0), f"{found}")
         found = run(["replay", "--byte-limit", str(limit), file.name])
         record("trace 4: a long text with the limit of a text", found == (b"", fault, 2), f"{found}")
+        found = run(["explain", "2", file.name])
+        record("trace 4: the story of a step of a long text", found == (b"", fault, 2), f"{found}")
     found = run(["replay", "-"], data)
     record("trace 4: a long text from standard input", found == (b"", fault, 2), f"{found}")
 
