@@ -918,11 +918,14 @@ void eraser_forget(void)
 enum { CHILD_GOES_ON = true };
 #endif
 
-/* Under `starts`. Whether forks are watched, from the first detector on. */
+/* Whether forks are watched, from the first detector on. Under no lock: a fork that is under way may keep this waiting, and its child would find the lock
+ * taken for ever. Two threads may both come here, and then each fork counts as two, one inside the other. */
 static bool watch_forks(void)
 {
-    static bool are_watched = !CHILD_GOES_ON;
-    return are_watched = are_watched || pthread_atfork(before_fork, after_fork, begin_child) == 0;
+    static atomic_bool are_watched = !CHILD_GOES_ON;
+    if (!are_watched && pthread_atfork(before_fork, after_fork, begin_child) == 0)
+        are_watched = true;
+    return are_watched;
 }
 
 /* ---- Audits ---- */
@@ -1047,25 +1050,23 @@ eraser_detector *eraser_start(const struct eraser_options *options)
         errno = error;
         return NULL;
     }
+    if (!watch_forks()) {
+        pthread_key_delete(e->key);
+        give_back(e);
+        errno = ENOMEM;
+        return NULL;
+    }
     sig_atomic_t was = shut();
     take(&starts);
-    bool are_watched = watch_forks();
-    if (are_watched) {
-        e->start = ++started;
-        e->link = &detectors;
-        e->next = detectors;
-        if (e->next)
-            e->next->link = &e->next;
-        detectors = e;
-    }
+    e->start = ++started;
+    e->link = &detectors;
+    e->next = detectors;
+    if (e->next)
+        e->next->link = &e->next;
+    detectors = e;
     leave(&starts);
     reopen(was);
-    if (are_watched)
-        return e;
-    pthread_key_delete(e->key);
-    give_back(e);
-    errno = ENOMEM;
-    return NULL;
+    return e;
 }
 
 void eraser_stop(eraser_detector *e)

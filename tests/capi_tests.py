@@ -320,13 +320,14 @@ PROGRAMS = {
     "threads": (["64", "1500"], ["8", "1500"]),
     "settled": (["16", "20"], ["4", "5"]),
     "grows": ([], []),
+    "starts": ([], []),
 }
-# A sanitizer's malloc doesn't say what is taken.
-PLAIN = {"grows"}
+# A sanitizer's malloc doesn't say what is taken, and ThreadSanitizer has handlers of forks of its own.
+PLAIN = {"grows", "starts"}
 # Those that are run in audit mode too, which keeps each call.
 AUDITED = {"audits": [], "crowd": [], "handles": []}
 # What a program is linked with besides.
-LINKED = {"settled": ["-Wl,--wrap=eraser_access_span"], "lives": ["-Wl,--wrap=pthread_atfork"]}
+LINKED = {"settled": ["-Wl,--wrap=eraser_access_span"], "lives": ["-Wl,--wrap=pthread_atfork"], "starts": ["-Wl,--wrap=pthread_atfork"]}
 BUILDS = {
     "plain": ["-O2"],
     "AddressSanitizer and UndefinedBehaviorSanitizer": ["-fsanitize=address,undefined", "-fno-sanitize-recover=all"],

@@ -3,6 +3,7 @@
 in between.
 
 - the rule, by a second reading of it: random traces have the same races with and without their repeats, and so has a recorded one
+- what the writer's thin.c leaves out of random recordings is a repeat, and doesn't change a race (`tests/record/thin/any.c`)
 - the programs of tests/record and tests/record/order race at the same lines when they are recorded so
 - `tests/record/thin/repeats.c`: a comment READS n or WRITES n says how many words of a line are left
 
@@ -84,9 +85,9 @@ def report(lines, *options):
     return re.sub(r"^steps \d+", "steps", found[0].decode(), flags=re.M), *found[1:]
 
 
-def rule_fault(lines):
+def rule_fault(lines, kept=None):
     """What differs in the reports of a trace without its repeats, whose lines count as they did before. By locks the reasons are the same, too."""
-    numbers, kept = zip(*without_repeats(lines))
+    numbers, kept = zip(*(kept or without_repeats(lines)))
     for options in (["--analysis", "both"], ["--explain"]):
         text, errors, status = report(kept, *options)
         text = re.sub(r"\bline (\d+)", lambda found: f"line {numbers[int(found[1]) - 1]}", text)
@@ -100,6 +101,27 @@ def random_traces(findings, pool):
     findings.check("random traces without their repeats have the same races", not any(faults), next(filter(None, faults), ""))
     left_out = sum(len(lines) - len(list(without_repeats(lines))) for lines in (random_trace(random.Random(seed)) for seed in range(100)))
     findings.check("random traces have repeats", left_out > 1000, f"{left_out}")
+
+
+def writer_fault(program, seed):
+    """What differs in the reports of a random recording without what the writer leaves out, and how many lines that is."""
+    done = command([program, str(seed), str(random.Random(seed).choice([30, 100, 300]))])
+    if done.returncode or done.stderr:
+        return f"{seed}: {done.returncode} {done.stderr}", 0
+    lines = ["eraser trace 3", *(line[1:] for line in done.stdout.splitlines()), "end"]
+    is_kept = [True, *(line[0] == "+" for line in done.stdout.splitlines()), True]
+    kept = [each for each, is_there in zip(enumerate(lines, 1), is_kept) if is_there]
+    return rule_fault(lines, kept), len(lines) - len(kept)
+
+
+def writer(folder, findings, pool):
+    program = folder / "any"
+    built = command(["gcc", "-std=gnu11", "-O1", "-g", "-Wall", "-Wextra", "-fsanitize=address,undefined", "-fno-sanitize-recover=all",
+                     SOURCES / "thin/any.c", record_tests.TOP / "record/writer/thin.c", "-o", program])
+    findings.check("the writer's part is built", built.returncode == 0 and built.stderr == "", built.stderr)
+    found = list(pool.map(lambda seed: writer_fault(program, seed), range(100)))
+    findings.check("random recordings without what the writer leaves out", not any(fault for fault, _ in found), next((fault for fault, _ in found if fault), ""))
+    findings.check("the writer leaves something out", sum(count for _, count in found) > 1000, f"{sum(count for _, count in found)}")
 
 
 def repeats(folder, findings):
@@ -151,6 +173,7 @@ def tests(record):
     with tempfile.TemporaryDirectory() as name, concurrent.futures.ThreadPoolExecutor(WORKERS) as pool:
         folder = pathlib.Path(name)
         random_traces(findings, pool)
+        writer(folder, findings, pool)
         repeats(folder, findings)
         refused(folder, findings)
         sources = [source for source in sorted(SOURCES.glob("*.c*")) + sorted((SOURCES / "order").glob("*.c*")) if source.stem not in OTHERS]

@@ -20,8 +20,6 @@ struct channel {
     enum object_kind kind;
     const volatile void *object; /* NULL if it orders nothing */
 };
-struct channel channel_to(int file);
-struct channel channel_from(int file);
 /* Those of a socket. */
 struct channel socket_channel_to(int file);
 struct channel socket_channel_from(int file);
@@ -38,15 +36,11 @@ struct sending {
     struct draft draft;
 };
 
-static inline __attribute__((always_inline)) void begin_sending(struct sending *sending, struct channel channel, bool may_wait, uint64_t site)
+static inline __attribute__((always_inline)) void begin_sending(struct sending *sending, bool may_wait, uint64_t site)
 {
-    sending->is_drawn = false;
-    sending->channel = channel;
-    if (!channel.object)
-        return;
     shake();
     if (may_wait)
-        emit_signal(channel.kind, channel.object, site);
+        emit_signal(sending->channel.kind, sending->channel.object, site);
     else
         sending->is_drawn = emit_draw(&sending->draft);
 }
@@ -74,10 +68,10 @@ static inline bool may_wait(int file)
     HOOK type name parameters                                                                                       \
     {                                                                                                               \
         __typeof__(&name) real = find_##name();                                                                     \
-        struct sending sending = {.channel.object = NULL};                                                          \
+        struct sending sending = {.is_drawn = false};                                                               \
         type result;                                                                                                \
-        if (UNLIKELY(is_ordering()))                                                                                \
-            begin_sending(&sending, by, waits, CALLER);                                                             \
+        if (UNLIKELY(is_ordering()) && (sending.channel = (by)).object)                                             \
+            begin_sending(&sending, waits, CALLER);                                                                 \
         pthread_cleanup_push(cancel_sending, &sending);                                                             \
         result = real arguments;                                                                                    \
         pthread_cleanup_pop(0);                                                                                     \

@@ -14,7 +14,7 @@ static uint64_t mixed(uint64_t number, const void *bytes, size_t size)
     return number;
 }
 
-/* A number of an address. An address of IPv4 has one number in both of its forms. */
+/* A number of an address, or 0. An address of IPv4 has one number in both of its forms. */
 static uint64_t number_of(const void *address, socklen_t size, bool with_host)
 {
     const struct sockaddr_in *four = address;
@@ -22,8 +22,8 @@ static uint64_t number_of(const void *address, socklen_t size, bool with_host)
     const struct sockaddr_un *path = address;
     unsigned char host[16] = {[10] = 0xff, 0xff};
     uint64_t number = UINT64_C(0xcbf29ce484222325);
-    if (size < sizeof(sa_family_t))
-        return number;
+    if (!address || size < sizeof(sa_family_t) || size > sizeof(struct sockaddr_storage))
+        return 0;
     if (four->sin_family == AF_INET && size >= sizeof *four)
         memcpy(host + 12, &four->sin_addr, 4);
     else if (six->sin6_family == AF_INET6 && size >= offsetof(struct sockaddr_in6, sin6_scope_id))
@@ -40,7 +40,7 @@ static uint64_t number_of(const void *address, socklen_t size, bool with_host)
 
 static struct channel channel_by(uint64_t number)
 {
-    return (struct channel){OBJECT_SOCKET, (const volatile void *)(uintptr_t)(SOCKETS + 64 * (number >> 10))};
+    return (struct channel){OBJECT_SOCKET, number ? (const volatile void *)(uintptr_t)(SOCKETS + 64 * (number >> 10)) : NULL};
 }
 
 /* What is sent to an address, whoever sends it. A socket that takes what comes to all hosts has the port alone. */
@@ -58,6 +58,21 @@ static uint64_t number_at(int file, address_of find, bool with_host)
     return find(file, (struct sockaddr *)&address, &size) == 0 ? number_of(&address, size, with_host) : 0;
 }
 
+/* Once both ends of a connection have ended what they send, getpeername fails, also if there is something left to be received. The kernel still knows the
+ * address, and gives it to who asks for no more bytes than it has. */
+static int find_peer(int file, struct sockaddr *address, socklen_t *size)
+{
+    static const socklen_t sizes[] = {sizeof(struct sockaddr_in6), sizeof(struct sockaddr_in)};
+    if (getpeername(file, address, size) == 0)
+        return 0;
+    for (unsigned nth = 0; nth < sizeof sizes / sizeof *sizes; nth++) {
+        *size = sizes[nth];
+        if (getsockopt(file, SOL_SOCKET, SO_PEERNAME, address, size) == 0)
+            return 0;
+    }
+    return -1;
+}
+
 /* A connection is one object, whichever end somebody uses: it has the same two addresses at both. A datagram is of the address that it is sent to. */
 static struct channel channel_of(int file, address_of target)
 {
@@ -65,7 +80,9 @@ static struct channel channel_of(int file, address_of target)
     socklen_t size = sizeof type;
     getsockopt(file, SOL_SOCKET, SO_TYPE, &type, &size);
     bool is_connection = type == SOCK_STREAM || type == SOCK_SEQPACKET;
-    uint64_t number = is_connection ? number_at(file, getsockname, true) + number_at(file, getpeername, true) : number_at(file, target, false);
+    uint64_t number = is_connection ? number_at(file, find_peer, true) : number_at(file, target, false);
+    if (is_connection && number)
+        number += number_at(file, getsockname, true);
     errno = error;
     return channel_by(number);
 }
@@ -82,7 +99,24 @@ struct channel socket_channel_from(int file)
 
 static struct channel channel_to_any(int file, const void *address, socklen_t size)
 {
-    return address ? channel_at(address, size) : channel_to(file);
+    return address ? channel_at(address, size) : socket_channel_to(file);
+}
+
+static struct channel channel_of_message(int file, const struct msghdr *message)
+{
+    return message ? channel_to_any(file, message->msg_name, message->msg_namelen) : channel_by(0);
+}
+
+/* The first message's. Others may go elsewhere, and their signals come before. */
+static struct channel channel_of_messages(int file, const struct mmsghdr *messages, unsigned count, uint64_t site)
+{
+    struct channel first = count && messages ? channel_of_message(file, &messages->msg_hdr) : channel_by(0);
+    for (unsigned nth = 1; first.object && nth < count; nth++) {
+        struct channel other = channel_of_message(file, &messages[nth].msg_hdr);
+        if (other.object && other.object != first.object)
+            emit_signal(other.kind, other.object, site);
+    }
+    return first;
 }
 
 /* Where a socket listens. */
@@ -101,16 +135,17 @@ ssize_t __recv_chk(int file, void *bytes, size_t size, size_t room, int how);
 ssize_t __recvfrom_chk(int file, void *bytes, size_t size, size_t room, int how, __SOCKADDR_ARG address, socklen_t *length);
 
 #define WAITS (!(how & MSG_DONTWAIT) && may_wait(file))
-#define RECEIVE(type, name, parameters, arguments) READ_FROM(channel_from(file), type, name, parameters, arguments, result >= 0)
+/* What comes from the queue of errors is what was sent from here. */
+#define RECEIVE(type, name, parameters, arguments) \
+    READ_FROM(socket_channel_from(file), type, name, parameters, arguments, result >= 0 && !(how & MSG_ERRQUEUE))
 
-WRITE_TO(channel_to(file), WAITS, ssize_t, send, (int file, const void *bytes, size_t size, int how), (file, bytes, size, how), result >= 0)
+WRITE_TO(socket_channel_to(file), WAITS, ssize_t, send, (int file, const void *bytes, size_t size, int how), (file, bytes, size, how), result >= 0)
 WRITE_TO(channel_to_any(file, address.__sockaddr__, length), WAITS, ssize_t, sendto,
      (int file, const void *bytes, size_t size, int how, __CONST_SOCKADDR_ARG address, socklen_t length), (file, bytes, size, how, address, length), result >= 0)
-WRITE_TO(channel_to_any(file, message->msg_name, message->msg_namelen), WAITS, ssize_t, sendmsg, (int file, const struct msghdr *message, int how), (file, message, how),
-     result >= 0)
-WRITE_TO(channel_to_any(file, count ? messages->msg_hdr.msg_name : NULL, count ? messages->msg_hdr.msg_namelen : 0), WAITS, int, sendmmsg,
-     (int file, struct mmsghdr *messages, unsigned count, int how), (file, messages, count, how), result > 0)
-WRITE_TO(channel_to(file), may_wait(file), int, shutdown, (int file, int how), (file, how), result == 0)
+WRITE_TO(channel_of_message(file, message), WAITS, ssize_t, sendmsg, (int file, const struct msghdr *message, int how), (file, message, how), result >= 0)
+WRITE_TO(channel_of_messages(file, messages, count, CALLER), WAITS, int, sendmmsg, (int file, struct mmsghdr *messages, unsigned count, int how),
+     (file, messages, count, how), result > 0)
+WRITE_TO(socket_channel_to(file), may_wait(file), int, shutdown, (int file, int how), (file, how), result == 0)
 WRITE_TO(channel_at(address.__sockaddr__, length), may_wait(file), int, connect, (int file, __CONST_SOCKADDR_ARG address, socklen_t length), (file, address, length),
      result == 0 || errno == EINPROGRESS)
 
@@ -120,7 +155,8 @@ RECEIVE(ssize_t, recvfrom, (int file, void *bytes, size_t size, int how, __SOCKA
 RECEIVE(ssize_t, __recvfrom_chk, (int file, void *bytes, size_t size, size_t room, int how, __SOCKADDR_ARG address, socklen_t *length),
         (file, bytes, size, room, how, address, length))
 RECEIVE(ssize_t, recvmsg, (int file, struct msghdr *message, int how), (file, message, how))
-RECEIVE(int, recvmmsg, (int file, struct mmsghdr *messages, unsigned count, int how, struct timespec *time), (file, messages, count, how, time))
+READ_FROM(socket_channel_from(file), int, recvmmsg, (int file, struct mmsghdr *messages, unsigned count, int how, struct timespec *time),
+          (file, messages, count, how, time), result > 0 && !(how & MSG_ERRQUEUE))
 
 /* Who connects comes before who lets it in. */
 READ_FROM(channel_heard(file), int, accept, (int file, __SOCKADDR_ARG address, socklen_t *length), (file, address, length), result >= 0)

@@ -1,5 +1,7 @@
 #include "thin.h"
 
+#include <string.h>
+
 bool thin_is_on;
 uint64_t thin_left_out;
 
@@ -24,9 +26,16 @@ static uint8_t bits(uint64_t first, uint64_t end)
     return (uint8_t)(0xffu << first & 0xffu >> (8 - end));
 }
 
+/* What is no memory is lost each time. Of more units than there are entries, not all can be known. */
 bool thin_is_repeat(const struct thread *thread, bool is_write, uint64_t address, uint64_t bytes)
 {
     bool is_repeat = true;
+    if (address >= ADDRESS_END || bytes - 1 >= ADDRESS_END - address)
+        return false;
+    if (bytes > 8 * USES) {
+        thin_forget(address, bytes);
+        return false;
+    }
     for (uint64_t end = address + bytes; address < end;) {
         uint64_t unit = address / 8, next = 8 * unit + 8 < end ? 8 * unit + 8 : end;
         uint8_t touched = bits(address % 8, next - 8 * unit);
@@ -47,8 +56,12 @@ bool thin_is_repeat(const struct thread *thread, bool is_write, uint64_t address
 
 void thin_forget(uint64_t address, uint64_t bytes)
 {
-    if (!thin_is_on)
+    if (!thin_is_on || !bytes)
         return;
+    if (bytes > 8 * USES) {
+        memset(uses, 0, sizeof uses);
+        return;
+    }
     for (uint64_t unit = address / 8; unit <= (address + bytes - 1) / 8; unit++)
         use_of(unit)->stretch = 0;
 }

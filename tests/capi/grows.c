@@ -45,7 +45,8 @@ int main(int count, char **given)
     run_thread(use_all, NULL);
     use(WORDS, 1);
     size_t first = taken() - before;
-    CHECK(first <= (size_t)5 * WORDS);
+    /* No fewer than the words' states take, so malloc counts what there is. */
+    CHECK(first >= (size_t)4 * WORDS && first <= (size_t)5 * WORDS);
     use(WORDS, rounds);
     run_thread(use_all, NULL);
     CHECK(taken() - before == first);
