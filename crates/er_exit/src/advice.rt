@@ -62,27 +62,6 @@ pub fn open_ordinary<R: Files>(rt: &R, path: &str) -> Option<R::File> {
     File::open(rt, path).ok()
 }
 
-/// Whether this is the ordinary file of a binary trace.
-pub fn is_binary<R: Files + AllocGlobal>(rt: &R, path: &str) -> bool {
-    let Some(file) = open_ordinary(rt, path) else {
-        return false;
-    };
-    let mut text = Decoded::new(rt.alloc(), file);
-    let _ = text.read(&mut [0]);
-    let is_binary = text.is_binary();
-    drop(text);
-    is_binary
-}
-
-/// How many bytes the text of a trace has. None if that isn't known before all of it is read.
-pub fn text_size<R: Files + AllocGlobal>(rt: &R, path: &str) -> Option<u64> {
-    if is_binary(rt, path) {
-        None
-    } else {
-        size_of(rt, path)
-    }
-}
-
 fn advice_of<R: Files + AllocGlobal>(rt: &R, trouble: Trouble<'_>, byte_limit: u64) -> Text
     ensures { IfOk result (λ text. is_plain text.items ≡ true) }
 {

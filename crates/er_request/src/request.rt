@@ -56,8 +56,6 @@ pub struct Replay<'a> {
     pub workers: u32,
     /// How many bytes the trace may have, and the suppressions, at most 2^62.
     pub byte_limit: u64,
-    /// Whether a word gave this limit. Otherwise the file of a binary trace has none.
-    pub gives_limit: bool,
     pub ghost some_shards: { 1 ≤ shards },
     pub ghost few_shards: { shards ≤ 64 },
     pub ghost some_workers: { 1 ≤ workers },

@@ -5,7 +5,6 @@ ghost use Rattle.er_request.specs.Words.{IsUsual, asks_hints, asks_print, asks_p
 use crate::options::{DEMOS, MOST_BYTES, MOST_SHARDS, MOST_WORKERS, eraser_command};
 use crate::request::{Demo, Explain, Replay, Request};
 use clap::error::ErrorKind;
-use clap::parser::ValueSource;
 use clap::{ArgMatches, Command, Error};
 use er_parts::Part;
 use er_report::{Analysis, Form};
@@ -77,7 +76,6 @@ fn usual_replay<'a>(alloc: Global, hints: bool) -> Replay<'a>
         shards: 8,
         workers: 1,
         byte_limit: 268_435_456,
-        gives_limit: false,
     }
 }
 
@@ -181,10 +179,6 @@ fn replay_of<'a>(found: &ArgMatches<'a>, suppressions: Vec<&'a str>) -> Option<R
         shards: found.get_one::<u32>("shards")?.clamp(1, MOST_SHARDS),
         workers: found.get_one::<u32>("workers")?.clamp(1, MOST_WORKERS),
         byte_limit: found.get_one::<u64>("byte-limit")?.min(MOST_BYTES),
-        gives_limit: matches!(
-            found.value_source("byte-limit"),
-            Some(ValueSource::CommandLine)
-        ),
         suppressions,
     }))
 }

@@ -18,12 +18,12 @@ ghost use Rattle.eraser.specs.Replays.{AreOptionsOf, ComesTo, EndsAs, EndsUsuall
 use crate::merging::merge_files;
 use crate::meter::Meter;
 use crate::replaying::{Ended, Job, notes_of};
-use crate::traces::{Directly, explain_step, print_trace};
+use crate::traces::{Directly, explain_step, print_trace, text_size};
 use crate::until::{Cut, cut_by, replay_trace, report_cut, trace_path};
 use clap::error::ErrorKind;
 use er_binary::Decoded;
 use er_device::Device;
-use er_exit::{Fault, heading_of, is_binary, put, report_fault, run_demo, text_size};
+use er_exit::{Fault, heading_of, put, report_fault, run_demo};
 use er_lines::Shortcut;
 use er_load::Workload;
 use er_request::{Replay, Request, read_request};
@@ -83,8 +83,7 @@ where
     ensures unwatched { names_progress words.now ≡ false → Keeps (P.contents (inner_of progress.old)) (P.contents (inner_of progress.new)) }
 {
     match read_request(rt.alloc(), words, on_terminal) {
-        Ok(Request::Replay(mut asked)) => {
-            asked.byte_limit = limit_of(rt, &asked);
+        Ok(Request::Replay(asked)) => {
             let replayed = run_replay(rt, &asked, input, &Directly, output, progress, on_terminal);
             let status = end_replay(rt, &asked, replayed, errors);
             drop(asked);
@@ -110,18 +109,6 @@ where
             drop(error);
             status
         }
-    }
-}
-
-// How many bytes of text the trace may have. A binary trace says it in far fewer bytes, so its file has no limit that nobody asked for.
-fn limit_of<R: Files + AllocGlobal>(rt: &R, replay: &Replay<'_>) -> u64
-    ensures few { result ≤ 2 ^ 62 }
-    ensures input { replay.now.trace.now ≡ codes "-" → result ≡ replay.now.byte_limit }
-{
-    if replay.trace == "-" || replay.gives_limit || !is_binary(rt, replay.trace) {
-        replay.byte_limit
-    } else {
-        Options::MOST_BYTES
     }
 }
 
