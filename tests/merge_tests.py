@@ -29,6 +29,7 @@ import reference
 import trace4
 from alone import each_failed, each_refused, run_alone
 from site_tests import PROGRAM, preloaded, run
+from trace4_tests import is_sound
 
 TOP = pathlib.Path(__file__).resolve().parent.parent
 RANDOM_TRACES = 600
@@ -108,14 +109,6 @@ def of_random_traces(record, top, seeds):
             path.write_bytes(text)
             for at, (files, options) in enumerate(options_of(folder, reference.random_rules(seed))):
                 in_parts(record, folder, f"random {kind} trace {seed}", PARTS[(seed + at) % 4], path, files, *options, *(["--workers", "3"] if seed % 10 == 0 else []))
-
-
-def is_sound(text):
-    try:
-        reference.events_of(text)
-    except reference.Fault:
-        return False
-    return True
 
 
 def replayed(record, folder):
