@@ -1,5 +1,5 @@
 -- The lines of a report, as contracts compare them: by the lists that they hold.
-use Rattle.std.specs.Prelude.{ℕ, List, Option, Some, None}
+use Rattle.std.specs.Prelude.{Box, ℕ, List, [], Option, Some, None}
 use Rattle.er_event.specs.declared.refusals.Refusal.{Refusal}
 use Rattle.er_event.specs.declared.steps.Step.{Step}
 use Rattle.er_event.specs.declared.steps.WordState.{WordState}
@@ -24,10 +24,15 @@ pub data LineView : Type 0 where
   RefusedView : (number : ℕ) → (step : Step) → (refusal : Refusal) → LineView
   ShownView : (number : ℕ) → (word : ℕ) → (state : WordState) → LineView
 
+-- the locks of a race, which keeps none if they are none
+abbrev pub locks_in : {Z : Type 0} → Option (Box (List ℕ) Z) → List ℕ
+locks_in None = []
+locks_in (Some locks) = locks.value
+
 -- what a line says
 abbrev pub line_view : Line → LineView
-line_view (Race number thread kind word site held explained) = RacedView (record { line = number; thread = thread; deed = deed.Access kind word; site = site; held = held; explained = explained.items })
-line_view (Reused number thread range site held explained) = RacedView (record { line = number; thread = thread; deed = deed.Reuse range; site = site; held = held; explained = explained.items })
+line_view (Race number thread kind word site held explained) = RacedView (record { line = number; thread = thread; deed = deed.Access kind word; site = site; held = locks_in held; explained = explained.items })
+line_view (Reused number thread range site held explained) = RacedView (record { line = number; thread = thread; deed = deed.Reuse range.value; site = site; held = locks_in held; explained = explained.items })
 line_view (Refused number step refusal) = RefusedView number step refusal
 line_view (Shown number word state) = ShownView number word state
 

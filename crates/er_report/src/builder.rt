@@ -8,7 +8,7 @@ ghost use Rattle.er_journal.specs.declared.answers.Stopped.{Stopped as Stop};
 ghost use Rattle.er_report.specs.Builder.{ArePlain, ArePlainBy, IsBuilt, IsBuiltBy, IsExplained, IsReported, IsStepBy, KeepStates};
 ghost use Rattle.er_report.specs.Inner.Adding.{with_answer, HasRoom};
 ghost use Rattle.er_report.specs.Kept.{Follows};
-ghost use Rattle.er_report.specs.Lines.{line_view};
+ghost use Rattle.er_report.specs.Lines.{line_view, locks_in};
 ghost use Rattle.er_report.specs.Names.{HasNames, HasReasonNames, HasSiteName, HaveStateNames};
 ghost use Rattle.er_report.specs.declared.report.Because.{Because as Reason};
 ghost use Rattle.er_report.specs.Report.{Answering, RacesHaveLines, told, answer_line, answered_steps, no_reasons, report_by, report_of, stop_line};
@@ -302,15 +302,15 @@ fn line_of(
             kind,
             word,
             site: own,
-            held: held.copy()?,
+            held: kept_locks(alloc, held)?,
             explained: Vec::new(alloc),
         }),
         (Answer::Race, Event::Reuse(range)) => Some(Line::Reused {
             line: number,
             thread: step.thread,
-            range,
+            range: Box::new(alloc, range)?,
             site,
-            held: held.copy()?,
+            held: kept_locks(alloc, held)?,
             explained: Vec::new(alloc),
         }),
         (Answer::State(state), Event::Show(word)) => Some(Line::Shown {
@@ -325,4 +325,14 @@ fn line_of(
         }),
         _ => None,
     })
+}
+
+// A copy of the locks, if there are any.
+fn kept_locks(alloc: Global, held: &Lockset) -> Made<Option<Box<Lockset>>>
+    ensures { IfOk result (λ kept. locks_in kept ≡ held.now) }
+{
+    if held.is_empty() {
+        return Ok(None);
+    }
+    Ok(Some(Box::new(alloc, held.copy()?)?))
 }

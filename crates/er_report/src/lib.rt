@@ -25,7 +25,7 @@
 //! let report = summarise(alloc, &trace, &outcome, &Suppressions::new(alloc), false)?;
 //! assert_eq!(report.races, 1);
 //! if let [Line::Race { line, held, .. }] = report.lines.as_slice() {
-//!     // Here `line` is 3, and `held` is empty.
+//!     // Here `line` is 3, and `held` is None: the thread held no lock.
 //! }
 //! ```
 #![tactic(auto)]

@@ -1,13 +1,14 @@
 //! A report, as plain data.
 ghost use Rattle.std.specs.Prelude.{◌≡◌, IfSome};
-ghost use Rattle.er_report.specs.Lines.{RacedView, line_view, race_of};
+ghost use Rattle.er_report.specs.Lines.{RacedView, line_view, locks_in, race_of};
 
 use er_event::{
     Kind, LockId, Lockset, NoRoom, PageRange, Refusal, Site, Step, ThreadId, Word, WordState,
 };
 use std::marker::Model;
 
-/// One line of a report. Each names the line of the text that its step came from.
+/// One line of a report. Each names the line of the text that its step came from. A report may have millions of them, so what only few of
+/// them have stands apart.
 #[derive(Debug, PartialEq, Eq, Drop)]
 pub enum Line {
     /// An access that was answered with a race.
@@ -22,8 +23,8 @@ pub enum Line {
         word: Word,
         /// Where in the program it stands.
         site: Site,
-        /// The locks that the thread held then, in any mode.
-        held: Lockset,
+        /// The locks that the thread held then, in any mode. None if it held none, as at most races.
+        held: Option<Box<Lockset>>,
         /// The accesses that make it a race: the first, the joining, a write, and one for each lock of the joining. Empty in a
         /// report without explanations.
         explained: Vec<Because>,
@@ -35,11 +36,11 @@ pub enum Line {
         /// Who gave the memory back.
         thread: ThreadId,
         /// The words that were given back.
-        range: PageRange,
+        range: Box<PageRange>,
         /// Where in the program it stands.
         site: Site,
-        /// The locks that the thread held then, in any mode.
-        held: Lockset,
+        /// The locks that the thread held then, in any mode. None if it held none.
+        held: Option<Box<Lockset>>,
         /// The access that it is unordered with. Empty in a report without explanations.
         explained: Vec<Because>,
     },
@@ -83,7 +84,7 @@ impl Line {
                 thread: *thread,
                 deed: Deed::Access(*kind, *word),
                 site: *site,
-                held: held.as_slice(),
+                held: locks_in(held),
                 explained,
             }),
             Line::Reused {
@@ -96,15 +97,27 @@ impl Line {
             } => Some(Race {
                 line: *line,
                 thread: *thread,
-                deed: Deed::Reuse(*range),
+                deed: Deed::Reuse(**range),
                 site: *site,
-                held: held.as_slice(),
+                held: locks_in(held),
                 explained,
             }),
             Line::Refused { .. } | Line::Shown { .. } => None,
         }
     }
 }
+
+// The locks of a race that keeps none if they are none.
+fn locks_in(held: &Option<Box<Lockset>>) -> &[LockId]
+    ensures { result.now ≡ locks_in held.now }
+{
+    match held {
+        Some(locks) => locks.as_slice(),
+        None => &[],
+    }
+}
+
+const _: () = prove!(size_of::<Line>() == 80);
 
 /// What a thread did that was answered with a race.
 #[derive(Clone, Copy, Debug, PartialEq, Eq, Drop)]
