@@ -11,6 +11,9 @@ use er_trace::Names;
 use std::alloc::{AllocError, Global};
 use std::io::Write;
 
+// What most lines take, in bytes.
+const LINE: usize = 48;
+
 /// What a call returns that puts bytes behind others.
 pub type Put = Result<(), AllocError>;
 
@@ -93,6 +96,8 @@ fn put_report(out: &mut Vec<u8>, of: ReportKind, report: &Report, names: &Names)
     requires { All (HasNames names.now) report.now.lines.items }
     ensures { OnOk result (out.new.items ≡ out.old.items ++ text_of_report of names.now (told report.now)) }
 {
+    // A long text that grew step by step would leave the room that it grew out of behind.
+    out.reserve(report.lines.len().saturating_mul(LINE))?;
     for line in &report.lines {
         put_line(out, of, names, line)?;
     }
