@@ -74,7 +74,7 @@ lone_named of names table race (suc site) (deed.Access kind word) placed named =
 reuse_named : (of : Mention) (names : NameTable) (table : PlaceTable) (line : Line) → ArePlaced table → HasNames names line
     → All (HasMentionName of names table) (reuse_mentions of table (race_of (line_view line)))
 reuse_named of names table (Race number thread kind word site held explained) placed named = lone_named of names table _ site (deed.Access kind word) placed named
-reuse_named of names table (Reused number thread range site held explained) placed named = lone_named of names table _ site (deed.Reuse range) placed named
+reuse_named of names table (Reused number thread range site held explained) placed named = lone_named of names table _ site (deed.Reuse range.value) placed named
 reuse_named of names table (Refused number step refusal) placed named = All-nil (HasMentionName of names table)
 reuse_named of names table (Shown number word state) placed named = All-nil (HasMentionName of names table)
 
