@@ -324,10 +324,18 @@ PROGRAMS = {
 }
 # A sanitizer's malloc doesn't say what is taken, and ThreadSanitizer has handlers of forks of its own.
 PLAIN = {"grows", "starts"}
-# Those that are run in audit mode too, which keeps each call.
-AUDITED = {"audits": [], "crowd": [], "handles": []}
+# Those that are run in audit mode too, which keeps each call. `grows` measures memory, and `starts` makes no call that an audit keeps.
+AUDITED = {
+    "handles": ([], []),
+    "audits": ([], []),
+    "crowd": ([], []),
+    "lives": ([], []),
+    "breaks": ([], ["apart"]),
+    "threads": (["16", "1500"], ["4", "1500"]),
+    "settled": (["8", "5"], ["4", "2"]),
+}
 # What a program is linked with besides.
-LINKED = {"settled": ["-Wl,--wrap=eraser_access_span"], "lives": ["-Wl,--wrap=pthread_atfork"], "starts": ["-Wl,--wrap=pthread_atfork"]}
+LINKED = {"settled": ["-Wl,--wrap=eraser_access_span,--wrap=eraser_record"], "lives": ["-Wl,--wrap=pthread_atfork"], "starts": ["-Wl,--wrap=pthread_atfork"]}
 BUILDS = {
     "plain": ["-O2"],
     "AddressSanitizer and UndefinedBehaviorSanitizer": ["-fsanitize=address,undefined", "-fno-sanitize-recover=all"],
@@ -340,10 +348,10 @@ def programs(record, folder):
         name, kind = asked
         target, built = build(folder, name, *BUILDS[kind])
         # AddressSanitizer's locks may be held by a thread that a forked child hasn't, so that the child waits for ever if it starts one.
-        words = PROGRAMS[name][kind == "ThreadSanitizer" or (name == "breaks" and kind != "plain")]
-        runs = [command([target, *words])] if built.returncode == 0 else []
+        which = kind == "ThreadSanitizer" or (name == "breaks" and kind != "plain")
+        runs = [command([target, *PROGRAMS[name][which]])] if built.returncode == 0 else []
         if runs and name in AUDITED:
-            runs.append(command([target, *AUDITED[name]], env=AUDIT))
+            runs.append(command([target, *AUDITED[name][which]], env=AUDIT))
         return built, runs
 
     asked = [(name, kind) for kind in BUILDS for name in PROGRAMS if kind == "plain" or name not in PLAIN]
