@@ -255,9 +255,10 @@ static uint32_t meet(eraser_detector *e, struct self **found)
         e->selves = self;
     }
     leave(&e->crowd);
-    if (status != ERASER_QUIET)
+    if (status == ERASER_QUIET)
+        *found = self;
+    else
         forget(self);
-    *found = self;
     return status;
 }
 
