@@ -137,7 +137,7 @@ uint32_t eraser_locked(eraser_detector *detector, const volatile void *lock, boo
 uint32_t eraser_unlocking(eraser_detector *detector, const volatile void *lock);
 /* No thread holds it. Its number may be given to a lock that is new. Until the words that it protected are freed, that lock then counts as this one. */
 uint32_t eraser_destroying(eraser_detector *detector, const volatile void *lock);
-/* Each word that has one of these bytes is virgin again. */
+/* Each word that has one of these bytes is virgin again. It takes no memory without an audit; if an audit finds none, the pages before are done. */
 uint32_t eraser_freeing(eraser_detector *detector, const volatile void *address, size_t size);
 
 /* This thread's accesses between the two are ignored. They nest. */
@@ -196,7 +196,7 @@ uint32_t eraser_level(eraser_thread *thread, uint32_t level) ERASER_NONNULL;
 /* The numbers of the locks that it holds, rising, the locks of its level last: the first `room` of them. `count` is how many there are. */
 uint32_t eraser_held(eraser_thread *thread, uint32_t *locks, size_t room, size_t *count) ERASER_NONNULL;
 
-/* An access of the word that has this byte. */
+/* An access of the word that has this byte. A wrong handle is told of first, the thread's and then the shard's, also if the thread ignores its accesses. */
 uint32_t eraser_access(eraser_shard *shard, eraser_thread *thread, uint64_t address, bool writes) ERASER_NONNULL;
 /* An access of each word that has one of these bytes, in order. If one is a race, first_race is the address of the first such word, else UINT64_MAX. If it is
  * refused for lack of memory or by a full table, the words before the refused one are noted.

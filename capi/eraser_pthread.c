@@ -255,9 +255,10 @@ static uint32_t meet(eraser_detector *e, struct self **found)
         e->selves = self;
     }
     leave(&e->crowd);
-    if (status != ERASER_QUIET)
+    if (status == ERASER_QUIET)
+        *found = self;
+    else
         forget(self);
-    *found = self;
     return status;
 }
 
@@ -365,7 +366,7 @@ static uint32_t note(struct place *place, uint64_t word, uint32_t thread)
 /* ---- Settled accesses ----
  *
  * An access that left its word's state as it was leaves it so again, and is quiet, as long as the word has that state and the access is by the same
- * thread, of the same kind, with the same locks. (er_online proves it: a_settled_access_may_be_left_out.) A thread remembers such accesses, with the
+ * thread, of the same kind, with the same locks. (er_online proves that any number of these may be left out: settled_accesses_may_be_left_out.) A thread remembers such accesses, with the
  * version of their shard. Each call that may change a word's state changes the version before it leaves the shard's lock. So if the version is still the
  * remembered one when it is loaded, no state has changed between the access that is remembered and that load. The access is placed there, among the calls
  * of the shard, where it would change nothing. So it holds for each word by itself: what happened to it before the access, in whatever thread, has published

@@ -8,7 +8,8 @@
   what other bugs come to, but for those that none can see
 - a million words take at most 5 bytes each, and nothing more when they are used again
 - the programs of tests/capi, plain and with AddressSanitizer, UndefinedBehaviorSanitizer and ThreadSanitizer: many threads, wrong handles, lives of locks,
-  threads and detectors, signal handlers, forks
+  threads and detectors, signal handlers, forks. In audit mode too: they settle, many threads into as many steps as they made
+- no proved call asks anything of its caller by a contract, and the header has all of them
 - the headers have no warning in C11 and in C++17, by gcc and clang, and the statuses in Rust are the header's
 - capi/build makes the library of the archive and the sources that are there, also of older ones
 - the address in a race's line is that of the call, by addr2line
@@ -324,10 +325,18 @@ PROGRAMS = {
 }
 # A sanitizer's malloc doesn't say what is taken, and ThreadSanitizer has handlers of forks of its own.
 PLAIN = {"grows", "starts"}
-# Those that are run in audit mode too, which keeps each call.
-AUDITED = {"audits": [], "crowd": [], "handles": []}
+# Those that are run in audit mode too, which keeps each call. `grows` measures memory, and `starts` makes no call that an audit keeps.
+AUDITED = {
+    "handles": ([], []),
+    "audits": ([], []),
+    "crowd": ([], []),
+    "lives": ([], []),
+    "breaks": ([], ["apart"]),
+    "threads": (["16", "1500"], ["4", "1500"]),
+    "settled": (["8", "5"], ["4", "2"]),
+}
 # What a program is linked with besides.
-LINKED = {"settled": ["-Wl,--wrap=eraser_access_span"], "lives": ["-Wl,--wrap=pthread_atfork"], "starts": ["-Wl,--wrap=pthread_atfork"]}
+LINKED = {"settled": ["-Wl,--wrap=eraser_access_span,--wrap=eraser_record"], "lives": ["-Wl,--wrap=pthread_atfork"], "starts": ["-Wl,--wrap=pthread_atfork"]}
 BUILDS = {
     "plain": ["-O2"],
     "AddressSanitizer and UndefinedBehaviorSanitizer": ["-fsanitize=address,undefined", "-fno-sanitize-recover=all"],
@@ -340,10 +349,10 @@ def programs(record, folder):
         name, kind = asked
         target, built = build(folder, name, *BUILDS[kind])
         # AddressSanitizer's locks may be held by a thread that a forked child hasn't, so that the child waits for ever if it starts one.
-        words = PROGRAMS[name][kind == "ThreadSanitizer" or (name == "breaks" and kind != "plain")]
-        runs = [command([target, *words])] if built.returncode == 0 else []
+        which = kind == "ThreadSanitizer" or (name == "breaks" and kind != "plain")
+        runs = [command([target, *PROGRAMS[name][which]])] if built.returncode == 0 else []
         if runs and name in AUDITED:
-            runs.append(command([target, *AUDITED[name]], env=AUDIT))
+            runs.append(command([target, *AUDITED[name][which]], env=AUDIT))
         return built, runs
 
     asked = [(name, kind) for kind in BUILDS for name in PROGRAMS if kind == "plain" or name not in PLAIN]
@@ -461,6 +470,11 @@ def headers(record, folder):
                 text, standard = f"#include <{name}>\n#include <{name}>\n", "c11" if language == "c" else "c++17"
                 done = command([compiler, "-x", language, f"-std={standard}", *WARNINGS, f"-I{CAPI}", "-c", "-", "-o", folder / "header.o"], input=text)
                 record(f"capi: {name} by {compiler}", (done.returncode, done.stderr) == (0, ""), f"{done}")
+    code = "".join(path.read_text() for path in sorted((TOP / "crates/eraser_c/src").glob("*.rt")))
+    exports = re.findall(r'^pub extern "C" fn (\w+)(.*?)^\{', code, re.M | re.S)
+    declared = set(re.findall(r"^uint32_t (\w+)\(", (CAPI / "eraser_detector.h").read_text(), re.M))
+    asks = [name for name, contract in exports if "requires" in contract or name not in declared]
+    record("capi: no proved call asks anything", len(exports) == code.count("no_mangle") > 15 and not asks, f"{len(exports)} {asks}")
     line = re.compile(r"^ *(?:pub const )?(ERASER_[A-Z_]+)(?:: u32)? = (\d+)[,;]? *(?:/\*.*)?$", re.M)
     statuses = [dict(line.findall((CAPI / name).read_text())) for name in ("eraser_detector.h", "rust/src/lib.rs")]
     record("capi: the statuses in Rust", len(statuses[0]) > 20 and statuses[0] == statuses[1], f"{statuses}")

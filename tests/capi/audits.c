@@ -106,6 +106,7 @@ static void check_answers(void)
     CHECK(eraser_release(&seats[0], 5, true) == ERASER_QUIET);
     CHECK(eraser_level(&seats[1], 3) == ERASER_QUIET && eraser_level(&seats[1], 32) == ERASER_LEVEL_TOO_HIGH);
     CHECK(eraser_thread_ignore_on(&seats[2]) == ERASER_QUIET && write_word(2, 8192) == ERASER_IGNORED);
+    CHECK(eraser_record((eraser_shard *)(void *)&seats[0], &seats[2], ticket, 8192, true) == ERASER_WRONG_HANDLE);
     CHECK(eraser_thread_ignore_off(&seats[2]) == ERASER_QUIET && eraser_thread_ignore_off(&seats[2]) == ERASER_IGNORE_NOT_ON);
     CHECK(steps_of_all() == 6);
     CHECK(write_word(1, 8192) == ERASER_QUIET && write_word(0, 8192) == ERASER_RACE && write_word(2, 8192) == ERASER_QUIET);

@@ -1,4 +1,4 @@
-/* Signal handlers and forks while other threads are at work: no call waits for what it interrupted. */
+/* Signal handlers and forks while other threads are at work: no call waits for what it interrupted. An audit settles, but in a child, where lists are missing. */
 #include "checks.h"
 
 #include <sched.h>
@@ -12,7 +12,8 @@ static eraser_detector *detector;
 static int data[WORDS], of_handler, of_child, before_child;
 static char locks[LOCKS], handler_lock;
 static atomic_bool stops;
-static atomic_uint busy_calls, quiet_calls, other_calls, races, handled;
+static atomic_uint busy_calls, quiet_calls, other_calls, races, handled, forked, met;
+static bool audits;
 
 static void count_race(void *context, const struct eraser_race *race)
 {
@@ -44,8 +45,11 @@ static void handle(int number)
 static void *interrupted(void *unused)
 {
     (void)unused;
-    while (!stops)
-        if (eraser_write(detector, data, sizeof data) > ERASER_RACE)
+    /* An audit keeps each access, so it gets one in 100 calls of the handler. */
+    for (unsigned written = 0; !stops;)
+        if (audits && 100 * written > busy_calls + quiet_calls)
+            eraser_look(detector, data);
+        else if (written++, eraser_write(detector, data, sizeof data) > ERASER_RACE)
             atomic_fetch_add(&other_calls, 1);
     return NULL;
 }
@@ -121,7 +125,11 @@ static void *at_work(void *given)
 {
     int *mine = given;
     for (unsigned round = 0; !stops; round++) {
+        /* An audit keeps what these do, so they do it four times between two forks, and else take the same locks for nothing. */
+        while (audits && round > 4 * forked && !stops)
+            CHECK(eraser_look(detector, mine) <= ERASER_EXCLUSIVE && eraser_destroying(detector, mine) == ERASER_QUIET);
         CHECK(eraser_locked(detector, &locks[round % LOCKS], true) == ERASER_QUIET);
+        met += round == 0;
         CHECK(eraser_write(detector, mine, WORDS / WORKERS / 2 * 4) == ERASER_QUIET);
         CHECK(eraser_unlocking(detector, &locks[round % LOCKS]) == ERASER_QUIET);
         if (round % 64 == 0)
@@ -149,11 +157,13 @@ static int child(bool threads)
     for (int at = 0; at < LOCKS; at++)
         if (eraser_locked(detector, &locks[at], true) != ERASER_QUIET || eraser_unlocking(detector, &locks[at]) != ERASER_QUIET)
             return 3;
+    if (eraser_settle(detector, NULL) != (audits ? ERASER_SEAT_MISSING : ERASER_WRONG_HANDLE))
+        return 4;
     if (threads) {
         eraser_write(detector, &of_child, sizeof of_child);
         run_thread(in_child, NULL);
         if (races != before + 1)
-            return 4;
+            return 5;
         eraser_stop(detector);
     }
     return 0;
@@ -167,11 +177,14 @@ static void check_forks(bool threads)
     for (int at = 0; at < WORKERS; at++)
         CHECK(pthread_create(&workers[at], NULL, at_work, &data[WORDS / WORKERS * at]) == 0);
     CHECK(eraser_locked(detector, &handler_lock, true) == ERASER_QUIET && eraser_write(detector, &before_child, 4) == ERASER_QUIET);
+    while (met < WORKERS)
+        sched_yield();
     for (int made = 0; made < FORKS; made++) {
         int status = 0;
         /* Between pauses too, where nothing is under way. */
         if (made % 3 == 1)
             eraser_pause();
+        forked++;
         pid_t pid = fork();
         if (made % 3 == 1)
             eraser_resume();
@@ -191,10 +204,13 @@ int main(int words, char **given)
 {
     struct eraser_options options = {.shards = 8, .on_race = count_race};
     (void)given;
+    options.audit = audits = is_audited();
+    CHECK(unsetenv("ERASER_AUDIT") == 0); /* eraser_stop would say in a child that lists are missing */
     CHECK((detector = eraser_start(&options)) != NULL);
     check_signals();
     check_pauses();
     check_forks(words == 1);
+    CHECK(eraser_settle(detector, NULL) == (audits ? ERASER_QUIET : ERASER_WRONG_HANDLE));
     eraser_stop(detector);
     printf("fine\n");
     return 0;

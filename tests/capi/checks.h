@@ -18,6 +18,13 @@
         }                                                                                  \
     } while (0)
 
+/* Whether the program runs with ERASER_AUDIT, so that its detectors keep each call. */
+static inline bool is_audited(void)
+{
+    const char *audit = getenv("ERASER_AUDIT");
+    return audit && *audit;
+}
+
 static inline void run_thread(void *(*run)(void *), void *given)
 {
     pthread_t thread;

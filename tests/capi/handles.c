@@ -52,7 +52,7 @@ static uint32_t held_of_no_thread(eraser_thread *thread)
 
 int main(void)
 {
-    eraser_shard shard, other = {0, NULL};
+    eraser_shard shard, other = {0, NULL}, empty = {0, NULL};
     eraser_thread thread, second = {0, NULL};
     uint32_t held[2];
     size_t count = 0;
@@ -105,6 +105,10 @@ int main(void)
         CHECK(eraser_thread_ignore_on(&thread) == ERASER_QUIET);
     CHECK(eraser_thread_ignore_on(&thread) == ERASER_IGNORE_TOO_DEEP && eraser_access(&shard, &thread, 4096, true) == ERASER_IGNORED);
     CHECK(quiet_span(&shard, &thread, 4096, 8) == ERASER_IGNORED && eraser_state(&shard, 4096) == ERASER_VIRGIN);
+    /* A handle that isn't right is no ignored access. */
+    CHECK(eraser_access((eraser_shard *)(void *)&second, &thread, 4096, true) == ERASER_WRONG_HANDLE);
+    CHECK(quiet_span((eraser_shard *)(void *)&second, &thread, 4096, 8) == ERASER_WRONG_HANDLE);
+    CHECK(eraser_access(&empty, &thread, 4096, true) == ERASER_EMPTY_HANDLE && quiet_span(&empty, &thread, 4096, 8) == ERASER_EMPTY_HANDLE);
     for (int depth = 0; depth < 255; depth++)
         CHECK(eraser_thread_ignore_off(&thread) == ERASER_QUIET);
 

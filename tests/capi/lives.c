@@ -1,4 +1,4 @@
-/* Lives of locks, threads and detectors, and what the layer refuses. */
+/* Lives of locks, threads and detectors, and what the layer refuses. An audit keeps each call and each thread, so nothing is asked of its memory. */
 #include "checks.h"
 
 #include <errno.h>
@@ -177,7 +177,7 @@ static void check_memory(void)
         for (int at = 0; at < 20; at++)
             CHECK(eraser_unlocking(detector, lock_at(at * 7 + round)) == ERASER_QUIET && eraser_destroying(detector, lock_at(at * 7 + round)) == ERASER_QUIET);
     }
-    CHECK(mallinfo2().uordblks < before + 20000);
+    CHECK(is_audited() || mallinfo2().uordblks < before + 20000);
 }
 
 /* A lock that is known asks for no memory, however full its table is. */
@@ -189,7 +189,7 @@ static void check_known(void)
         CHECK(eraser_locked(detector, lock_at(at), true) == ERASER_QUIET && eraser_unlocking(detector, lock_at(at)) == ERASER_QUIET);
         size_t before = mallinfo2().uordblks;
         CHECK(eraser_locked(detector, lock_at(at), true) == ERASER_QUIET && eraser_unlocking(detector, lock_at(at)) == ERASER_QUIET);
-        CHECK(mallinfo2().uordblks == before);
+        CHECK(is_audited() || mallinfo2().uordblks == before);
     }
     eraser_stop(detector);
 }

@@ -1,5 +1,6 @@
 /* Accesses that a thread remembers: which of them the layer answers without their shard, and that it then misses nothing: settled THREADS ROUNDS.
- * It is linked with --wrap=eraser_access_span, so that the accesses that come to a shard are counted. */
+ * It is linked with --wrap=eraser_access_span and --wrap=eraser_record, so that the accesses that come to a shard are counted. An audit is told of each word,
+ * and misses nothing either. */
 #include "checks.h"
 
 #include <stdatomic.h>
@@ -8,6 +9,7 @@
 enum { MOST = 64, WORDS = 2000 };
 
 static eraser_detector *detector;
+static bool audits;
 static _Alignas(4096) int data[WORDS], lone[1024];
 static char first_lock, second_lock, third_lock;
 static atomic_uint asked, races;
@@ -19,6 +21,15 @@ uint32_t __wrap_eraser_access_span(eraser_shard *shard, eraser_thread *thread, u
 {
     atomic_fetch_add(&asked, 1);
     return __real_eraser_access_span(shard, thread, at, bytes, writes, race, settled);
+}
+
+uint32_t __real_eraser_record(eraser_shard *, eraser_thread *, uint64_t, uint64_t, bool);
+uint32_t __wrap_eraser_record(eraser_shard *, eraser_thread *, uint64_t, uint64_t, bool);
+
+uint32_t __wrap_eraser_record(eraser_shard *shard, eraser_thread *thread, uint64_t ticket, uint64_t at, bool writes)
+{
+    atomic_fetch_add(&asked, 1);
+    return __real_eraser_record(shard, thread, ticket, at, writes);
 }
 
 static void count_race(void *context, const struct eraser_race *race)
@@ -89,12 +100,12 @@ static void renew(const int *word)
     CHECK(eraser_freeing(detector, word, 2 * sizeof *word) == ERASER_QUIET && eraser_look(detector, word) == ERASER_VIRGIN);
 }
 
-/* How often a shard is asked meanwhile. */
-#define ASKED(what, times)                     \
-    do {                                       \
-        unsigned before = asked;               \
-        what;                                  \
-        CHECK(asked - before == (times));      \
+/* How often a shard is asked meanwhile, and in an audit of how many words. */
+#define ASKED(what, times, words)                               \
+    do {                                                        \
+        unsigned before = asked;                                \
+        what;                                                   \
+        CHECK(asked - before == (audits ? (words) : (times)));  \
     } while (0)
 
 /* An access that comes again isn't asked for again, until something has changed that may matter. */
@@ -102,31 +113,31 @@ static void check_left_out(void)
 {
     const int *word = lone;
     renew(word);
-    ASKED(settle(word, true), 2);
-    ASKED(settle(word, true), 0);
-    ASKED(settle(word, false), 1);
-    ASKED(CHECK(eraser_write(detector, (const char *)word + 2, 2) == ERASER_QUIET), 0);
+    ASKED(settle(word, true), 2, 3);
+    ASKED(settle(word, true), 0, 3);
+    ASKED(settle(word, false), 1, 3);
+    ASKED(CHECK(eraser_write(detector, (const char *)word + 2, 2) == ERASER_QUIET), 0, 1);
     /* Its locks come and go: those that come back are known, and so is what was done without them. */
     take_lock(&first_lock);
-    ASKED(settle(word, true), 1);
+    ASKED(settle(word, true), 1, 3);
     leave_lock(&first_lock);
-    ASKED(settle(word, true), 0);
+    ASKED(settle(word, true), 0, 3);
     take_lock(&first_lock);
     take_lock(&first_lock);
     leave_lock(&first_lock);
-    ASKED(settle(word, true), 0);
+    ASKED(settle(word, true), 0, 3);
     leave_lock(&first_lock);
     /* More words than one, and those of two groups, which are asked for each time. */
     for (int at = 60; at <= 62; at += 2) {
         size_t size = (size_t)(64 - at) * sizeof(int);
         CHECK(eraser_write(detector, &lone[at], size) == ERASER_QUIET && eraser_write(detector, &lone[at], size) == ERASER_QUIET);
-        ASKED(CHECK(eraser_write(detector, &lone[at], size) == ERASER_QUIET), 0);
+        ASKED(CHECK(eraser_write(detector, &lone[at], size) == ERASER_QUIET), 0, 64 - (unsigned)at);
     }
-    ASKED(CHECK(eraser_write(detector, &lone[61], 2 * sizeof(int)) == ERASER_QUIET), 0);
-    ASKED(CHECK(eraser_write(detector, &lone[63], 2 * sizeof(int)) == ERASER_QUIET), 1);
-    ASKED(CHECK(eraser_write(detector, &lone[63], 2 * sizeof(int)) == ERASER_QUIET), 1);
+    ASKED(CHECK(eraser_write(detector, &lone[61], 2 * sizeof(int)) == ERASER_QUIET), 0, 2);
+    ASKED(CHECK(eraser_write(detector, &lone[63], 2 * sizeof(int)) == ERASER_QUIET), 1, 2);
+    ASKED(CHECK(eraser_write(detector, &lone[63], 2 * sizeof(int)) == ERASER_QUIET), 1, 2);
     CHECK(eraser_freeing(detector, lone, sizeof lone) == ERASER_QUIET);
-    ASKED(settle(word, true), 2);
+    ASKED(settle(word, true), 2, 3);
 }
 
 /* Each of these hides a race, or a thread, from whoever leaves out too much. */
@@ -250,7 +261,7 @@ static void check_nothing_missed(void)
     settle(word, true);
     CHECK(eraser_ignore_begin(detector) == ERASER_QUIET && use(word, true) == ERASER_IGNORED && eraser_ignore_begin(detector) == ERASER_QUIET);
     CHECK(eraser_ignore_end(detector) == ERASER_QUIET && use(word, true) == ERASER_IGNORED && eraser_ignore_end(detector) == ERASER_QUIET);
-    ASKED(settle(word, true), 0);
+    ASKED(settle(word, true), 0, 3);
 }
 
 /* A thread that uses more words than it can remember rests for a while, and then remembers again. */
@@ -271,7 +282,7 @@ static void check_rest(void)
         before = asked;
         CHECK(use(lone, true) == ERASER_QUIET && times++ < 1000000);
     } while (asked != before);
-    ASKED(settle(lone, true), 0);
+    ASKED(settle(lone, true), 0, 3);
 }
 
 /* The child of a fork goes on with what its thread remembers, and what it does there is unknown in its parent. */
@@ -283,12 +294,14 @@ static void check_fork(void)
     pid_t pid = fork();
     CHECK(pid >= 0);
     if (pid == 0) {
-        ASKED(settle(data, true), 0);
+        ASKED(settle(data, true), 0, 3);
         check_nothing_missed();
+        /* No other thread was at work, so no list is missing. */
+        CHECK(eraser_settle(detector, NULL) == (audits ? ERASER_QUIET : ERASER_WRONG_HANDLE));
         exit(0);
     }
     CHECK(waitpid(pid, &status, 0) == pid && WIFEXITED(status) && WEXITSTATUS(status) == 0);
-    ASKED(settle(data, true), 0);
+    ASKED(settle(data, true), 0, 3);
     check_nothing_missed();
 }
 
@@ -333,6 +346,7 @@ static void check_threads(void)
 int main(int count, char **words)
 {
     struct eraser_options options = {.shards = 4, .on_race = count_race};
+    audits = is_audited();
     threads = count == 3 ? (unsigned)atoi(words[1]) : 0;
     rounds = count == 3 ? (unsigned)atoi(words[2]) : 0;
     if (threads < 2 || threads > MOST || !(detector = eraser_start(&options)))
@@ -340,8 +354,11 @@ int main(int count, char **words)
     check_left_out();
     check_nothing_missed();
     check_fork();
-    check_rest();
+    /* In an audit it rests for ever. */
+    if (!audits)
+        check_rest();
     check_threads();
+    CHECK(eraser_settle(detector, NULL) == (audits ? ERASER_QUIET : ERASER_WRONG_HANDLE));
     eraser_stop(detector);
     printf("fine\n");
     return 0;

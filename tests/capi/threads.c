@@ -1,16 +1,16 @@
 /* Many threads at work at once: threads THREADS ROUNDS. Of each word it is known whether it races, in whatever order the threads come. Prints `fine`, or what
- * isn't. */
-#include "eraser_detector.h"
+ * isn't. An audit settles into as many steps as the threads made. */
+#include "checks.h"
 
-#include <pthread.h>
 #include <stdatomic.h>
-#include <stdio.h>
-#include <stdlib.h>
 
-enum { MOST = 64, LOCKS = 40, WORDS = 1500, OWN = 1100, READ = 100 };
+/* An audit keeps each word of an access, so it gets the long ones in one of SELDOM rounds. */
+enum { MOST = 64, LOCKS = 40, WORDS = 1500, OWN = 1100, READ = 100, SELDOM = 50 };
 
 static eraser_detector *detector;
 static unsigned threads, rounds;
+static bool audits;
+static atomic_uint_least64_t steps; /* which an audit has */
 static pthread_barrier_t meeting;
 /* Each word of `guarded` is used under one lock, each of `bare` under none, each of `mixed` under the locks of whoever comes. */
 static int guarded[WORDS], bare[WORDS], mixed[WORDS], read_only[READ];
@@ -45,6 +45,13 @@ static void quiet(uint32_t status, const char *what)
         fail(what);
 }
 
+/* A step for each page. */
+static void free_bytes(const void *at, size_t size, const char *what)
+{
+    quiet(eraser_freeing(detector, at, size), what);
+    atomic_fetch_add(&steps, ((uintptr_t)at + size - 1) / 4096 - (uintptr_t)at / 4096 + 1);
+}
+
 static void use_lock(unsigned at, int *word)
 {
     pthread_mutex_lock(&locks[at]);
@@ -65,7 +72,7 @@ static void use_block(unsigned me, unsigned round)
     for (int at = 0; at < 16; at++)
         if (eraser_write(detector, &block[at], 4) != ERASER_QUIET)
             atomic_fetch_add(&blocks_raced, 1);
-    quiet(eraser_freeing(detector, block, 64), "a free");
+    free_bytes(block, 64, "a free");
     free(block);
     pthread_mutex_t local;
     pthread_mutex_init(&local, NULL);
@@ -94,8 +101,11 @@ static void *work(void *given)
             fail("a mixed word");
         quiet(eraser_unlocking(detector, &locks[lock]), "its release");
         pthread_mutex_unlock(&locks[lock]);
-        quiet(eraser_read(detector, read_only, sizeof read_only), "words that are only read");
-        quiet(eraser_write(detector, own[me], sizeof own[me]), "words of this thread");
+        bool has_long = !audits || round % SELDOM == 0;
+        if (has_long) {
+            quiet(eraser_read(detector, read_only, sizeof read_only), "words that are only read");
+            quiet(eraser_write(detector, own[me], sizeof own[me]), "words of this thread");
+        }
         pthread_rwlock_rdlock(&shared);
         quiet(eraser_locked(detector, &shared, false), "a lock to read");
         quiet(eraser_read(detector, guarded, 0), "no byte");
@@ -108,6 +118,8 @@ static void *work(void *given)
                 fail("an ignored access");
             quiet(eraser_ignore_end(detector), "an end of ignoring");
         }
+        /* 4 of the guarded word, 1 of the bare one, 3 of the mixed one, 2 of the lock to read, 19 of the block and of the lock of this thread. */
+        atomic_fetch_add(&steps, 29 + (has_long ? READ + OWN : 0) + (round % 16 == 0 ? 2 : 0));
     }
     return NULL;
 }
@@ -116,6 +128,7 @@ int main(int count, char **words)
 {
     pthread_t started[MOST];
     struct eraser_options options = {.shards = 16, .on_race = note};
+    audits = is_audited();
     threads = count == 3 ? (unsigned)atoi(words[1]) : 0;
     rounds = count == 3 ? (unsigned)atoi(words[2]) : 0;
     if (threads < 2 || threads > MOST || rounds < WORDS || !(detector = eraser_start(&options)))
@@ -131,7 +144,7 @@ int main(int count, char **words)
         for (unsigned at = 0; at < threads; at++)
             pthread_join(started[at], NULL);
         for (unsigned at = 0; at < threads; at++)
-            quiet(eraser_freeing(detector, own[at], sizeof own[at]), "a free of a thread's words");
+            free_bytes(own[at], sizeof own[at], "a free of a thread's words");
     }
     for (int at = 0; at < WORDS; at++) {
         if (races[at] != 1)
@@ -149,6 +162,9 @@ int main(int count, char **words)
     /* The main thread's first call came between the two generations. */
     if (eraser_self(detector) != threads + 1)
         fail("the numbers of threads");
+    uint64_t settled = 0;
+    if (eraser_settle(detector, &settled) != (audits ? ERASER_QUIET : ERASER_WRONG_HANDLE) || settled != (audits ? steps : 0))
+        fail("the settlement");
     eraser_stop(detector);
     if (!wrong)
         printf("fine\n");

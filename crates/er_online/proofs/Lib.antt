@@ -1,3 +1,4 @@
 mod Growing
 mod SpanLemmas
 mod Settled
+mod LeftOut

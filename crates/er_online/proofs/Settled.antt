@@ -16,7 +16,7 @@ use Rattle.er_online.specs.Taken.{HasSameStates, IsReplay, access_of, mark_of, n
 use Rattle.er_online.proofs.Growing.{notes-grow}
 
 -- each word's state after one call more
-state-grows : (calls : List (Call × List ℕ)) (call : Call) (cover : List ℕ) (w : ℕ) → state_now (calls ++ (call, cover) ∷ []) w ≡ moved (state_now calls w) w (mark_of call cover)
+pub state-grows : (calls : List (Call × List ℕ)) (call : Call) (cover : List ℕ) (w : ℕ) → state_now (calls ++ (call, cover) ∷ []) w ≡ moved (state_now calls w) w (mark_of call cover)
 state-grows calls call cover w = ap (λ notes. state_of_notes notes w) (notes-grow calls (call, cover)) ∙ state-noted (notes_of calls) (note_of (call, cover)) w
 
 -- an access that leaves its word's state leaves those of all words

@@ -6,7 +6,7 @@
 //! What it promises, by the names of clauses: an accepted call lengthens the list by exactly itself (`taken`), its answer is the one that the
 //! definitions give of the list (`reply`), a refused call leaves all as it was (`err`), and the words have the states that the definitions give of
 //! the list (`state`). An access that changed no word's state says so (`settled`), and may be left out when it comes again
-//! (`a_settled_access_may_be_left_out`).
+//! (`settled_accesses_may_be_left_out`).
 //!
 //! ```text
 //! let mut shard = Shard::new(alloc, 1_048_576)?;
@@ -17,7 +17,7 @@
 
 pub use calls::Call;
 pub use er_shadow::Noted;
-pub use laws::a_settled_access_may_be_left_out;
+pub use laws::settled_accesses_may_be_left_out;
 pub use shard::{Shard, Spanned};
 
 mod calls;

@@ -1,5 +1,5 @@
 -- What handles lead to, one handle at a time.
-use Rattle.std.proofs.Common.{◌≡◌, ◌∙◌, ℕ, ◌+◌, ◌<◌, List, [], ◌∷◌, ◌++◌, take, drop, get_or, map, length, slice_set, refl, sym, ap, subst, arith, inr, zero, suc, Bool, false}
+use Rattle.std.proofs.Common.{◌≡◌, ◌∙◌, ℕ, ◌+◌, ◌<◌, List, [], ◌∷◌, ◌++◌, take, drop, get_or, length, slice_set, refl, sym, ap, subst, arith, inr, zero, suc, Bool, false}
 use Rattle.std.proofs.lemmas.List.{map-append, take-append-drop, append_assoc, take-map, map_more, map-set, take_more_set, drop-set-lt, length-map, drop_more}
 use Rattle.std.proofs.lemmas.Grind.{drop_more_same}
 use Rattle.std.specs.Prelude.{Option, Some, None, Result, Ok, Err, IfOk, IfErr, IfSome, IfNone, IsErrAnd, slice_get, ◌==◌}

@@ -15,7 +15,7 @@ IsAccess (Some (Shard calls)) kind word before after number = (after ≡ before)
 IsAccess (Some (Journal shard)) kind word before after number = (after ≡ before) × (number ≡ number_of WrongHandle)
 IsAccess (Some (Seat seat)) kind word before after number = (after ≡ before) × (number ≡ number_of WrongHandle)
 IsAccess (Some (thread_of t)) kind word before after number =
-    UnlessIgnoring t (OfShard (λ before after number. IsAccessed t kind word before after number)) before after number
+    OfShard (λ before after number. UnlessIgnoring t before after number (IsAccessed t kind word before after number)) before after number
 
 -- an access of each word of a run; `first` is what says where the first race is
 abbrev pub IsSpanAccess : Option Value → Kind → Span → ℕ → Option Value → Option Value → ℕ → Type 0
@@ -24,4 +24,4 @@ IsSpanAccess (Some (Shard calls)) kind span first before after number = (after �
 IsSpanAccess (Some (Journal shard)) kind span first before after number = (after ≡ before) × (number ≡ number_of WrongHandle)
 IsSpanAccess (Some (Seat seat)) kind span first before after number = (after ≡ before) × (number ≡ number_of WrongHandle)
 IsSpanAccess (Some (thread_of t)) kind span first before after number =
-    UnlessIgnoring t (OfShard (λ before after number. IsSpanFound t kind span first before after number)) before after number
+    OfShard (λ before after number. UnlessIgnoring t before after number (IsSpanFound t kind span first before after number)) before after number

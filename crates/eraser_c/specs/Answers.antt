@@ -180,9 +180,9 @@ OfShard P (Some (Seat s)) after number = (after ≡ Some (Seat s)) × (number �
 OfShard P (Some (Shard before)) after number = (calls : Calls) × ((after ≡ Some (Shard calls)) × P before calls number)
 
 -- accesses of a thread that ignores them change nothing
-pub record UnlessIgnoring (t : Thread) (P : Option Value → Option Value → ℕ → Type 0) (before after : Option Value) (number : ℕ) : Type 0 where
+pub record UnlessIgnoring (t : Thread) (before after : Calls) (number : ℕ) (P : Type 0) : Type 0 where
   pub ignored : 0 < t.held.depth → (after ≡ before) × (number ≡ number_of Ignored)
-  pub counted : t.held.depth ≡ 0 → P before after number
+  pub counted : t.held.depth ≡ 0 → P
 
 -- the words of the run are virgin
 abbrev pub IsReset : Span → Calls → Calls → ℕ → Type 0

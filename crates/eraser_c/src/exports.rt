@@ -135,7 +135,8 @@ pub extern "C" fn eraser_held(
     held(alloc, thread, locks, count).number()
 }
 
-/// The thread reads the word at an address, or writes it if `writes`. Refused (`AddressOutOfRange`) from 2^48 on.
+/// The thread reads the word at an address, or writes it if `writes`. Refused (`AddressOutOfRange`) from 2^48 on. In an ignore bracket nothing
+/// changes (`Ignored`), if both handles are right.
 #[unsafe(no_mangle)]
 pub extern "C" fn eraser_access(
     alloc: Global,

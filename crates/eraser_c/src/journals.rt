@@ -15,7 +15,9 @@ use std::mem::replace;
 /// What a seat's thread does to words.
 #[derive(Clone, Copy)]
 pub enum Use {
+    /// It reads or writes a word.
     Access(Kind, Word),
+    /// It gives the words of a range a new use.
     Reset(PageRange),
 }
 

@@ -43,11 +43,8 @@ pub(crate) fn access(
 
 #[inline(always)]
 fn access_by(alloc: Global, shard: &mut Handle, thread: &Thread, kind: Kind, word: Word) -> Status
-    ensures { UnlessIgnoring thread.now (OfShard (λ before after number. IsAccessed thread.now kind word before after number)) shard.old.kept_box.kept shard.new.kept_box.kept (number_of result) }
+    ensures { OfShard (λ before after number. UnlessIgnoring thread.now before after number (IsAccessed thread.now kind word before after number)) shard.old.kept_box.kept shard.new.kept_box.kept (number_of result) }
 {
-    if thread.held.ignoring() {
-        return Status::Ignored;
-    }
     let Some(mut kept) = replace(shard, Handle::empty(alloc)).into_box() else {
         return Status::EmptyHandle;
     };
@@ -62,8 +59,11 @@ fn access_by(alloc: Global, shard: &mut Handle, thread: &Thread, kind: Kind, wor
 #[inline(always)]
 #[tactic(auto, unfolding(crate::specs::Answers::IsAccessed))]
 fn take(shard: &mut Shard, thread: &Thread, kind: Kind, word: Word) -> Status
-    ensures { IsAccessed thread.now kind word shard.old shard.new (number_of result) }
+    ensures { UnlessIgnoring thread.now shard.old shard.new (number_of result) (IsAccessed thread.now kind word shard.old shard.new (number_of result)) }
 {
+    if thread.held.ignoring() {
+        return Status::Ignored;
+    }
     match shard.access(thread.number, kind, word, thread.locks(kind)) {
         Ok(noted) => if_race(noted.is_race),
         Err(why) => Status::Refused(why.refusal()),
@@ -135,13 +135,10 @@ fn span_by(
     kind: Kind,
     words: WordRange,
 ) -> SpanAnswer
-    ensures answered { UnlessIgnoring thread.now (OfShard (λ before after number. IsSpanFound thread.now kind words result.first_race before after number)) shard.old.kept_box.kept shard.new.kept_box.kept (number_of result.status) }
+    ensures answered { OfShard (λ before after number. UnlessIgnoring thread.now before after number (IsSpanFound thread.now kind words result.first_race before after number)) shard.old.kept_box.kept shard.new.kept_box.kept (number_of result.status) }
     ensures named { NamesRace result.first_race (number_of result.status) }
     ensures settled { result.is_settled ≡ true → IsSettled shard.old.kept_box.kept shard.new.kept_box.kept (number_of result.status) }
 {
-    if thread.held.ignoring() {
-        return SpanAnswer::without_race(Status::Ignored);
-    }
     let Some(mut kept) = replace(shard, Handle::empty(alloc)).into_box() else {
         return SpanAnswer::without_race(Status::EmptyHandle);
     };
@@ -156,11 +153,14 @@ fn span_by(
 }
 
 fn take_span(shard: &mut Shard, thread: &Thread, kind: Kind, words: WordRange) -> SpanAnswer
-    ensures answered { IsSpanFound thread.now kind words result.first_race shard.old shard.new (number_of result.status) }
+    ensures answered { UnlessIgnoring thread.now shard.old shard.new (number_of result.status) (IsSpanFound thread.now kind words result.first_race shard.old shard.new (number_of result.status)) }
     ensures named { NamesRace result.first_race (number_of result.status) }
     ensures settled { result.is_settled ≡ true → HasSameStates shard.old shard.new }
     ensures quiet { result.is_settled ≡ true → result.status ≡ Status.Quiet }
 {
+    if thread.held.ignoring() {
+        return SpanAnswer::without_race(Status::Ignored);
+    }
     let spanned = shard.access_span(thread.number, kind, words, thread.locks(kind));
     let first_race = race_address(spanned.first_race);
     let status = match spanned.refused {

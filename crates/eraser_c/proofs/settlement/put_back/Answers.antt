@@ -1,5 +1,5 @@
 -- Each handle leads to the next one's.
-use Rattle.std.proofs.Common.{◌≡◌, ◌<◌, ◌+◌, ◌∷◌, [], ◌++◌, length, ◌∙◌, ap, arith}
+use Rattle.std.proofs.Common.{◌<◌, ◌∷◌, [], length, ◌∙◌, ap, arith}
 use Rattle.std.proofs.lemmas.List.{length-set, length-append}
 use Rattle.eraser_c.proofs.SettlementLemmas.{put-next}
 use Rattle.eraser_c.proofs.settlement.put_back.Goals as goal

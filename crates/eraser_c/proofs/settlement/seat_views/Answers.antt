@@ -1,5 +1,5 @@
 -- Each handle adds its seat, or stops the list.
-use Rattle.std.proofs.Common.{◌≡◌, refl, sym, inr}
+use Rattle.std.proofs.Common.{refl, sym, inr}
 use Rattle.std.proofs.lemmas.Option.{slice_get_read}
 use Rattle.eraser_c.specs.Settlements.{seat_in}
 use Rattle.eraser_c.proofs.SettlementLemmas.{each-none, each-next, each-stop, told_err}

@@ -1,6 +1,6 @@
 -- What the next handle leads to is taken.
-use Rattle.std.proofs.Common.{◌≡◌, ◌<◌, length, ◌∙◌, sym, ap, arith, rules}
-use Rattle.std.proofs.lemmas.List.{length-set, length-append}
+use Rattle.std.proofs.Common.{◌≡◌, ◌<◌, length, ◌∙◌, arith, rules}
+use Rattle.std.proofs.lemmas.List.{length-set}
 use Rattle.eraser_c.proofs.SettlementLemmas.{behind_of, rest-next, take-next}
 use Rattle.eraser_c.proofs.settlement.take_all.Goals as goal
 

@@ -14,7 +14,7 @@ use Rattle.eraser_c.proofs.shards.access.Goals as goal
 
 -- the handle leads to a thread
 by-thread : (v : Option Value) (t : Thread) → v ≡ Some (thread_of t) → (kind : Kind) (word : ℕ) (before after : Option Value) (number : ℕ)
-    → UnlessIgnoring t (OfShard (λ before after number. IsAccessed t kind word before after number)) before after number → IsAccess v kind word before after number
+    → OfShard (λ before after number. UnlessIgnoring t before after number (IsAccessed t kind word before after number)) before after number → IsAccess v kind word before after number
 by-thread v t is kind word before after number done = rw is done
 
 -- the handle leads to a shard

@@ -15,7 +15,7 @@ use Rattle.eraser_c.proofs.shards.access_span.Goals as goal
 
 -- the handle leads to a thread
 by-thread : (v : Option Value) (t : Thread) → v ≡ Some (thread_of t) → (kind : Kind) (span : Span) (first : ℕ) (before after : Option Value) (number : ℕ)
-    → UnlessIgnoring t (OfShard (λ before after number. IsSpanFound t kind span first before after number)) before after number
+    → OfShard (λ before after number. UnlessIgnoring t before after number (IsSpanFound t kind span first before after number)) before after number
     → IsSpanAccess v kind span first before after number
 by-thread v t is kind span first before after number done = rw is done
 
