@@ -39,7 +39,7 @@ complete -c eraser-record -n __eraser_record_before_program -l order -d 'Record 
 complete -c eraser-record -n __eraser_record_before_program -l trace -x -a '3 4' -d 'Write the trace as text 3 (the default of one that -o keeps, without --stacks and --flow), or in the binary form 4 (that of others), which is shorter; eraser print shows it as text'
 complete -c eraser-record -n __eraser_record_before_program -l stacks -d 'Record in a trace 4 the calls in which each event is made, their functions and where blocks of memory were got, and report accesses in system headers at the line that called them'
 complete -c eraser-record -n __eraser_record_before_program -l flow -d 'Record in a trace 4 what threads learn from each other without an order: relaxed atomics, and tries of locks that fail; records with --order'
-complete -c eraser-record -n __eraser_record_before_program -l thin -d 'Leave out accesses that a thread repeats: the reports have the same races and fewer steps'
+complete -c eraser-record -n __eraser_record_before_program -l thin -d 'Leave out accesses that a thread repeats: the reports have the same races and fewer steps. The default without -o; --thin=no keeps them'
 complete -c eraser-record -n __eraser_record_before_program -l limit -x -d 'Of a trace that is kept: keep at most BYTES of it; 0: no limit. With -o the default is 268435456'
 complete -c eraser-record -n __eraser_record_before_program -l root -x -a '(__fish_complete_directories)' -d 'Name sites by their paths below DIR. The default is the folder that has all sources of the program'
 complete -c eraser-record -n __eraser_record_before_program -l paths -d 'Name sites by their paths as the compiler has them'

@@ -253,7 +253,7 @@ def ways_to_use(folder, findings, counter, queue):
         kept = re.search(r"^steps .* refused 0$", found.stderr, re.M) and " /usr/include/c++/" in trace.read_text()
         findings.check(f"paths with characters that no name may have {more}", kept, f"{found}")
     found = command([RUN, counter])
-    is_behind = re.search(r"\Aline \d+: race: .* at counter\.c:(?s:.*)\nsteps .*\nrecord: \d+ events recorded, 0 lost\n\Z", found.stderr)
+    is_behind = re.search(r"\Aline \d+: race: .* at counter\.c:(?s:.*)\nsteps .*\nrecord: \d+ events recorded, 0 lost, \d+ repeats left out\n\Z", found.stderr)
     findings.check("the report is on standard error, and standard output is the program's", found.stdout == "30\n" and is_behind, f"{found}")
     found = command([RUN, "--report", "-", counter])
     is_behind = re.search(r"\A30\nline \d+: race: .* at counter\.c:(?s:.*)\nsteps .*\n\Z", found.stdout)
@@ -890,7 +890,7 @@ def terminal(folder, findings, counter, right, busy):
     place.mkdir()
     settings = {**os.environ, "TMPDIR": str(place)}
     status, output, text = on_terminal([RUN, counter], env=settings)
-    is_whole = re.match(rf"races in this run\nwords .*\n1 .* {site}\n\n{site}:\n(?s:.*)\n    at {site}", text) and re.search(r"\nsteps .*\nrecord: \d+ events recorded, 0 lost\n\Z", text)
+    is_whole = re.match(rf"races in this run\nwords .*\n1 .* {site}\n\n{site}:\n(?s:.*)\n    at {site}", text) and re.search(r"\nsteps .*\nrecord: \d+ events recorded, 0 lost, \d+ repeats left out\n\Z", text)
     findings.check("on a terminal", (status, output) == (3, "30\n") and is_whole, f"{status} {output} {text}")
     led = r"    in work\n    called at meet\.h:\d+ in run_start\n"
     named = (rf"\n  t\d (?:read|wrote) bare, the word at 0x[0-9a-f]{{12}} \(line \d+\)\n{led}  t\d held no lock\n", rf"\n    at {site}, holding no lock\n{led}",
@@ -911,8 +911,8 @@ def terminal(folder, findings, counter, right, busy):
     findings.check("on a terminal, a report elsewhere", races(report.read_text()) == {site}, report.read_text())
     status, output, text = on_terminal([RUN, "-o", trace, counter])
     findings.check("on a terminal, a trace alone", re.fullmatch(r"record: \d+ events recorded, 0 lost\n", text), text)
-    status, output, text = on_terminal([RUN, "--limit", "100000", busy, "3000"], env=settings)
-    is_told = text.startswith("record: the trace has reached its limit of 100000 bytes") and re.search(r"^record: \d+ events recorded, [1-9]\d* lost: the trace is incomplete", text, re.M)
+    status, output, text = on_terminal([RUN, "--limit", "100000", busy, "30000"], env=settings)
+    is_told = text.startswith("record: the trace has reached its limit of 100000 bytes") and re.search(r"^record: \d+ events recorded, [1-9]\d* lost, \d+ repeats left out: the trace is incomplete", text, re.M)
     findings.check("on a terminal, a limit", (status, output) == (0, "done\n") and is_told, f"{status} {text}")
     status, output, text = on_terminal([RUN, counter], env={**os.environ, "TMPDIR": str(folder / "nowhere")})
     findings.check("on a terminal, no folder for temporary files", (status, output) == (125, "") and f"cannot write a temporary file in {folder}/nowhere" in text, f"{status} {text}")
@@ -1120,7 +1120,7 @@ def early_ends(folder, findings, busy):
     for name, text in (("fault", "head -c 100000 >/dev/null; exit 2"), ("killed", "head -c 100000 >/dev/null; kill -TERM $$"), ("absent", "exit 0")):
         replay = as_script(folder, name, text)
         found = command([RUN, busy, "300000"], env={**os.environ, "ERASER": replay})
-        lost = re.search(r"events recorded, (\d+) lost: the trace is incomplete", found.stderr)
+        lost = re.search(r"events recorded, (\d+) lost, \d+ repeats left out: the trace is incomplete", found.stderr)
         unharmed = found.returncode == 0 and found.stdout == "done\n"
         findings.check(f"a replay that ends early, {name}", unharmed and lost and int(lost[1]) > 0 and "record: the replay" in found.stderr, f"{found}")
     trace = folder / "limited.trace"
@@ -1136,7 +1136,7 @@ def early_ends(folder, findings, busy):
     is_told = line == "record: the trace has reached its limit of 100000 bytes (--limit): from here on events are lost\n" and " lost: the trace is incomplete" in errors
     findings.check("a limit is told while the program runs", still_runs and is_told and recorder.returncode == 130, f"{line!r} {errors!r} {recorder.returncode}")
     found = command([RUN, "--limit", "100000", busy, "3000"])
-    is_told = found.stderr.startswith("record: --limit is of a trace that -o keeps: ") and re.search(r"^record: \d{5,} events recorded, 0 lost\n\Z", found.stderr, re.M)
+    is_told = found.stderr.startswith("record: --limit is of a trace that -o keeps: ") and re.search(r"^record: \d{4,} events recorded, 0 lost, \d+ repeats left out\n\Z", found.stderr, re.M)
     findings.check("a limit without a trace that is kept", found.returncode == 0 and is_told, f"{found}")
     begun, went_on = folder / "begun", folder / "went-on"
     recorder = subprocess.Popen([RUN, "-o", "/dev/null", "--limit", "0", busy, "3000000", begun, went_on], stdout=subprocess.DEVNULL, stderr=subprocess.DEVNULL)
@@ -1208,7 +1208,7 @@ def memory(folder, findings, busy):
         # A replay whose report is the number of bytes that it got.
         settings = {**os.environ, "ERASER": as_script(folder, "sink", "exec wc -c\n")}
         with open(folder / "errors", "w+") as errors:
-            recorder = subprocess.Popen([RUN, "--trace", "3", busy, rounds], env=settings, stdout=subprocess.DEVNULL, stderr=errors)
+            recorder = subprocess.Popen([RUN, "--trace", "3", "--thin=no", busy, rounds], env=settings, stdout=subprocess.DEVNULL, stderr=errors)
             _, status, spent = os.wait4(recorder.pid, 0)
             recorder.returncode = status
             errors.seek(0)
@@ -1283,7 +1283,7 @@ def with_archives(folder, findings):
         for compiler, words in (("gcc", ["g++", "-g", "-fsanitize=thread"]), ("clang", [TOP / "record/c++"])):
             source, program = SOURCES / name, folder / f"{pathlib.Path(name).stem}-archive-{compiler}"
             built = command([*words, "-std=c++17", source, *more, "-o", program], env={**os.environ, "ERASER_CXX": "clang++"})
-            found = command([RUN, "-q", "--report", "-", "--analysis", "happens-before", program])
+            found = command([RUN, "-q", "--thin=no", "--report", "-", "--analysis", "happens-before", program])
             sites = set(re.findall(r": unordered: .* at (\S+), holds", found.stdout))
             is_right = (found.returncode, found.stderr) == (0, "") and found.stdout.startswith(PRINTED.get(source.stem, "")) and re.search(r"^steps \d{2,}", found.stdout, re.M)
             findings.check(f"{name} with the C++ library within, {compiler}", built.returncode == 0 and is_right and sites == marked(source, "RACE"), f"{built} {found}")
@@ -1363,7 +1363,7 @@ def as_the_readme_says(folder, findings):
 
     def plain(text):
         text = re.sub(r"\b(read|write|wrote) +", "used ", text)
-        return re.sub(r"0x[0-9a-f]+|\bline \d+|\bt\d+ |^\d+ of|\d+ events|steps \d+", "", text, flags=re.M).splitlines()
+        return re.sub(r"0x[0-9a-f]+|\bline \d+|\bt\d+ |^\d+ of|\d+ events|\d+ repeats|steps \d+", "", text, flags=re.M).splitlines()
 
     findings.check("as the README says", built.returncode == 0 and plain(found) == plain(shown), f"{found}")
     trace = folder / "pool.trace"

@@ -1,7 +1,8 @@
 #!/usr/bin/env python3
-"""What `record/run --thin` leaves out: accesses that a thread repeats, without another event of its own, another thread at that word, or a new use of it
-in between.
+"""What `record/run` leaves out: accesses that a thread repeats, without another event of its own or one that names it, another thread at that word, or a
+new use of it in between.
 
+- which recordings leave repeats out: those that nobody keeps, and with --thin others
 - the rule, by a second reading of it: random traces have the same races with and without their repeats, and so has a recorded one
 - what the writer's thin.c leaves out of random recordings is a repeat, and doesn't change a race (`tests/record/thin/any.c`)
 - the programs of tests/record and tests/record/order race at the same lines when they are recorded so
@@ -45,6 +46,8 @@ def without_repeats(lines):
                 continue
         elif number > 1 and len(words) > 1 and not line.startswith("#"):
             stretches[words[0]] = number
+            if words[1] in ("start", "join"):
+                stretches[words[2]] = number
             if words[1] == "reuse":
                 first, size = int(words[2], 16), int(words[3])
                 for address in range(first // 4, (first + size - 1) // 4 + 1):
@@ -59,7 +62,7 @@ def random_trace(source):
     lines, thread = ["eraser trace 3", *(f"t1 start {thread}" for thread in threads[1:])], "t1"
     for _ in range(source.choice([20, 50, 100])):
         thread = source.choice(threads) if source.random() < 0.4 else thread
-        verb, lock = source.choices(["access", "lock", "unlock", "signal", "await", "reuse", "bracket"], [72, 8, 8, 3, 3, 3, 3])[0], source.choice(locks)
+        verb, lock = source.choices(["access", "lock", "unlock", "signal", "await", "reuse", "bracket", "join"], [72, 8, 8, 3, 3, 3, 3, 3])[0], source.choice(locks)
         if verb == "access":
             lines.append(f"{thread} {source.choice(['read', 'write'])} {source.choice(words):#x} f.c:{len(lines)}")
         elif verb == "lock":
@@ -76,6 +79,9 @@ def random_trace(source):
         elif verb == "bracket":
             depth[thread] ^= 1
             lines.append(f"{thread} ignore-{'on' if depth[thread] else 'off'}")
+        elif verb == "join":
+            # Whoever is joined may go on, and then its accesses are in no order with what the other one does.
+            lines.append(f"{thread} join {source.choice([other for other in threads if other != thread])}")
     return [*lines, "end"]
 
 
@@ -88,7 +94,7 @@ def report(lines, *options):
 def rule_fault(lines, kept=None):
     """What differs in the reports of a trace without its repeats, whose lines count as they did before. By locks the reasons are the same, too."""
     numbers, kept = zip(*(kept or without_repeats(lines)))
-    for options in (["--analysis", "both"], ["--explain"]):
+    for options in (["--analysis", "both"], ["--explain"], ["--by-site", "--explain"]):
         text, errors, status = report(kept, *options)
         text = re.sub(r"\bline (\d+)", lambda found: f"line {numbers[int(found[1]) - 1]}", text)
         if (text, errors, status) != report(lines, *options):
@@ -101,6 +107,10 @@ def random_traces(findings, pool):
     findings.check("random traces without their repeats have the same races", not any(faults), next(filter(None, faults), ""))
     left_out = sum(len(lines) - len(list(without_repeats(lines))) for lines in (random_trace(random.Random(seed)) for seed in range(100)))
     findings.check("random traces have repeats", left_out > 1000, f"{left_out}")
+    # What a thread does after it was joined is in no order with what comes then, and what it did before is.
+    goes_on = ["eraser trace 3", "t1 start t2", "t2 write 0x1000", "t1 join t2", "t2 write 0x1000", "t1 write 0x1000", "end"]
+    is_right = rule_fault(goes_on) is None and "steps, unordered 1," in report(goes_on, "--analysis", "both")[0]
+    findings.check("a thread that is joined and goes on", is_right, f"{rule_fault(goes_on)}")
 
 
 def writer_fault(program, seed):
@@ -145,6 +155,24 @@ def repeats(folder, findings):
             findings.check(f"{program.name} without --thin", fault is None, fault)
 
 
+def defaults(folder, findings):
+    """Repeats are left out of a trace that nobody keeps, and of others if that is asked for."""
+    program, _ = build(folder, SOURCES / "thin/repeats.c", "gcc", "-O0")
+    trace, found = folder / "default.trace", {}
+    ways = {(): True, ("--thin=yes",): True, ("--trace", "3"): True, ("--analysis", "both", "--by-site"): True, ("--thin=no",): False, ("--thin", "--thin=no"): False,
+            ("-o", trace): False, ("-o", trace, "--replay"): False, ("-o", trace, "--thin", "--replay"): True}
+    for words, is_thin in ways.items():
+        done = command([RUN, *words, program])
+        counts = re.search(r"^record: (\d+) events recorded, 0 lost(?:, (\d\d) repeats left out)?\n\Z", done.stderr, re.M)
+        steps = re.search(r"^steps (\d+), ", done.stderr, re.M)
+        found[words] = int(counts[1]) + int(counts[2] or 0), steps and int(steps[1]) if counts else None
+        findings.check(f"which recordings leave repeats out {words}", done.returncode == 0 and counts and bool(counts[2]) == is_thin, f"{done}")
+    # An access of 8 bytes at most is one record.
+    events = {found[words][0] for words in ways if "3" not in words and trace not in words and "both" not in words}
+    steps = {is_thin: {found[words][1] for words in ways if ways[words] == is_thin and found[words][1] and "both" not in words} for is_thin in (False, True)}
+    findings.check("how many there are with the repeats", len(events) == 1 and max(steps[True]) < min(steps[False]), f"{found}")
+
+
 def racing(folder, findings, source):
     """A program has the races that are marked, by locks or by order."""
     program, _ = build(folder, source, "gcc", "-O0")
@@ -155,16 +183,19 @@ def racing(folder, findings, source):
         fault = f"{done}" if done.returncode or done.stderr else record_order_tests.order_fault(text) or record_order_tests.program_fault(source, text)
     else:
         path = folder / f"{source.stem}.report"
-        done = command([RUN, "-q", "--thin", "--report", path, program])
+        done = command([RUN, "-q", "--report", path, program])
         found = record_tests.races(path.read_text()) if path.exists() else None
         is_right = done.returncode == record_tests.STATUS.get(source.stem, 0) and found == marked(source, "RACE")
         fault = None if is_right else f"{done} {found}"
-    findings.check(f"{source.name} with --thin", fault is None, fault)
+    findings.check(f"{source.name} without repeats", fault is None, fault)
 
 
-def refused(folder, findings):
-    done = command([RUN, "--online", "--thin", "true"])
-    findings.check("--thin with --online", (done.returncode, done.stdout) == (125, "") and "--thin" in done.stderr, f"{done}")
+def refused(findings):
+    for word in ("--thin", "--thin=no"):
+        done = command([RUN, "--online", word, "true"])
+        findings.check(f"{word} with --online", (done.returncode, done.stdout) == (125, "") and "--thin" in done.stderr, f"{done}")
+    done = command([RUN, "--thin=all", "true"])
+    findings.check("--thin=all", (done.returncode, done.stdout, done.stderr) == (125, "", "record: --thin is 'yes' or 'no', not 'all'\n"), f"{done}")
 
 
 def tests(record):
@@ -175,7 +206,8 @@ def tests(record):
         random_traces(findings, pool)
         writer(folder, findings, pool)
         repeats(folder, findings)
-        refused(folder, findings)
+        defaults(folder, findings)
+        refused(findings)
         sources = [source for source in sorted(SOURCES.glob("*.c*")) + sorted((SOURCES / "order").glob("*.c*")) if source.stem not in OTHERS]
         for run in [pool.submit(racing, folder, findings, source) for source in sources]:
             run.result()

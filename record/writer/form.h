@@ -23,7 +23,7 @@ struct thread {
     uint32_t held;       /* locks that the trace says it holds */
     uint32_t ignoring;   /* depth of its ignore brackets */
     uint64_t events;     /* how many events it has that a text shows: lines of a text, or records of a trace 4 */
-    uint64_t stretch;    /* the number of its accesses since its last other event: no other thread has it, and it is not 0 */
+    uint64_t stretch;    /* the number of its accesses since its last other event, or one that names it: no other thread has it, and it is not 0 */
     uint64_t failed_try, events_then; /* the lock that it tried last in vain and how, and how many events it had then */
     bool is_odd_round;   /* of the barrier that it waits at */
     uint32_t created_at; /* the node of the call that created it, 0 if it is not known or in a text */

@@ -125,7 +125,7 @@ static struct outcome *first(void)
     return further_outcome(1);
 }
 
-/* With --thin: how many accesses were left out. */
+/* How many accesses were left out, if any may be. */
 static const char *repeats(uint64_t count)
 {
     static char text[64];

@@ -59,7 +59,7 @@ static const char usage[] =
     "      --trace FORM        write the trace as text `3` (the default of one that -o keeps, without --stacks and --flow), or in the binary form `4` (that of others), which is shorter; `eraser print` shows it as text\n"
     "      --stacks            record in a trace 4 the calls in which each event is made, their functions and where blocks of memory were got, and report accesses in system headers at the line that called them\n"
     "      --flow              record in a trace 4 what threads learn from each other without an order: relaxed atomics, and tries of locks that fail; records with --order\n"
-    "      --thin              leave out accesses that a thread repeats: the reports have the same races and fewer steps\n"
+    "      --thin              leave out accesses that a thread repeats: the reports have the same races and fewer steps. The default without -o; --thin=no keeps them\n"
     "      --limit BYTES       of a trace that is kept: keep at most BYTES of it; 0: no limit. With -o the default is 268435456\n"
     "      --root DIR          name sites by their paths below DIR. The default is the folder that has all sources of the program\n"
     "      --paths             name sites by their paths as the compiler has them\n"
@@ -142,6 +142,15 @@ static const char *read_format(const char *text)
         if (strcmp(text, forms[place]) == 0) return text;
     fprintf(stderr, "record: --format is 'text', 'json', 'sarif' or 'html', not '%s'\n", text);
     exit(STATUS_FAILED);
+}
+
+static bool is_thin(const char *text)
+{
+    if (text && strcmp(text, "yes") != 0 && strcmp(text, "no") != 0) {
+        fprintf(stderr, "record: --thin is 'yes' or 'no', not '%s'\n", text);
+        exit(STATUS_FAILED);
+    }
+    return !text || *text == 'y';
 }
 
 static const struct form *read_trace(const char *text)
@@ -335,7 +344,7 @@ static void go_online(void)
         refuse("--strict, --until-fault and --workers are of a replay: --online replays nothing");
     if (options.has_stacks)
         refuse("--stacks is of a trace: --online has the calls of each race without it");
-    if (options.replays || options.has_form || options.has_flow || options.orders || thin_is_on || options.has_limit)
+    if (options.replays || options.has_form || options.has_flow || options.orders || options.has_thin || options.has_limit)
         refuse("--replay, --trace, --order, --flow, --thin and --limit are of a trace: --online writes none");
     if (options.runs > 1)
         refuse("--runs merges the reports of replays: it does not go with --online");
@@ -373,7 +382,7 @@ void read_options(int count, char **words)
         {"explain", 0, NULL, EXPLAIN},    {"by-site", 0, NULL, BY_SITE}, {"format", 1, NULL, FORMAT}, {"help", 0, NULL, 'h'},
         {"order", 0, NULL, ORDER},        {"analysis", 1, NULL, ANALYSIS}, {"strict", 0, NULL, STRICT},
         {"until-fault", 0, NULL, UNTIL_FAULT}, {"version", 0, NULL, 'V'}, {"trace", 1, NULL, TRACE}, {"stacks", 0, NULL, STACKS},
-        {"flow", 0, NULL, FLOW},          {"thin", 0, NULL, THIN},       {"workers", 1, NULL, REPLAYERS}, {"online", 0, NULL, ONLINE}, {"stop-at-race", 0, NULL, STOP_AT_RACE},
+        {"flow", 0, NULL, FLOW},          {"thin", 2, NULL, THIN},       {"workers", 1, NULL, REPLAYERS}, {"online", 0, NULL, ONLINE}, {"stop-at-race", 0, NULL, STOP_AT_RACE},
         {NULL, 0, NULL, 0},
     };
     for (int got; (got = getopt_long(count, words, "+o:qhV", names, NULL)) != -1;)
@@ -396,7 +405,7 @@ void read_options(int count, char **words)
         case TRACE: trace_form = read_trace(optarg); options.has_form = true; break;
         case STACKS: keep_stacks(); break;
         case FLOW: options.has_flow = options.orders = true; break;
-        case THIN: thin_is_on = true; break;
+        case THIN: thin_is_on = is_thin(optarg); options.has_thin = true; break;
         case LIMIT: options.limit = read_number(optarg, 0, UINT64_MAX, "--limit wants a number of bytes"); options.has_limit = true; break;
         case ROOT: sites_set_root(read_folder(optarg)); break;
         case SHAKE: set_shaking(optarg); break;
@@ -423,6 +432,9 @@ void read_options(int count, char **words)
         if (options.asks_facts && !options.has_form)
             keep_stacks();
         choose_form();
+        /* A report has the same races without repeats. Who keeps a trace may want to see all accesses of a word. */
+        if (!options.has_thin)
+            thin_is_on = !options.trace;
     }
     check_together();
     if (optind == count) {

@@ -29,6 +29,7 @@ struct options {
     bool is_online;  /* the program's own detector says at once what races, and there is no trace */
     bool stops_at_race;
     bool has_flow;   /* what threads tell each other without an order is recorded as well */
+    bool has_thin;   /* --thin says whether repeats are left out */
     bool is_quiet;
     unsigned runs; /* how often the command is run */
     bool shakes;   /* threads wait at random */

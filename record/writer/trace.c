@@ -101,7 +101,7 @@ static struct thread *place_of(uint32_t number)
     return &table->all[at];
 }
 
-/* It has an event that is no access. */
+/* It has an event that is no access, or is named in one. */
 static void end_stretch(struct thread *thread)
 {
     static uint64_t stretches;
@@ -172,12 +172,13 @@ void trace_lock(struct thread *thread, enum verb verb, struct label *lock, uint6
     trace_form->of_lock(thread, verb, lock, place);
 }
 
-/* A new thread may move the others. */
+/* A new thread may move the others. A join orders what the other one has done so far, and not what it does after that. */
 void trace_other_thread(uint32_t number, enum verb verb, uint32_t other, uint64_t place)
 {
     trace_thread(number);
     trace_thread(other);
     end_stretch(trace_thread(number));
+    end_stretch(trace_thread(other));
     trace_form->of_thread(trace_thread(number), verb, trace_thread(other), place);
 }
 
