@@ -10,3 +10,6 @@ pub mod Places
 pub mod ReasonLemmas
 pub mod Serving
 pub mod StepLemmas
+pub mod KnownLemmas
+pub mod KnownSteps
+pub mod Split
