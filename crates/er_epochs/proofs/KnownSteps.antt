@@ -17,14 +17,16 @@ use Rattle.er_model.specs.Words.{Mark, Counted, Reused, Shown, Nothing, Reading,
 use Rattle.er_model.specs.Holdings.{Holdings, holdings_at}
 use Rattle.er_model.specs.Answers.{reading_of}
 use Rattle.er_model.specs.Following.{locks_for, marked}
-use Rattle.er_order.specs.ByBytes.{Touched, meet, by_bytes, accesses, accesses_from}
+use Rattle.er_order.specs.ByBytes.{Touched, meet, by_bytes, accesses, accesses_from, is_in_use_by_bytes}
 use Rattle.er_order.specs.Clocks.{OfThread, clocks_at, own_count}
 use Rattle.er_order.specs.Order.{Acts, Local, acts_of, happens_before}
+use Rattle.er_order.specs.Following.{is_unordered}
 use Rattle.er_order.specs.Parts.{Query, hits, first_hit, IsPartNoted}
-use Rattle.er_order.specs.Races.{Order, is_race, had_race}
+use Rattle.er_order.specs.Races.{Order, is_race, had_race, is_reported, last_use}
+use Rattle.er_order.specs.Reasons.{last_unordered}
 use Rattle.er_order.specs.declared.bytes.Bytes.{Bytes}
-use Rattle.er_order.proofs.ByBytes.{unordered-listed, race-listed, listed-access, listed-reuse, listed-other}
-use Rattle.er_order.proofs.Following.{had-step, had_reused, or_none, mark-step}
+use Rattle.er_order.proofs.ByBytes.{unordered-listed, race-listed, use-listed, listed-access, listed-reuse, listed-other}
+use Rattle.er_order.proofs.Following.{had-step, had_reused, or_none, mark-step, reported-had}
 use Rattle.er_order.proofs.Order.{next-cases}
 use Rattle.er_order.proofs.Parts.{parts-here, parts-grow, parts-noted, parts-itself}
 use Rattle.er_order.proofs.RaceLemmas.{not-reused}
@@ -32,7 +34,7 @@ use Rattle.er_order.proofs.StepLemmas.{Agree, agree-steps, some-at, held-front, 
 use Rattle.er_epochs.specs.declared.reads.Tagged.{Tagged}
 use Rattle.er_epochs.specs.declared.touches.Touch.{Touch}
 use Rattle.er_epochs.specs.Epochs.{tagged, pair_of}
-use Rattle.er_epochs.specs.Known.{Known, Since, Raced, part_of, query_of, finds, IsKnownBy, AllBytes, known_among, touch_at, known, known_at, ServesAs, FollowsBytes, IsKnownMoved}
+use Rattle.er_epochs.specs.Known.{Known, Since, Raced, part_of, query_of, finds, IsKnownBy, AllBytes, known_among, touch_at, kind_of, known, known_at, reuse_query, ServesAs, FollowsBytes, IsKnownMoved}
 use Rattle.er_epochs.specs.Standing.{access_at}
 use Rattle.er_epochs.proofs.FollowLemmas.{own-thread}
 use Rattle.er_epochs.proofs.ReasonLemmas.{find-mapped}
@@ -76,12 +78,52 @@ some_map : {X Y : Type 0} (f : X → Y) (o : Option X) → is_some o ≡ is_some
 some_map f None = refl
 some_map f (Some x) = refl
 
+unless_had : {A : Type 0} (tags : ℕ → A) (had : Bool) (o : Option ℕ) → (is_some o && not had) ≡ is_some (cond had None (option_map tags o))
+unless_had tags true None = refl
+unless_had tags true (Some j) = refl
+unless_had tags false None = refl
+unless_had tags false (Some j) = refl
+
 module _ {A : Type 0} (acts : Acts) (r : Reading) (agree : Agree acts r) (tags : ℕ → A) (touched : Touched) (w k : ℕ) where
   abbrev order : Order
   order = by_bytes touched (happens_before acts)
 
   abbrev at : ℕ → Touch A
   at = touch_at acts r tags touched
+
+  tag_at : (o : Option ℕ) → option_map (λ touch. touch.access.tag) (option_map at o) ≡ option_map tags o
+  tag_at None = refl
+  tag_at (Some j) = refl
+
+  -- a reuse by thread t
+  module _ (t : ℕ) (acted : acts k ≡ Some (record { thread = t; sync = Local })) where
+    abbrev now : ℕ → ℕ
+    now = clocks_at acts k (OfThread t)
+
+    any_write : (kind : Kind) (b : Bool) → ((is_writing kind || true) && (true && b)) ≡ b
+    any_write reading b = refl
+    any_write writing b = refl
+
+    use_hit : (j : ℕ) → has (accesses r w k) j ≡ true → not (happens_before acts j k) ≡ hits now reuse_query (part_of (at j))
+    unfolding accesses
+    use_hit j member =
+        let found = accesses_in r w (era r w k) k j member in
+        apart-known acts r agree tags w j k t found.0 found.1 acted ∙ sym (any_write (kind_of (r j)) (is_unordered now (pair_of (access_at acts r tags j))))
+
+    pub use-found : finds now (known acts r tags touched w k) reuse_query ≡ cond (had_race order r w k) None (option_map tags (last_use (happens_before acts) r w k))
+    unfolding known
+    use-found = by (had_race order r w k)
+      where
+        by : (had : Bool) → finds now (cond had Raced (Since (map at (accesses r w k)))) reuse_query ≡ cond had None (option_map tags (last_use (happens_before acts) r w k))
+        by true = refl
+        by false =
+            ap (option_map (λ touch. touch.access.tag)) (find-mapped (λ j. not (happens_before acts j k)) (λ touch. hits now reuse_query (part_of touch)) at (accesses r w k) use_hit)
+            ∙ tag_at (find (λ j. not (happens_before acts j k)) (accesses r w k))
+            ∙ ap (option_map tags) (sym (use-listed r w (happens_before acts) k))
+
+    pub use-known : is_in_use_by_bytes touched (happens_before acts) r w k ≡ is_some (finds now (known acts r tags touched w k) reuse_query)
+    unfolding is_in_use_by_bytes
+    use-known = unless_had tags (had_race order r w k) (last_use (happens_before acts) r w k) ∙ ap is_some (sym use-found)
 
   module _ (t : ℕ) (kind : Kind) (cover : List ℕ) (is : r k ≡ Counted t kind w cover) where
     abbrev clock : ℕ → ℕ
@@ -128,6 +170,25 @@ module _ {A : Type 0} (acts : Acts) (r : Reading) (agree : Agree acts r) (tags :
         ∙ ap is_some (unordered-listed r w (happens_before acts) k touched counted)
         ∙ some_map at (find passes (accesses r w k))
         ∙ ap is_some (sym (find-mapped passes (λ touch. hits clock query (part_of touch)) at (accesses r w k) passes_hit))
+
+    -- what is found is the last access that it is unordered with, and it is reported if there is one
+    pub access-found : finds clock (known acts r tags touched w k) query ≡ cond (had_race order r w k) None (option_map tags (last_unordered order r w k))
+    unfolding known
+    access-found = by (had_race order r w k)
+      where
+        by : (had : Bool) → finds clock (cond had Raced (Since (map at (accesses r w k)))) query ≡ cond had None (option_map tags (last_unordered order r w k))
+        by true = refl
+        by false =
+            ap (option_map (λ touch. touch.access.tag)) (find-mapped passes (λ touch. hits clock query (part_of touch)) at (accesses r w k) passes_hit)
+            ∙ tag_at (find passes (accesses r w k))
+            ∙ ap (option_map tags) (sym (unordered-listed r w (happens_before acts) k touched counted))
+
+    pub access-reported : is_reported order r w k ≡ is_some (finds clock (known acts r tags touched w k) query)
+    access-reported =
+        reported-had order r w k (not-reused (r k) w counted)
+        ∙ ap (λ b. b && not (had_race order r w k)) (race-listed r w order k)
+        ∙ unless_had tags (had_race order r w k) (last_unordered order r w k)
+        ∙ ap is_some (sym access-found)
 
     abbrev touch : Touch A
     touch = record { access = tagged t (clock t) (tags k); kind = kind; bytes = touched k }

@@ -13,3 +13,5 @@ pub mod StepLemmas
 pub mod KnownLemmas
 pub mod KnownSteps
 pub mod Split
+pub mod Ended
+pub mod KnownAnswers

@@ -1,5 +1,5 @@
 //! What happens-before keeps of each word and of its bytes.
-ghost use Rattle.std.specs.Prelude.{◌≡◌, [], ℕ, ◌==◌, ◌&&◌, ◌<◌, nat_eq, cond, false, is_some, Some, None, slice_get, OnOk, OnErr, IfOk, IfSome, IfNone, IsTrue};
+ghost use Rattle.std.specs.Prelude.{◌≡◌, [], ℕ, ◌==◌, ◌&&◌, ◌<◌, ◌^◌, nat_eq, cond, false, is_some, Some, None, slice_get, OnOk, OnErr, IfOk, IfSome, IfNone, IsTrue};
 ghost use Rattle.std.specs.Map.{lookup};
 ghost use Rattle.std.specs.Option.{option_map};
 ghost use Rattle.indexmap.specs.IndexMap.{get, keys, index_map_len, IsUnique};
@@ -136,6 +136,75 @@ impl<A: Copy> OrderBytes<A> {
         let rival = touches.access(clock, kind, bytes, tag)?;
         self.split.insert(word.number(), touches)?;
         Ok(rival)
+    }
+
+    /// Reads what is kept of a word that will be accessed soon, as [`OrderWords::look_ahead`] does.
+    #[inline]
+    pub fn look_ahead(&mut self, word: Word)
+        ensures { self.new ≡ self.old }
+    {
+        self.words.look_ahead(word);
+    }
+
+    /// Ends the era of the words of a range. Returns the lowest of them that was still in use, and the tag of its last access that doesn't happen
+    /// before what the clock's thread does now: no race of its era was reported, and there is such an access. It takes no memory.
+    pub fn reset(&mut self, range: PageRange, clock: &ThreadClock<'_>) -> Option<(Word, A)>
+        ensures reset { (w : ℕ) → known_among self.new w ≡ cond (is_within w range) (Since []) (known_among self.old w) }
+        ensures in_use { IsLowest (λ w. is_within w range && is_some (finds (count_by clock.now) (known_among self.old w) reuse_query)) (option_map (λ found. found.0) result) }
+        ensures named { IfSome result (λ found. Some found.1 ≡ finds (count_by clock.now) (known_among self.old found.0) reuse_query) }
+    {
+        if self.split.is_empty() {
+            self.words.reset(range, clock)
+        } else {
+            self.reset_each(range, clock)
+        }
+    }
+
+    // The same, word by word.
+    fn reset_each(&mut self, range: PageRange, clock: &ThreadClock<'_>) -> Option<(Word, A)>
+        ensures reset { (w : ℕ) → known_among self.new w ≡ cond (is_within w range) (Since []) (known_among self.old w) }
+        ensures in_use { IsLowest (λ w. is_within w range && is_some (finds (count_by clock.now) (known_among self.old w) reuse_query)) (option_map (λ found. found.0) result) }
+        ensures named { IfSome result (λ found. Some found.1 ≡ finds (count_by clock.now) (known_among self.old found.0) reuse_query) }
+    {
+        let mut found = None;
+        for number in range.lo.number()..range.hi.number() + 1 {
+            let word = Word::new(number);
+            let next = tagged_word(word, self.reset_one(word, clock));
+            found = found.or(next);
+        }
+        found
+    }
+
+    // Ends the era of one word. Returns the tag of its last access, if it was still in use.
+    fn reset_one(&mut self, word: Word, clock: &ThreadClock<'_>) -> Option<A>
+        ensures reset { (w : ℕ) → known_among self.new w ≡ cond (word == w) (Since []) (known_among self.old w) }
+        ensures found { result ≡ finds (count_by clock.now) (known_among self.old word) reuse_query }
+    {
+        let whole = self.words.reset(PageRange::new(word, word), clock);
+        match self.split.swap_remove(&word.number()) {
+            Some(touches) => touches.find(clock, Kind::Write, None),
+            None => tag_of(whole),
+        }
+    }
+}
+
+// The tag beside its word, if there is one.
+fn tagged_word<A: Copy>(word: Word, tag: Option<A>) -> Option<(Word, A)>
+    ensures { result ≡ option_map (λ tag. (word, tag)) tag }
+{
+    match tag {
+        Some(tag) => Some((word, tag)),
+        None => None,
+    }
+}
+
+// The tag alone.
+fn tag_of<A: Copy>(found: Option<(Word, A)>) -> Option<A>
+    ensures { result ≡ option_map (λ (found : ℕ × A). found.1) found }
+{
+    match found {
+        Some((_, tag)) => Some(tag),
+        None => None,
     }
 }
 
