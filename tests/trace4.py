@@ -4,6 +4,7 @@
 trace4.py print [FILE]         prints the text that a trace means; a text means itself
 trace4.py encode [SEED]        makes a trace 4 of the text on standard input; with a seed its lengths, blocks and records without a meaning are random
 trace4.py sizes [FILE]         prints how many bytes, blocks and records of each kind a trace has
+trace4.py touched [FILE]       prints the lines whose access touches a part of its word, each with the first and the last byte, from 0 to 3
 trace4.py facts [FILE]         prints what a trace says of the function and the memory of each line that is an access, of its threads, and of its locks
 
 It shares no code with the program, nor with the recorder.
@@ -87,6 +88,8 @@ class Trace:
         self.calls = {}
         # By the numbers of lines, the number of the place of their event, and those of the calls.
         self.ways, self.functions, self.got, self.words = {}, {}, [], {}
+        # By the numbers of lines, the first and the last byte of the word that their access touches, unless it is all four.
+        self.touched = {}
         # The words of the races that a report shows in full, if they are known: no other words' blocks are kept for it.
         self.in_full = None
         try:
@@ -208,6 +211,9 @@ class Trace:
         for word in range(address & ~3, address + size, 4):
             self.line(b"write" if tag & 64 else b"read", b"0x%012x" % word, *self.site())
             self.words[len(self.lines)] = word
+            part = max(address - word, 0), min(address + size - word, 4) - 1
+            if part != (0, 3):
+                self.touched[len(self.lines)] = part
 
     def read_kind(self, kind, operand):
         if kind == THREAD:
@@ -673,6 +679,9 @@ def main():
     data = open(rest[0], "rb").read() if rest else sys.stdin.buffer.read()
     if verb == "sizes":
         print_sizes(data)
+    elif verb == "touched":
+        for line, (first, last) in Trace(data).touched.items():
+            print(line, first, last)
     elif verb == "facts":
         for fact in Trace(data).facts():
             print(*fact)
