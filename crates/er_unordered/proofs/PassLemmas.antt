@@ -29,7 +29,7 @@ use Rattle.er_batch.proofs.StepLemmas.{past-next}
 use Rattle.er_unordered.proofs.AnswerLemmas.{locks-here, long, order-front, order-here, with-here}
 use Rattle.er_unordered.proofs.ReasonLemmas.{races-told, tag-there, told-next, told-stays}
 use Rattle.er_unordered.proofs.StandingLemmas.{stands-tags}
-use Rattle.er_unordered.specs.Inner.Passes.{HasAnswered, HasComeTo, recorded}
+use Rattle.er_unordered.specs.Inner.Passes.{all_whole, HasAnswered, HasComeTo, recorded}
 use Rattle.er_unordered.specs.Inner.Reasons.{tag_at, told_at}
 use Rattle.er_unordered.specs.Standing.{Ordered, Stands}
 
@@ -60,9 +60,9 @@ module _ {A : Type 0} (tag_of : ℕ → Option Step → A) (told_of : Option A �
   pub start : HasComeTo tag_of told_of old oldest before after (length past)
   start =
       record {
-        stands = subst (Stands (tag_at tag_of after) old) (sym (take-append_seam past trace.steps))
-            (stands-tags (tag_at tag_of (recorded past lines sites names)) (tag_at tag_of after) old past (λ k below. tag-there (recorded past lines sites names) after on tag_of told_of k below)
-            (subst (Stands (tag_at tag_of (recorded past lines sites names)) old) (take-length past) run.come.stands));
+        stands = subst (Stands (tag_at tag_of after) all_whole old) (sym (take-append_seam past trace.steps))
+            (stands-tags (tag_at tag_of (recorded past lines sites names)) (tag_at tag_of after) all_whole old past (λ k below. tag-there (recorded past lines sites names) after on tag_of told_of k below)
+            (subst (Stands (tag_at tag_of (recorded past lines sites names)) all_whole old) (take-length past) run.come.stands));
         built = goes-on-by (order_answer past) (order_answer (past ++ trace.steps)) oldest (recorded past lines sites names) after (length past) on (omega arith)
             (λ k below. sym (order-front past trace.steps k below)) run.come.built;
         reasons = run.come.reasons ∙ told-stays (recorded past lines sites names) after on tag_of told_of oldest.races _ run.come.built.races;
@@ -83,9 +83,9 @@ module _ {A : Type 0} (tag_of : ℕ → Option Step → A) (told_of : Option A �
 module _ {A : Type 0} (tag_of : ℕ → Option Step → A) (told_of : Option A → List (List Because)) (machine next : Ordered A) (builder : Built) (told : List (List Because)) (r : Recording) (n : ℕ) (step : Step)
     (here : slice_get r.steps n ≡ Some step) (come : HasComeTo tag_of told_of machine builder told r n)
     (given : Result Reply Refusal) (rival : Option A) (number : ℕ) (line : number ≡ slice_index r.lines n)
-    (answer : (past : List Step) (tags : ℕ → A) → Stands tags machine past → given ≡ order_answer (past ++ step ∷ []) (length past))
-    (named : (past : List Step) (tags : ℕ → A) → Stands tags machine past → given ≡ Ok Race → rival ≡ option_map tags (unordered_with (past ++ step ∷ []) (length past)))
-    (goes_on : (past : List Step) (tags : ℕ → A) → Stands tags machine past → tags (length past) ≡ tag_of number (Some step) → Stands tags next (past ++ step ∷ [])) where
+    (answer : (past : List Step) (tags : ℕ → A) → Stands tags all_whole machine past → given ≡ order_answer (past ++ step ∷ []) (length past))
+    (named : (past : List Step) (tags : ℕ → A) → Stands tags all_whole machine past → given ≡ Ok Race → rival ≡ option_map tags (unordered_with (past ++ step ∷ []) (length past)))
+    (goes_on : (past : List Step) (tags : ℕ → A) → Stands tags all_whole machine past → tags (length past) ≡ tag_of number (Some step) → Stands tags all_whole next (past ++ step ∷ [])) where
   known : given ≡ order_answer r.steps n
   known = answer (take n r.steps) (tag_at tag_of r) come.stands ∙ order-here r.steps n step here
 
@@ -93,15 +93,15 @@ module _ {A : Type 0} (tag_of : ℕ → Option Step → A) (told_of : Option A �
   unfolding tag_at
   tag_here = ap (λ (k : ℕ). tag_of (slice_index r.lines k) (slice_get r.steps k)) (long r.steps n step here) ∙ ap₂ tag_of (sym line) here
 
-  stands : Stands (tag_at tag_of r) next (take (n + 1) r.steps)
-  stands = subst (Stands (tag_at tag_of r) next) (past-next r.steps n step here) (goes_on (take n r.steps) (tag_at tag_of r) come.stands tag_here)
+  stands : Stands (tag_at tag_of r) all_whole next (take (n + 1) r.steps)
+  stands = subst (Stands (tag_at tag_of r) all_whole next) (past-next r.steps n step here) (goes_on (take n r.steps) (tag_at tag_of r) come.stands tag_here)
 
   pub plain-here : is_plain given ≡ true → ArePlainBy (order_answer r.steps) n 1
   plain-here plain i low high =
       let same : n ≡ i = omega (arith, low, high) in
       subst (λ (k : ℕ). is_plain (order_answer r.steps k) ≡ true) same (ap is_plain (sym known) ∙ plain)
 
-  pub step-here : (names : NameTable) (site : ℕ) (locks : List ℕ) → site ≡ slice_index r.sites n → names ≡ r.names → ((past : List Step) (tags : ℕ → A) → Stands tags next past → locks ≡ (holdings_end past step.thread).held)
+  pub step-here : (names : NameTable) (site : ℕ) (locks : List ℕ) → site ≡ slice_index r.sites n → names ≡ r.names → ((past : List Step) (tags : ℕ → A) → Stands tags all_whole next past → locks ≡ (holdings_end past step.thread).held)
       → IsStepBy (order_answer r.steps) r n names number site step given locks
   step-here names site locks at listed locked =
       record {

@@ -16,13 +16,14 @@ use Rattle.er_order.proofs.StepLemmas.{acts-front, clocks-front}
 use Rattle.er_order.specs.Clocks.{Clocks, clocks_at}
 use Rattle.er_order.specs.Order.{Act, acts_of}
 use Rattle.er_explain.specs.Racing.{places_below}
+use Rattle.er_order.specs.ByBytes.{Touched}
 use Rattle.er_order.specs.Races.{order_answer}
 use Rattle.er_report.specs.declared.report.Because.{Because}
 use Rattle.er_report.specs.Builder.{Built, IsBuiltBy}
 use Rattle.er_text.specs.Batches.{joined}
 use Rattle.er_trace.specs.Names.{NameTable, no_names}
 use Rattle.er_trace.specs.Trace.{IsNamed, HasSiteName, Recording, no_steps}
-use Rattle.er_unordered.specs.Inner.Passes.{HasAnswered, HasGathered, recorded, tells}
+use Rattle.er_unordered.specs.Inner.Passes.{all_whole, HasAnswered, HasGathered, recorded, tells}
 use Rattle.er_unordered.specs.Inner.Reasons.{tag_at, told_at}
 use Rattle.er_unordered.specs.Ordered.{HasGatheredFor, HasOrdered, OrderRan}
 use Rattle.er_unordered.specs.Reports.{has_order, is_order}
@@ -59,11 +60,11 @@ stop-on steps more (Beyond limit) is = beyond-on limit steps more is
 stop-on steps more OutOfMemory is = tt
 
 -- before any step
-pub started : {A : Type 0} (tag_of : ℕ → Option Step → A) (told_of : Option A → List (List Because)) (machine : Ordered A) → ((tags : ℕ → A) → Stands tags machine [])
+pub started : {A : Type 0} (tag_of : ℕ → Option Step → A) (told_of : Option A → List (List Because)) (machine : Ordered A) → ((tags : ℕ → A) (touched : Touched) → Stands tags touched machine [])
     → (builder : Built) → IsBuiltBy (order_answer []) builder no_steps 0 → HasAnswered tag_of told_of machine builder [] no_steps
 unfolding places_below
 started tag_of told_of machine stands builder built = record {
-  come = record { stands = stands (tag_at tag_of no_steps); built = built; reasons = sym (ap (told_at tag_of told_of no_steps) built.races) };
+  come = record { stands = stands (tag_at tag_of no_steps) all_whole; built = built; reasons = sym (ap (told_at tag_of told_of no_steps) built.races) };
   named = All-nil (IsNamed no_names);
   long = refl;
   seen = All-nil (HasSiteName no_names);

@@ -17,6 +17,7 @@ use crate::reasons::{Tag, Told};
 use er_batch::{has_room, is_plain};
 use er_clock::NoTick;
 use er_event::{Lockset, Site, Step};
+use er_order::Bytes;
 use er_report::{ReportBuilder, view_of};
 use er_trace::{Names, Trace};
 use std::alloc::AllocError;
@@ -45,7 +46,8 @@ pub(crate) fn answer_steps<T: Tag>(
     for (k, step) in steps.iter().enumerate() {
         machine.look_ahead(steps, k);
         let line = trace.lines()[k];
-        let answer = machine.step(step, T::of(line, step))?;
+        let bytes = Bytes { first: 0, last: 3 };
+        let answer = machine.step(step, bytes, T::of(line, step))?;
         if is_plain(&answer.reply) {
             builder.add_plain(1);
         } else {

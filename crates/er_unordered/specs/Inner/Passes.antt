@@ -5,6 +5,7 @@ use Rattle.er_report.specs.Builder.{Built, IsBuiltBy}
 use Rattle.er_report.specs.declared.report.Because.{Because}
 use Rattle.er_trace.specs.Names.{NameTable}
 use Rattle.er_trace.specs.Trace.{Recording, IsNamed, HasSiteName}
+use Rattle.er_order.specs.ByBytes.{Touched, whole}
 use Rattle.er_order.specs.Races.{order_answer}
 use Rattle.er_unordered.specs.Standing.{Ordered, Stands}
 use Rattle.er_unordered.specs.Inner.Reasons.{line_reason, one_told, no_tag, none_told, tag_at, told_at}
@@ -15,9 +16,13 @@ use Rattle.er_unordered.specs.declared.ordering.Machines.TheVariants.{Plain, Tel
 abbrev pub recorded : List Step → List ℕ → List ℕ → NameTable → Recording
 recorded steps lines sites names = record { steps = steps; lines = lines; sites = sites; names = names }
 
+-- each access touches all bytes of its word
+abbrev pub all_whole : Touched
+all_whole k = whole
+
 -- the machine stands for the recording's first n steps, and the report and what is told are theirs
 pub record HasComeTo {A : Type 0} (tag_of : ℕ → Option Step → A) (told_of : Option A → List (List Because)) (machine : Ordered A) (builder : Built) (told : List (List Because)) (r : Recording) (n : ℕ) : Type 0 where
-  pub stands : Stands (tag_at tag_of r) machine (take n r.steps)
+  pub stands : Stands (tag_at tag_of r) all_whole machine (take n r.steps)
   pub built : IsBuiltBy (order_answer r.steps) builder r n
   pub reasons : told ≡ told_at tag_of told_of r builder.races
 

@@ -1,15 +1,19 @@
 -- Each step is answered as the definitions say, and added to the report.
-use Rattle.std.proofs.Common.{◌≡◌, ◌<◌, ◌≤◌, ◌+◌, ◌∙◌, ◌++◌, ◌∷◌, [], ℕ, List, length, Err, take, slice_get, slice_index, Some, refl, sym, ap, subst, arith}
+use Rattle.std.proofs.Common.{◌≡◌, ◌<◌, ◌≤◌, ◌+◌, ◌∙◌, ◌++◌, ◌∷◌, [], ℕ, List, length, Err, Ok, take, slice_get, slice_index, Some, refl, sym, ap, subst, arith}
 use Rattle.std.proofs.lemmas.Option.{slice_get_read}
+use Rattle.std.specs.Option.{option_map}
 use Rattle.er_event.proofs.Lists.{get_behind}
+use Rattle.er_event.specs.declared.steps.Reply.TheVariants.{Race}
 use Rattle.er_event.specs.declared.steps.Step.{Step}
 use Rattle.er_model.specs.Holdings.{Holdings}
 use Rattle.er_replay.proofs.ThreadsLemmas.{err_from}
 use Rattle.er_batch.proofs.BatchLemmas.{number-behind, site-behind}
 use Rattle.er_text.specs.Batches.{joined}
 use Rattle.er_order.specs.Races.{order_answer}
+use Rattle.er_order.specs.Reasons.{unordered_with}
+use Rattle.er_order.proofs.ByBytes.{whole-answers, whole-named}
 use Rattle.er_trace.specs.Trace.{Recording}
-use Rattle.er_unordered.specs.Inner.Passes.{HasComeTo}
+use Rattle.er_unordered.specs.Inner.Passes.{HasComeTo, all_whole}
 use Rattle.er_unordered.specs.Inner.Reasons.{tag_at}
 use Rattle.er_unordered.specs.Standing.{Ordered, Stands}
 use Rattle.er_unordered.proofs.PassLemmas.{come-to, plain-here, start, step-here, told-plain, whole}
@@ -28,8 +32,12 @@ loop-k-preserved g c =
     λ past lines long. ap (λ (numbers : List ℕ). slice_index numbers k) c.lines-in-loop-k.ensures.value ∙ number-behind lines c.args.trace.now.lines (length past) k long in
     let ahead : (r : Recording) (at : ℕ) → HasComeTo g.T.Tag.tag_of g.T.Tag.told_of c.loop-k.machine c.loop-k.builder c.loop-k.told r at → HasComeTo g.T.Tag.tag_of g.T.Tag.told_of c.look_ahead.new.self c.loop-k.builder c.loop-k.told r at =
     λ r at come. subst (λ (m : Ordered g.row.T.Denot). HasComeTo g.T.Tag.tag_of g.T.Tag.told_of m c.loop-k.builder c.loop-k.told r at) (sym c.look_ahead.ensures) come in
-    let goes_on : (past : List Step) (tags : ℕ → g.row.T.Denot) → Stands tags c.look_ahead.new.self past → tags (length past) ≡ g.T.Tag.tag_of (slice_index c.lines-in-loop-k.result.now k) (Some step) → Stands tags c.step.new.self (past ++ step ∷ []) =
-    λ past tags stands last. c.in_ok-answer.ensures.goes_on past tags stands (last ∙ sym c.of.ensures) in
+    let goes_on : (past : List Step) (tags : ℕ → g.row.T.Denot) → Stands tags all_whole c.look_ahead.new.self past → tags (length past) ≡ g.T.Tag.tag_of (slice_index c.lines-in-loop-k.result.now k) (Some step) → Stands tags all_whole c.step.new.self (past ++ step ∷ []) =
+    λ past tags stands last. c.in_ok-answer.ensures.goes_on past tags all_whole stands (last ∙ sym c.of.ensures) refl in
+    let answer : (past : List Step) (tags : ℕ → g.row.T.Denot) → Stands tags all_whole c.look_ahead.new.self past → c.in_ok-answer.answer.reply ≡ order_answer (past ++ step ∷ []) (length past) =
+    λ past tags stands. c.in_ok-answer.ensures.answer past tags all_whole stands refl ∙ whole-answers all_whole (λ j. refl) (past ++ step ∷ []) (length past) in
+    let named : (past : List Step) (tags : ℕ → g.row.T.Denot) → Stands tags all_whole c.look_ahead.new.self past → c.in_ok-answer.answer.reply ≡ Ok Race → c.in_ok-answer.answer.rival ≡ option_map tags (unordered_with (past ++ step ∷ []) (length past)) =
+    λ past tags stands race. c.in_ok-answer.ensures.named past tags all_whole stands refl race ∙ ap (option_map tags) (whole-named all_whole (λ j. refl) (past ++ step ∷ []) (length past)) in
     elim c.if-is_plain.branch [
       | then-is_plain w ↦ record {
         steps = rw w.builder-is (let so_far = c.loop-k.invariant.steps in let added = w.add_plain.ensures.steps in omega arith);
@@ -42,12 +50,12 @@ loop-k-preserved g c =
             let plain = sym c.is_plain.ensures ∙ w.if-is_plain.true in
             rw (w.builder-is, w.told-is)
             (subst (λ (n : ℕ). HasComeTo g.T.Tag.tag_of g.T.Tag.told_of c.step.new.self w.add_plain.new.self c.loop-k.told r n) one
-            (come-to g.T.Tag.tag_of g.T.Tag.told_of c.look_ahead.new.self c.step.new.self c.loop-k.builder c.loop-k.told r at step (here past) come c.in_ok-answer.answer.reply c.in_ok-answer.answer.rival (slice_index c.lines-in-loop-k.result.now k) (line past lines long) c.in_ok-answer.ensures.answer c.in_ok-answer.ensures.named goes_on
+            (come-to g.T.Tag.tag_of g.T.Tag.told_of c.look_ahead.new.self c.step.new.self c.loop-k.builder c.loop-k.told r at step (here past) come c.in_ok-answer.answer.reply c.in_ok-answer.answer.rival (slice_index c.lines-in-loop-k.result.now k) (line past lines long) answer named goes_on
             w.add_plain.new.self c.loop-k.told
             (w.add_plain.ensures.built_by (order_answer r.steps) r at come.built
-            (plain-here g.T.Tag.tag_of g.T.Tag.told_of c.look_ahead.new.self c.step.new.self c.loop-k.builder c.loop-k.told r at step (here past) come c.in_ok-answer.answer.reply c.in_ok-answer.answer.rival (slice_index c.lines-in-loop-k.result.now k) (line past lines long) c.in_ok-answer.ensures.answer c.in_ok-answer.ensures.named goes_on plain))
+            (plain-here g.T.Tag.tag_of g.T.Tag.told_of c.look_ahead.new.self c.step.new.self c.loop-k.builder c.loop-k.told r at step (here past) come c.in_ok-answer.answer.reply c.in_ok-answer.answer.rival (slice_index c.lines-in-loop-k.result.now k) (line past lines long) answer named goes_on plain))
             w.add_plain.ensures.rules
-            (told-plain g.T.Tag.tag_of g.T.Tag.told_of c.look_ahead.new.self c.step.new.self c.loop-k.builder c.loop-k.told r at step (here past) come c.in_ok-answer.answer.reply c.in_ok-answer.answer.rival (slice_index c.lines-in-loop-k.result.now k) (line past lines long) c.in_ok-answer.ensures.answer c.in_ok-answer.ensures.named goes_on plain)));
+            (told-plain g.T.Tag.tag_of g.T.Tag.told_of c.look_ahead.new.self c.step.new.self c.loop-k.builder c.loop-k.told r at step (here past) come c.in_ok-answer.answer.reply c.in_ok-answer.answer.rival (slice_index c.lines-in-loop-k.result.now k) (line past lines long) answer named goes_on plain)));
       }
       | else-is_plain+in_ok-add_told w ↦ record {
         steps = rw w.builder-is (let so_far = c.loop-k.invariant.steps in let added = w.in_ok-add_told.ensures.steps in omega arith);
@@ -60,11 +68,11 @@ loop-k-preserved g c =
             let inside : k < length w.sites-else-is_plain.result.now = rw (w.sites-else-is_plain.ensures.value, w.sites-else-is_plain.ensures.one_per_step) (rw c.steps-steps.ensures.value at c.loop-k-test.true) in
             let site = site-behind w.sites-else-is_plain.result.now sites c.args.trace.now.sites (length past) k w.index-sites-k.result w.sites-else-is_plain.ensures.value each inside w.index-sites-k.is in
             let given =
-            step-here g.T.Tag.tag_of g.T.Tag.told_of c.look_ahead.new.self c.step.new.self c.loop-k.builder c.loop-k.told r at step (here past) come c.in_ok-answer.answer.reply c.in_ok-answer.answer.rival (slice_index c.lines-in-loop-k.result.now k) (line past lines long) c.in_ok-answer.ensures.answer c.in_ok-answer.ensures.named goes_on
-            _ _ _ site c.names-names.ensures (λ past tags stands. w.held-held.ensures.locks ∙ ap (λ (h : Holdings). h.held) (w.held.ensures past tags stands)) in
+            step-here g.T.Tag.tag_of g.T.Tag.told_of c.look_ahead.new.self c.step.new.self c.loop-k.builder c.loop-k.told r at step (here past) come c.in_ok-answer.answer.reply c.in_ok-answer.answer.rival (slice_index c.lines-in-loop-k.result.now k) (line past lines long) answer named goes_on
+            _ _ _ site c.names-names.ensures (λ past tags stands. w.held-held.ensures.locks ∙ ap (λ (h : Holdings). h.held) (w.held.ensures past tags all_whole stands)) in
             rw (w.builder-is, w.told-is)
             (subst (λ (n : ℕ). HasComeTo g.T.Tag.tag_of g.T.Tag.told_of c.step.new.self w.add_told.new.builder w.add_told.new.told r n) one
-            (come-to g.T.Tag.tag_of g.T.Tag.told_of c.look_ahead.new.self c.step.new.self c.loop-k.builder c.loop-k.told r at step (here past) come c.in_ok-answer.answer.reply c.in_ok-answer.answer.rival (slice_index c.lines-in-loop-k.result.now k) (line past lines long) c.in_ok-answer.ensures.answer c.in_ok-answer.ensures.named goes_on
+            (come-to g.T.Tag.tag_of g.T.Tag.told_of c.look_ahead.new.self c.step.new.self c.loop-k.builder c.loop-k.told r at step (here past) come c.in_ok-answer.answer.reply c.in_ok-answer.answer.rival (slice_index c.lines-in-loop-k.result.now k) (line past lines long) answer named goes_on
             w.add_told.new.builder w.add_told.new.told (w.in_ok-add_told.ensures.built r at come.built given) w.in_ok-add_told.ensures.rules (w.in_ok-add_told.ensures.told r at come.built given)));
       }
     ]
@@ -91,7 +99,7 @@ returns-in_err-answer-clause-full g c = λ past lines sites names kept run.
     let step : Step = c.index-steps-k.result in
     let read : slice_get c.steps-steps.result.now c.loop-k.k ≡ Some step = slice_get_read c.steps-steps.result.now _ c.loop-k.k step refl (omega arith) c.index-steps-k.is in
     let here : slice_get r.steps at ≡ Some step = get_behind past c.args.trace.now.steps c.loop-k.k at refl ∙ (rw c.steps-steps.ensures.value at read) in
-    let stands : Stands (tag_at g.T.Tag.tag_of r) c.look_ahead.new.self (take at r.steps) = subst (λ (m : Ordered g.row.T.Denot). Stands (tag_at g.T.Tag.tag_of r) m (take at r.steps)) (sym c.look_ahead.ensures) come.stands in
+    let stands : Stands (tag_at g.T.Tag.tag_of r) all_whole c.look_ahead.new.self (take at r.steps) = subst (λ (m : Ordered g.row.T.Denot). Stands (tag_at g.T.Tag.tag_of r) all_whole m (take at r.steps)) (sym c.look_ahead.ensures) come.stands in
     err_from c.from_residual.result _ _ c.from_residual.ensures.1 (λ e is.
     rw is (stop-by r.steps c.in_err-answer.field-0.0 (λ limit beyond. beyond-here limit r.steps at step here
-    (c.in_err-answer.ensures.limit (take at r.steps) (tag_at g.T.Tag.tag_of r) stands limit (ap Err beyond)))))
+    (c.in_err-answer.ensures.limit (take at r.steps) (tag_at g.T.Tag.tag_of r) all_whole stands limit (ap Err beyond)))))
