@@ -1,12 +1,13 @@
--- What a reader of a trace of any form still gives.
-use Rattle.std.specs.Prelude.{◌≡◌, ℕ, List, [], ◌++◌, drop, take}
+-- What a reader of a trace of any form still gives, and what it notes of accesses.
+use Rattle.std.specs.Prelude.{◌≡◌, ◌≤◌, ℕ, All, Bool, List, [], ◌++◌, drop, take}
 use Rattle.er_lines.specs.declared.ready.NameKind.{NameKind}
-use Rattle.er_binary.specs.Inner.Decoders.{still}
-use Rattle.er_binary.specs.Meaning.{meant}
+use Rattle.er_binary.specs.Inner.Decoders.{still, to_note}
+use Rattle.er_binary.specs.Meaning.{meant, touches}
 use Rattle.er_binary.specs.States.{names_in}
 use Rattle.er_binary.specs.declared.decoded.Decoded.{Decoded}
 use Rattle.er_binary.specs.declared.decoded.Form.{Form}
 use Rattle.er_binary.specs.declared.decoded.Form.TheVariants as form
+use Rattle.er_binary.specs.declared.touches.Touch.{Touch}
 
 -- the reader that it reads
 abbrev pub source_of : {R : Type 0} → Decoded R → R
@@ -41,3 +42,31 @@ names_by f = λ kind n. []
 
 abbrev pub names_of : {R : Type 0} → Decoded R → NameKind → ℕ → List ℕ
 names_of decoded = names_by decoded.form
+
+-- what accesses touch that was noted and not handed out, and what is to be noted of these bytes: by what its first bytes were found to begin
+abbrev pub to_touch_by : Form → List ℕ → List ℕ → List Touch
+to_touch_by form.Unknown first bytes = touches (first ++ bytes)
+to_touch_by form.Text first bytes = []
+to_touch_by (form.Binary decoder) first bytes = to_note decoder bytes
+
+unfoldable pub to_touch : {R : Type 0} → Decoded R → List ℕ → List Touch
+to_touch decoded bytes = to_touch_by decoded.form (take decoded.held decoded.first) bytes
+
+-- it has noted nothing yet
+abbrev pub TouchesFresh : {R : Type 0} → Decoded R → Type 0
+TouchesFresh decoded = (bytes : List ℕ) → to_touch decoded bytes ≡ touches bytes
+
+-- whether it notes what accesses touch
+abbrev pub is_noting_by : Form → Bool → Bool
+is_noting_by (form.Binary decoder) asked = decoder.notes.is_on
+is_noting_by f asked = asked
+
+abbrev pub is_noting : {R : Type 0} → Decoded R → Bool
+is_noting decoded = is_noting_by decoded.form decoded.is_noting
+
+-- what was noted came behind these, and what is to be noted is of this line or of lines behind it
+pub record HasHanded {R : Type 0} (old new : Decoded R) (before after : List Touch) (line : ℕ) : Type 0 where
+  pub handed : List Touch
+  pub given : after ≡ before ++ handed
+  pub left : (bytes : List ℕ) → to_touch old bytes ≡ handed ++ to_touch new bytes
+  pub later : (bytes : List ℕ) → All (λ touch. line ≤ touch.line) (to_touch new bytes)

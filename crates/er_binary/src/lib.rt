@@ -19,6 +19,7 @@ pub use decoded::{Decoded, Directly, Listener};
 pub use names::{Names, number};
 pub use records::{Access, Head, Kind, Record, record_at};
 pub use state::State;
+pub use touches::Touch;
 
 mod decoded;
 mod decoder;
@@ -27,3 +28,4 @@ mod nodes;
 mod records;
 mod state;
 mod text;
+mod touches;
