@@ -370,10 +370,11 @@ def text_of(data):
 
 class Writer:
     """Makes a trace 4. Without dice each number is as short as it may be, and no record is there that says nothing. With `most_calls` each event is reached
-    by at most that many calls, which are random. With `facts` and dice there are facts that say something, and others that nearly do."""
+    by at most that many calls, which are random. With `facts` and dice there are facts that say something, and others that nearly do. With `words` each
+    access touches whole words."""
 
-    def __init__(self, dice=None, most_bytes=USUAL_BYTES, most_calls=0, facts=False):
-        self.dice, self.most_bytes, self.most_calls, self.facts, self.touched = dice, most_bytes, most_calls, facts, set()
+    def __init__(self, dice=None, most_bytes=USUAL_BYTES, most_calls=0, facts=False, words=False):
+        self.dice, self.most_bytes, self.most_calls, self.facts, self.words, self.touched = dice, most_bytes, most_calls, facts, words, set()
         self.blocks, self.whole, self.events = 0, bytearray(MAGIC), 0
         self.threads, self.locks, self.places, self.nodes = {}, {}, {}, {}
         self.begin_block()
@@ -603,14 +604,14 @@ def plain(text, events=0, lost=0):
     return b"".join(line + b"\n" for line in lines)
 
 
-def joined(parts, dice):
-    """Accesses of one thread at one place, of words one behind the other, as accesses of several words. With dice only some of them."""
+def joined(parts, dice, longest=5):
+    """Accesses of one thread at one place, of words one behind the other, as accesses of several words. With dice only some of them, and at most so many words."""
     run = []
     for part in [*parts, None]:
         is_access = isinstance(part, tuple) and part[1] in (b"read", b"write")
         word = reference.number(part[2][0]) & ~3 if is_access else None
         key = (part[0], part[1], site_in(part[2][1:])) if is_access else None
-        most = 4 if dice is None else dice.randrange(1, 6)
+        most = 4 if dice is None else dice.randrange(1, longest + 1)
         if run and (key != run[0][0] or word != run[-1][1] + 4 or len(run) >= most):
             yield run
             run = []
@@ -623,7 +624,7 @@ def joined(parts, dice):
 def encode(text, dice=None, lost=0, **more):
     """A trace 4 that means `plain` of the text."""
     writer = Writer(dice, **more)
-    for part in joined(parts_of(text), dice):
+    for part in joined(parts_of(text), dice, 4 if writer.words else 5):
         if isinstance(part, bytes):
             writer.note(part)
         elif isinstance(part, list):
@@ -637,7 +638,7 @@ def write_access(writer, run):
     """An access that touches the words of a run, and all its bytes or some."""
     (thread, verb, site), first = run[0]
     end = run[-1][1] + 4
-    if writer.chance(2):
+    if not writer.words and writer.chance(2):
         first += writer.dice.randrange(4)
         end = writer.dice.randrange(max(first + 1, end - 3), end + 1)
     if end - first > 16:

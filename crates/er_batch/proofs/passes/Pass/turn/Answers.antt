@@ -16,7 +16,7 @@ answer_last-requires-clause-formed g c κs within =
     still-formed _ _ _ _ _ grows.names (search rules)
 
 pub returns-in-More-clause-come : goal.returns-in-More-clause-come
-returns-in-More-clause-come g c = λ asked told come more.
+returns-in-More-clause-come g c = λ asked told tells come more.
     let t : Recording = c.args.self.now.trace in
     let u : Recording = c.prepare.new.beside.4.now in
     let known : Option (List ℕ) = g.D.Read.remaining (inner_of c.args.reader.now) in
@@ -35,12 +35,12 @@ returns-in-More-clause-come g c = λ asked told come more.
     c.requires.formed.long c.requires.formed.one_each c.args.self.now.part
     (recorded c.keep_last.new.self.steps.items c.keep_last.new.self.numbers.items c.keep_last.new.self.sites.items t.names) c.keep_last.ensures.kept
     (λ past lines sites stands. c.in_ok-answer_last.ensures.answered asked past lines sites t.names grows.names
-    (rw c.as_slice.ensures.value at (c.prepare.ensures.ready asked (recorded past lines sites t.names) (rw c.keep_last.ensures.analyst stands))))
+    (rw c.as_slice.ensures.value at (c.prepare.ensures.ready asked (recorded past lines sites t.names) (rw c.keep_last.ensures.analyst stands))) ?)
     c.keep_last.ensures.counted)
     c.in-More.is))
 
 pub returns-in_ok-answer_last-in-End-clause-ended : goal.returns-in_ok-answer_last-in-End-clause-ended
-returns-in_ok-answer_last-in-End-clause-ended g c = λ asked told come ended.
+returns-in_ok-answer_last-in-End-clause-ended g c = λ asked told tells come ended.
     let t : Recording = c.args.self.now.trace in
     let u : Recording = c.prepare.new.beside.4.now in
     let v : Recording = c.answer_last.new.self.trace in
@@ -64,7 +64,7 @@ returns-in_ok-answer_last-in-End-clause-ended g c = λ asked told come ended.
     c.requires.formed.long c.requires.formed.one_each c.args.self.now.part
     (recorded c.keep_last.new.self.steps.items c.keep_last.new.self.numbers.items c.keep_last.new.self.sites.items t.names) c.keep_last.ensures.kept
     (λ past lines sites stands. c.in_ok-answer_last.ensures.answered asked past lines sites t.names grows.names
-    (rw c.as_slice.ensures.value at (c.prepare.ensures.ready asked (recorded past lines sites t.names) (rw c.keep_last.ensures.analyst stands))))
+    (rw c.as_slice.ensures.value at (c.prepare.ensures.ready asked (recorded past lines sites t.names) (rw c.keep_last.ensures.analyst stands))) ?)
     c.keep_last.ensures.counted past lines sites stands))
     last
     (ends-on u v _ _ _ c.in_ok-answer_last.ensures.trace c.in_ok-answer_last.ensures.next.0 c.in_ok-answer_last.ensures.next.1 c.in_ok-answer_last.ensures.next.2
@@ -77,6 +77,12 @@ returns-in_ok-answer_last-in-End-clause-ended g c = λ asked told come ended.
     c.answer_last.new.self.part
     (recorded c.keep_last-in-End.new.self.steps.items c.keep_last-in-End.new.self.numbers.items c.keep_last-in-End.new.self.sites.items v.names) c.keep_last-in-End.ensures.kept
     (λ past lines sites stands. rw c.keep_last-in-End.ensures.trace at (c.in_ok-answer_last-in-End.ensures.answered asked past lines sites names (rw c.keep_last-in-End.ensures.trace kept)
-    (rw c.as_slice-in-End.ensures.value at (c.prepare-in-End.ensures.ready asked (recorded past lines sites names) (rw c.keep_last-in-End.ensures.analyst stands)))))
+    (rw c.as_slice-in-End.ensures.value at (c.prepare-in-End.ensures.ready asked (recorded past lines sites names) (rw c.keep_last-in-End.ensures.analyst stands))) ?))
     c.keep_last-in-End.ensures.counted past lines sites stands))
     c.in-End.is limit))
+
+pub returns-in-More-clause-touches : goal.returns-in-More-clause-touches
+returns-in-More-clause-touches g c = λ all tells. ?
+
+pub returns-in_ok-answer_last-in-End-clause-touches : goal.returns-in_ok-answer_last-in-End-clause-touches
+returns-in_ok-answer_last-in-End-clause-touches g c = λ all tells. ?
