@@ -1,7 +1,7 @@
 -- What a reader of a trace of any form still gives, before and behind its first bytes.
 use Rattle.std.proofs.Common.{All, IfOk, OnErr, OnOk, append-nil, vec_items, ◌≡◌, ℕ, zero, suc, ◌<◌, ◌≤◌, Bool, true, false, not, cond, List, [], ◌∷◌, ◌++◌, length, take, drop, Option, Some, None, IfNone, IfSome, Result, Ok, Err, option_map, refl, sym, ap, ◌∙◌, arith}
 use Rattle.std.proofs.lemmas.List.Elements.{All-cons, All-nil, All-same}
-use Rattle.er_binary.specs.Decoded.{known_touches, source_of, to_come, to_come_by, is_noting, is_noting_by, to_touch, to_touch_by}
+use Rattle.er_binary.specs.Decoded.{to_come, to_come_by, is_noting, is_noting_by, to_touch, to_touch_by}
 use Rattle.er_binary.specs.Inner.Decoders.{undecoded, still, to_note}
 use Rattle.er_lines.specs.Touches.{HasHanded, StaysKnown}
 use Rattle.er_binary.specs.Meaning.{as_touches, magic, meant, text_behind, touches, touches_behind}
@@ -205,20 +205,3 @@ pub unknown_handed : {R : Type 0} (d e : Decoded R) (before : List Touch) → d.
     → (rest : List ℕ) → HasHanded (to_touch d rest) (Some (to_touch e rest)) before before 0
 unknown_handed d e before was is held first =
     none_handed d e before 0 (λ rest. unknown_touch d rest was ∙ sym (unknown_touch e rest is ∙ rw (held, first) refl)) (λ rest. any_later (to_touch e rest))
-
--- what is known to come stays known, if it is noted before and behind
-pub noted_stays : (old new : Bool) (a b : Option (List Touch)) → new ≡ old → (old ≡ true → StaysKnown a b) → StaysKnown (cond old a None) (cond new b None)
-noted_stays true new a b same stays = rw same (stays refl)
-noted_stays false new a b same stays = λ xs is. cc
-
--- what is handed out is the first of what is known to come
-pub known_handed : {R : Type 0} (remaining : R → Option (List ℕ)) (d e : Decoded R) (before after : List Touch) (line : ℕ) → source_of e ≡ source_of d → is_noting e ≡ is_noting d
-    → (is_noting d ≡ true → (rest : List ℕ) → HasHanded (to_touch d rest) (Some (to_touch e rest)) before after line)
-    → IfSome (known_touches remaining d) (λ old. HasHanded old (known_touches remaining e) before after line)
-known_handed remaining d e before after line source noting handed = rw (source, noting) (by_known (is_noting d) (remaining (source_of d)) handed)
-  where
-    by_known : (on : Bool) (known : Option (List ℕ)) → (on ≡ true → (rest : List ℕ) → HasHanded (to_touch d rest) (Some (to_touch e rest)) before after line)
-        → IfSome (cond on (option_map (to_touch d) known) None) (λ old. HasHanded old (cond on (option_map (to_touch e) known) None) before after line)
-    by_known true None had = tt
-    by_known true (Some rest) had = had refl rest
-    by_known false known had = tt
