@@ -12,7 +12,7 @@ use Rattle.er_binary.specs.declared.decoder.Phase.TheVariants as phase
 use Rattle.er_binary.specs.declared.decoder.Spot.{Spot}
 use Rattle.er_binary.specs.declared.state.State.{State}
 use Rattle.er_binary.specs.declared.touches.Said.{Said}
-use Rattle.er_binary.specs.declared.touches.Touch.{Touch}
+use Rattle.er_lines.specs.declared.ready.Touch.{Touch}
 
 -- each is of this line or of one behind it
 abbrev pub AreFrom : ℕ → List Touch → Type 0

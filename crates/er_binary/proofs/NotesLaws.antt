@@ -3,7 +3,7 @@ use Rattle.std.proofs.Common.{◌≡◌, ◌==◌, ℕ, ◌+◌, ◌<◌, ◌≤
 use Rattle.std.specs.Option.{option_and_then}
 use Rattle.std.proofs.lemmas.List.{drop_all}
 use Rattle.std.specs.Io.KnownBytes.{Keeps, prepend_known}
-use Rattle.er_binary.specs.Inner.Decoders.{NotesOn, StaysKnown, all_blocks, all_content, all_records, to_note, undecoded}
+use Rattle.er_binary.specs.Inner.Decoders.{NotesOn, all_blocks, all_content, all_records, to_note, undecoded}
 use Rattle.er_binary.specs.Meaning.{Making, Taken, as_touches, past, take_record, take_said}
 use Rattle.er_binary.specs.Numbers.{plus}
 use Rattle.er_binary.specs.Records.{record_at}
@@ -17,7 +17,8 @@ use Rattle.er_binary.specs.declared.records.Record.{Record}
 use Rattle.er_binary.specs.declared.records.Record.TheVariants as said
 use Rattle.er_binary.specs.declared.state.State.{State}
 use Rattle.er_binary.specs.declared.touches.Said.{Said}
-use Rattle.er_binary.specs.declared.touches.Touch.{Touch}
+use Rattle.er_lines.specs.Touches.{StaysKnown}
+use Rattle.er_lines.specs.declared.ready.Touch.{Touch}
 use Rattle.er_binary.proofs.MeaningLaws.{record_end, record_none, record_some}
 
 -- what a record says of its lines, by the head that was read
@@ -143,19 +144,16 @@ passed_none line less = omega arith
 -- a list that stays known
 pub stays_by : (f g : List ℕ → List Touch) (a b : List ℕ) (old new : Option (List ℕ)) → Keeps (prepend_known a old) (prepend_known b new)
     → ((before after : List ℕ) → new ≡ Some after → b ++ after ≡ a ++ before → g after ≡ f before) → StaysKnown (option_map f old) (option_map g new)
-stays_by f g a b None new same means = tt
+stays_by f g a b None new same means = λ xs is. cc
 stays_by f g a b (Some before) None same means = absurd same
-stays_by f g a b (Some before) (Some after) same means = means before after refl same
+stays_by f g a b (Some before) (Some after) same means = λ xs is. ap Some (means before after refl same) ∙ is
 
 pub stays_trans : (a b c : Option (List Touch)) → StaysKnown a b → StaysKnown b c → StaysKnown a c
-stays_trans None b c one two = tt
-stays_trans (Some xs) None c one two = absurd one
-stays_trans (Some xs) (Some ys) None one two = absurd two
-stays_trans (Some xs) (Some ys) (Some zs) one two = two ∙ one
+stays_trans a b c one two = λ xs is. two xs (one xs is)
 
 pub stays_same : (f g : List ℕ → List Touch) (known : Option (List ℕ)) → ((rest : List ℕ) → f rest ≡ g rest) → StaysKnown (option_map f known) (option_map g known)
-stays_same f g None same = tt
-stays_same f g (Some rest) same = sym (same rest)
+stays_same f g None same = λ xs is. is
+stays_same f g (Some rest) same = λ xs is. ap Some (sym (same rest)) ∙ is
 
 -- what is to be noted of the blocks that are left, by the bytes that were read since
 pub noted_header : (d : Decoder) (before bytes : List ℕ) (f : ℕ → List Touch) → d.phase ≡ phase.Header → bytes ≡ take d.header_held d.header ++ before

@@ -20,7 +20,7 @@ use Rattle.er_binary.specs.declared.state.Words.{Words}
 use Rattle.er_binary.proofs.DecoderLaws.{given_is, record_is, words_left}
 use Rattle.er_binary.proofs.MeaningLaws.{record_some, take_some}
 use Rattle.er_binary.specs.declared.touches.Said.{Said}
-use Rattle.er_binary.specs.declared.touches.Touch.{Touch}
+use Rattle.er_lines.specs.declared.ready.Touch.{Touch}
 use Rattle.er_binary.proofs.NotesLaws.{noted_record, touches_none}
 
 -- a decoder whose text is given took a word's line

@@ -1,5 +1,5 @@
 -- What a reader of a trace of any form still gives, and what it notes of accesses.
-use Rattle.std.specs.Prelude.{◌≡◌, ◌≤◌, ℕ, All, Bool, List, [], ◌++◌, drop, take}
+use Rattle.std.specs.Prelude.{◌≡◌, ℕ, Bool, cond, List, [], ◌++◌, Option, None, drop, option_map, take}
 use Rattle.er_lines.specs.declared.ready.NameKind.{NameKind}
 use Rattle.er_binary.specs.Inner.Decoders.{still, to_note}
 use Rattle.er_binary.specs.Meaning.{meant, touches}
@@ -7,7 +7,7 @@ use Rattle.er_binary.specs.States.{names_in}
 use Rattle.er_binary.specs.declared.decoded.Decoded.{Decoded}
 use Rattle.er_binary.specs.declared.decoded.Form.{Form}
 use Rattle.er_binary.specs.declared.decoded.Form.TheVariants as form
-use Rattle.er_binary.specs.declared.touches.Touch.{Touch}
+use Rattle.er_lines.specs.declared.ready.Touch.{Touch}
 
 -- the reader that it reads
 abbrev pub source_of : {R : Type 0} → Decoded R → R
@@ -64,9 +64,6 @@ is_noting_by f asked = asked
 abbrev pub is_noting : {R : Type 0} → Decoded R → Bool
 is_noting decoded = is_noting_by decoded.form decoded.is_noting
 
--- what was noted came behind these, and what is to be noted is of this line or of lines behind it
-pub record HasHanded {R : Type 0} (old new : Decoded R) (before after : List Touch) (line : ℕ) : Type 0 where
-  pub handed : List Touch
-  pub given : after ≡ before ++ handed
-  pub left : (bytes : List ℕ) → to_touch old bytes ≡ handed ++ to_touch new bytes
-  pub later : (bytes : List ℕ) → All (λ touch. line ≤ touch.line) (to_touch new bytes)
+-- what is known of what is to be handed out, by what is known of the bytes of the reader that it reads
+abbrev pub known_touches : {R : Type 0} → (R → Option (List ℕ)) → Decoded R → Option (List Touch)
+known_touches remaining decoded = cond (is_noting decoded) (option_map (to_touch decoded) (remaining (source_of decoded))) None

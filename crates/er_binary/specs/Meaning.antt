@@ -14,7 +14,7 @@ use Rattle.er_binary.specs.declared.records.Record.{Record}
 use Rattle.er_binary.specs.declared.records.Record.TheVariants as said
 use Rattle.er_binary.specs.declared.state.State.{State}
 use Rattle.er_binary.specs.declared.touches.Said.{Said}
-use Rattle.er_binary.specs.declared.touches.Touch.{Touch}
+use Rattle.er_lines.specs.declared.ready.Touch.{Touch}
 
 -- a record that was read: its text, what is known behind it, how many bytes it has, and what it says of the lines of its text
 pub record Taken : Type 0 where

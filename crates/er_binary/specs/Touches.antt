@@ -8,7 +8,7 @@ use Rattle.er_binary.specs.declared.records.Record.{Record}
 use Rattle.er_binary.specs.declared.records.Record.TheVariants as said
 use Rattle.er_binary.specs.declared.state.State.{State}
 use Rattle.er_binary.specs.declared.touches.Said.{Said}
-use Rattle.er_binary.specs.declared.touches.Touch.{Touch}
+use Rattle.er_lines.specs.declared.ready.Touch.{Touch}
 
 -- how many lines the text of a record has that is no access. Of the end the last one alone counts, since none comes behind it
 abbrev pub lines_of : Kind → ℕ

@@ -1,13 +1,12 @@
 //! A reader of the text that a trace of any form means.
-ghost use Rattle.std.specs.Prelude.{◌≡◌, ◌≢◌, ◌≤◌, ℕ, List, IfOk, IfSome, OnErr, OnOk, option_map, true};
+ghost use Rattle.std.specs.Prelude.{◌≡◌, ◌≢◌, ◌≤◌, ℕ, List, IfOk, IfSome, OnErr, OnOk, Some, option_map, true};
 ghost use Rattle.std.specs.Io.{ReadsAtMost};
 ghost use Rattle.std.specs.Io.KnownBytes.{Keeps, ReadConsumes};
 
 use crate::decoder::{Decoder, copy_front, fill};
 use crate::names::Names;
 use crate::state::State;
-use crate::touches::Touch;
-use er_lines::{NameKind, ReadyLine, Shortcut};
+use er_lines::{NameKind, ReadyLine, Shortcut, Touch};
 use std::alloc::{AllocError, Global};
 use std::io;
 use std::io::Read;
@@ -53,7 +52,8 @@ pub struct Decoded<R> {
 }
 
 impl<R> Decoded<R> {
-    ghost use Rattle.er_binary.specs.Decoded.{HasHanded, IsFresh, TouchesFresh, is_noting, names_of, source_of, to_come, to_touch};
+    ghost use Rattle.er_binary.specs.Decoded.{IsFresh, TouchesFresh, is_noting, names_of, source_of, to_come, to_touch};
+    ghost use Rattle.er_lines.specs.Touches.{HasHanded};
 
     /// A reader of what the other one gives. It notes nothing of what accesses touch.
     pub fn new(alloc: Global, inner: R) -> Decoded<R>
@@ -85,7 +85,7 @@ impl<R> Decoded<R> {
     /// Puts what was noted behind the others. From then on it isn't known here any more. Returns the number of a line: what is noted later is of this
     /// line or of lines behind it. `AllocError`: memory was refused, and nothing changed.
     pub fn hand_out(&mut self, touches: &mut Vec<Touch>) -> Result<u64, AllocError>
-        ensures handed { IfOk result (λ line. is_noting self.old ≡ true → HasHanded self.old self.new touches.old.items touches.new.items line) }
+        ensures handed { IfOk result (λ line. is_noting self.old ≡ true → (bytes : List ℕ) → HasHanded (to_touch self.old bytes) (Some (to_touch self.new bytes)) touches.old.items touches.new.items line) }
         ensures noting { is_noting self.new ≡ is_noting self.old }
         ensures same { OnErr result ((touches.new.items ≡ touches.old.items) × ((bytes : List ℕ) → to_touch self.new bytes ≡ to_touch self.old bytes)) }
         ensures text { (bytes : List ℕ) → to_come self.new bytes ≡ to_come self.old bytes }
@@ -122,7 +122,7 @@ impl<R: Drop> Decoded<R> {
 
 impl<R: Read> Decoded<R> {
     ghost use Rattle.er_binary.specs.Decoded.{is_noting, source_of, to_come, to_touch};
-    ghost use Rattle.er_binary.specs.Inner.Decoders.{StaysKnown};
+    ghost use Rattle.er_lines.specs.Touches.{StaysKnown};
     ghost use Rattle.er_binary.specs.declared.decoded.Form.TheVariants as form;
 
     /// Reads as [`Read::read`] does. The listener hears each record whose text comes next.
@@ -193,7 +193,7 @@ impl<R: Read> Decoded<R> {
     }
 }
 
-/// Takes accesses and lock events of a binary trace before they are text.
+/// Takes accesses and lock events of a binary trace before they are text, and hands out what was noted of accesses, if that is noted.
 #[derive(Clone, Copy)]
 pub struct Directly;
 
@@ -218,12 +218,26 @@ impl<R: Read> Decoded<R> {
 }
 
 impl<R: Read> Shortcut<Decoded<R>> for Directly {
-    ghost use Rattle.er_binary.specs.Decoded.{names_of};
+    ghost use Rattle.er_binary.specs.Decoded.{known_touches, names_of};
 
     ghost names_of = { names_of };
 
+    ghost touches = { known_touches R.remaining };
+
+    fn read(&self, reader: &mut Decoded<R>, buffer: &mut [u8]) -> io::Result<usize> {
+        reader.read_with(buffer, &mut ())
+    }
+
     fn take(&self, reader: &mut Decoded<R>) -> Option<ReadyLine> {
         reader.take_line()
+    }
+
+    fn hand_out(
+        &self,
+        reader: &mut Decoded<R>,
+        others: &mut Vec<Touch>,
+    ) -> Result<u64, AllocError> {
+        reader.hand_out(others)
     }
 
     fn name<'a>(&self, reader: &'a Decoded<R>, kind: NameKind, number: u64) -> &'a [u8] {

@@ -83,7 +83,8 @@ pub(crate) struct Decoder {
 }
 
 impl Decoder {
-    ghost use Rattle.er_binary.specs.Inner.Decoders.{HasGiven, IsGiven, NotesOn, StaysKnown, left, still, to_note};
+    ghost use Rattle.er_binary.specs.Inner.Decoders.{HasGiven, IsGiven, NotesOn, left, still, to_note};
+    ghost use Rattle.er_lines.specs.Touches.{StaysKnown};
     ghost use Rattle.er_binary.specs.Meaning.{text_behind, touches_behind};
     ghost use Rattle.er_binary.specs.declared.decoder.Phase.TheVariants as phase;
 

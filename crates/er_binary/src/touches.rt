@@ -5,18 +5,8 @@ ghost use Rattle.er_binary.specs.Touches.{is_whole, lines_alone, lines_of, passe
 
 use crate::records::{Kind, Record};
 use crate::state::State;
+use er_lines::Touch;
 use std::alloc::{AllocError, Global};
-
-/// Which bytes of its word the access on a line of the text touches, from the first to the last one, both included.
-#[derive(Clone, Copy)]
-pub struct Touch {
-    /// The number of the line.
-    pub line: u64,
-    /// The first byte, of 0 to 3.
-    pub first: u8,
-    /// The last one.
-    pub last: u8,
-}
 
 /// What a record says of the lines of its text: how many there are, and of an access, whose lines are of one word each, its address and size.
 #[derive(Clone, Copy)]

@@ -1,5 +1,5 @@
 -- What a decoder still gives, and what is still to be noted of it.
-use Rattle.std.specs.Prelude.{◌≡◌, ℕ, ◌+◌, ◌-◌, ◌≤◌, true, List, ◌++◌, drop, take, length, Option, Some, None, vec_items, vec_len}
+use Rattle.std.specs.Prelude.{◌≡◌, ℕ, ◌+◌, ◌-◌, ◌≤◌, true, List, ◌++◌, drop, take, length, vec_items, vec_len}
 use Rattle.er_binary.specs.Numbers.{plus}
 use Rattle.er_binary.specs.Inner.Words.{AreTaken, words_text}
 use Rattle.er_binary.specs.Meaning.{Making, as_text, as_touches, blocks, content, records}
@@ -8,7 +8,7 @@ use Rattle.er_binary.specs.declared.decoder.Decoder.{Decoder}
 use Rattle.er_binary.specs.declared.decoder.Phase.{Phase}
 use Rattle.er_binary.specs.declared.decoder.Phase.TheVariants as phase
 use Rattle.er_binary.specs.declared.state.State.{State}
-use Rattle.er_binary.specs.declared.touches.Touch.{Touch}
+use Rattle.er_lines.specs.declared.ready.Touch.{Touch}
 
 -- all blocks that are left
 unfoldable pub all_blocks : {M : Type 0} → Making M → ℕ → ℕ → State → List ℕ → M
@@ -46,12 +46,6 @@ to_note d rest = vec_items d.notes.touches ++ undecoded as_touches d.phase d res
 pub record NotesOn (old new : Decoder) : Type 0 where
   pub on : new.notes.is_on ≡ old.notes.is_on
   pub same : old.notes.is_on ≡ true → (rest : List ℕ) → to_note old rest ≡ to_note new rest
-
--- a list stays the same, if it is known
-abbrev pub StaysKnown : {A : Type 0} → Option (List A) → Option (List A) → Type 0
-StaysKnown None new = Unit {0}
-StaysKnown (Some xs) None = ⊥
-StaysKnown (Some xs) (Some ys) = ys ≡ xs
 
 -- the text that was made is given
 abbrev pub HasGiven : Decoder → Type 0

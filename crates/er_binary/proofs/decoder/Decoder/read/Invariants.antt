@@ -1,7 +1,8 @@
 -- What is still to be given stays the same until some is given.
 use Rattle.std.proofs.Common.{◌≡◌, ◌<◌, true, length, option_map}
 use Rattle.std.specs.Io.KnownBytes.{Keeps}
-use Rattle.er_binary.specs.Inner.Decoders.{StaysKnown, still, to_note}
+use Rattle.er_binary.specs.Inner.Decoders.{still, to_note}
+use Rattle.er_lines.specs.Touches.{StaysKnown}
 use Rattle.er_binary.proofs.decoder.Decoder.read.Given as goal
 
 abbrev pub invariant-loop : goal.invariant-loop
