@@ -1,5 +1,5 @@
 -- What was handed out of touches says of lines what all of them say.
-use Rattle.std.proofs.Common.{◌≡◌, ◌<◌, ◌≤◌, ◌==◌, ◌∙◌, ℕ, zero, nat_le, Bool, true, false, cond, List, [], ◌∷◌, ◌++◌, append-assoc, filter, find, length, Option, Some, None, IfSome, refl, sym, ap, subst, arith}
+use Rattle.std.proofs.Common.{◌≡◌, ◌<◌, ◌≤◌, ◌==◌, ◌∙◌, ℕ, zero, nat_le, Bool, true, false, cond, List, [], ◌∷◌, ◌++◌, append_assoc, filter, find, length, Option, Some, None, IfSome, refl, sym, ap, subst, arith}
 use Rattle.std.proofs.lemmas.Bool.{eqb-true, le-leb, leb-true}
 use Rattle.std.proofs.lemmas.Bool.Decides.{nat_tests}
 use Rattle.std.specs.List.{All}
@@ -57,20 +57,20 @@ kept from touches = filter (λ touch. nat_le from touch.line) touches
 
 kept-says : (touches more : List Touch) (from line : ℕ) → from ≤ line → touch_on (filter (λ touch. nat_le from touch.line) touches ++ more) line ≡ touch_on (touches ++ more) line
 kept-says [] more from line within = refl
-kept-says (touch ∷ rest) more from line within = by (nat_le from touch.line) refl
+kept-says (touch ∷ rest) more from line within = by (kept-says rest more from line within) (nat_le from touch.line) refl
   where
-    by : (b : Bool) → nat_le from touch.line ≡ b → touch_on (cond b (touch ∷ kept from rest) (kept from rest) ++ more) line ≡ touch_on (touch ∷ rest ++ more) line
-    by true is =
+    by : touch_on (kept from rest ++ more) line ≡ touch_on (rest ++ more) line → (b : Bool) → nat_le from touch.line ≡ b → touch_on (cond b (touch ∷ kept from rest) (kept from rest) ++ more) line ≡ touch_on (touch ∷ rest ++ more) line
+    by same true is =
         by-line (touch_on (touch ∷ kept from rest ++ more) line ≡ touch_on (touch ∷ rest ++ more) line) touch line
         (λ here. stands touch (kept from rest ++ more) line here ∙ sym (stands touch (rest ++ more) line here))
-        (λ earlier. passed touch (kept from rest ++ more) line earlier ∙ kept-says rest more from line within ∙ sym (passed touch (rest ++ more) line earlier))
-    by false is =
+        (λ earlier. passed touch (kept from rest ++ more) line earlier ∙ same ∙ sym (passed touch (rest ++ more) line earlier))
+    by same false is =
         let earlier : touch.line < line = grind (arith, nat_tests, is, within) in
-        kept-says rest more from line within ∙ sym (passed touch (rest ++ more) line earlier)
+        same ∙ sym (passed touch (rest ++ more) line earlier)
 
 -- before anything was handed out
-pub tells-first : (all : List Touch) (left : Option (List Touch)) → left ≡ Some all → Tells all [] left 0 0
-tells-first all left is = record { more = all; known = is; says = λ line within. refl; later = λ k d below. omega arith }
+tells-first : (all : List Touch) (left : Option (List Touch)) (from : ℕ) → left ≡ Some all → Tells all [] left from 0
+tells-first all left from is = record { more = all; known = is; says = λ line within. refl; later = λ k d below. omega arith }
 
 -- while it stays known
 pub tells-still : (all touches : List Touch) (old new : Option (List Touch)) (from next : ℕ) → StaysKnown old new → Tells all touches old from next → Tells all touches new from next
@@ -84,7 +84,7 @@ tells-more all before after old new from line handed tells = by (subst (λ (o : 
     by h = record {
       more = h.left;
       known = h.known;
-      says = λ l within. ap (λ (touches : List Touch). touch_on (touches ++ h.left) l) h.given ∙ ap (λ (touches : List Touch). touch_on touches l) (append-assoc before h.handed h.left ∙ ap (λ (touches : List Touch). before ++ touches) (sym h.parted)) ∙ tells.says l within;
+      says = λ l within. ap (λ (touches : List Touch). touch_on (touches ++ h.left) l) h.given ∙ ap (λ (touches : List Touch). touch_on touches l) (append_assoc before h.handed h.left ∙ ap (λ (touches : List Touch). before ++ touches) (sym h.parted)) ∙ tells.says l within;
       later = h.later;
     }
 
@@ -110,15 +110,27 @@ agree-between None touches from next lines tells between = tt
 agree-between (Some all) touches from next lines tells between = λ k d below. let both = between k d below in tells _ both.0 both.1
 
 -- the same of what is known, if it is known
-pub known-first : (known left : Option (List Touch)) → known ≡ left → IfSome known (λ all. Tells all [] left 0 0)
-known-first None left is = tt
-known-first (Some all) left is = tells-first all left (sym is)
+pub known-first : (known left : Option (List Touch)) (touches : List Touch) (from : ℕ) → touches ≡ [] → known ≡ left → IfSome known (λ all. Tells all touches left from 0)
+known-first None left touches from none is = tt
+known-first (Some all) left touches from none is = subst (λ (t : List Touch). Tells all t left from 0) (sym none) (tells-first all left from (sym is))
 
-pub tells-on : (known : Option (List Touch)) (touches others : List Touch) (left right : Option (List Touch)) (from later next : ℕ)
-    → ((all : List Touch) → Tells all touches left from 0 → Tells all others right later next) → IfSome known (λ all. Tells all touches left from 0) → IfSome known (λ all. Tells all others right later next)
-tells-on None touches others left right from later next on tells = tt
-tells-on (Some all) touches others left right from later next on tells = on all tells
+on : {P Q : List Touch → Type 0} (known : Option (List Touch)) → ((all : List Touch) → P all → Q all) → IfSome known P → IfSome known Q
+on None f tells = tt
+on (Some all) f tells = f all tells
+
+pub tells-on : (known : Option (List Touch)) (touches others : List Touch) (left right : Option (List Touch)) (from later : ℕ)
+    → ((all : List Touch) → Tells all touches left from 0 → Tells all others right later 0) → IfSome known (λ all. Tells all touches left from 0) → IfSome known (λ all. Tells all others right later 0)
+tells-on known touches others left right from later f = on known f
+
+pub handed-on : (known : Option (List Touch)) (before after : List Touch) (old mid new : Option (List Touch)) (from line : ℕ) → StaysKnown old mid → IfSome mid (λ o. HasHanded o new before after line)
+    → IfSome known (λ all. Tells all before old from 0) → IfSome known (λ all. Tells all after new from line)
+handed-on known before after old mid new from line stays handed =
+    on known (λ all tells. tells-more all before after mid new from line handed (tells-still all before old mid from 0 stays tells))
+
+pub answered-on : (known : Option (List Touch)) (before after : List Touch) (left : Option (List Touch)) (from later next : ℕ) → from ≤ later → after ≡ filter (λ touch. nat_le later touch.line) before
+    → IfSome known (λ all. Tells all before left from next) → IfSome known (λ all. Tells all after left later next)
+answered-on known before after left from later next low is =
+    on known (λ all tells. subst (λ (touches : List Touch). Tells all touches left later next) (sym is) (tells-less all before left from later next low tells))
 
 pub between-on : (known : Option (List Touch)) (touches : List Touch) (left : Option (List Touch)) (from next : ℕ) → IfSome known (λ all. Tells all touches left from next) → IfSome known (λ all. TellsBetween all touches from next)
-between-on None touches left from next tells = tt
-between-on (Some all) touches left from next tells = tells-between all touches left from next tells
+between-on known touches left from next = on known (λ all tells. tells-between all touches left from next tells)
