@@ -82,6 +82,26 @@ impl<R> Decoded<R> {
         }
     }
 
+    /// Has what accesses touch noted from now on, if nothing was read yet.
+    pub fn note_touches(&mut self)
+        ensures text { (bytes : List ℕ) → to_come self.new bytes ≡ to_come self.old bytes }
+        ensures touches { (bytes : List ℕ) → to_touch self.new bytes ≡ to_touch self.old bytes }
+        ensures source { source_of self.new ≡ source_of self.old }
+        ensures names { names_of self.new ≡ names_of self.old }
+    {
+        self.is_noting = true;
+    }
+
+    // Whether it notes what accesses touch.
+    fn is_noting(&self) -> bool
+        ensures { result ≡ is_noting self.now }
+    {
+        match &self.form {
+            Form::Binary(decoder) => decoder.notes.is_on,
+            _ => self.is_noting,
+        }
+    }
+
     /// Puts what was noted behind the others. From then on it isn't known here any more. Returns the number of a line: what is noted later is of this
     /// line or of lines behind it. `AllocError`: memory was refused, and nothing changed.
     pub fn hand_out(&mut self, touches: &mut Vec<Touch>) -> Result<u64, AllocError>
@@ -237,6 +257,10 @@ impl<R: Read> Shortcut<Decoded<R>> for Directly {
         reader: &mut Decoded<R>,
         others: &mut Vec<Touch>,
     ) -> Result<u64, AllocError> {
+        if !reader.is_noting() {
+            // Nothing is handed out later.
+            return Ok(u64::MAX);
+        }
         reader.hand_out(others)
     }
 
