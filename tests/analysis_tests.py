@@ -96,6 +96,10 @@ def told_of(race, holds):
     return f"line {step.line}: unordered: {step.thread} {step.verb} {address} at {step.site}, holds {holds[step.line]}"
 
 
+# What accesses touch of their words, by the texts of traces 4 and by lines. In another text they touch whole words.
+TOUCHED = {}
+
+
 def unordered_report(text, rules, explain=False):
     """The report of a text that has no fault, with reasons or without."""
     noting = Noting()
@@ -103,7 +107,7 @@ def unordered_report(text, rules, explain=False):
         noting.step(line, thread, verb, operands)
     lines = [(int(line.split(":")[0].removeprefix("line ")), line) for line in noting.lines if re.match(r"line \d+: refused: ", line)]
     taken, races = [0] * len(rules), 0
-    marked = order_reference.mark(order_reference.read(text))
+    marked = order_reference.mark(order_reference.touch(order_reference.read(text), TOUCHED.get(text, {})))
     for race in order_reference.races(marked):
         taker = taker_of(rules, race)
         if taker is not None:

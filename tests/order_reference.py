@@ -3,11 +3,13 @@
 
 order_reference.py FILE           prints the accesses and reuses that race by happens-before, in the order of the trace
 order_reference.py --sites FILE   prints how many races there are at each site
+--bytes BYTES, before FILE: accesses touch parts of their words, as BYTES says by lines `LINE FIRST LAST` (`trace4.py touched` prints them)
 
 It reads traces of the texts 1 to 3, and shares no code with the program nor with tests/reference.py.
 
-An access races if an earlier counted access of its word, since the word's last reuse, conflicts with it and doesn't come before it in
-order. Two accesses conflict if they are of two threads and one at least is a write. An era of a word is reported once, at its first race.
+An access races if an earlier counted access of its word, since the word's last reuse, conflicts with it, has a byte in common with it, and
+doesn't come before it in order. Two accesses conflict if they are of two threads and one at least is a write. An access touches all four bytes of its
+word, unless --bytes says otherwise. An era of a word is reported once, at its first race.
 
 A reuse races too, outside ignore brackets: if some access of one of its words, since that word's last reuse, doesn't come before it in order,
 and that era was not reported. It is asked page by page, and each page has one race at most.
@@ -43,7 +45,7 @@ class Fault(Exception):
 
 @dataclasses.dataclass
 class Step:
-    """A line of a trace. A word is its address without the last two bits; the words of a reuse are a range."""
+    """A line of a trace. A word is its address without the last two bits; the words of a reuse are a range. An access touches some bytes of its word."""
 
     line: int
     thread: str
@@ -51,6 +53,7 @@ class Step:
     name: str = ""
     words: range = range(0)
     site: str = "-"
+    bytes: range = range(4)
 
 
 def number(text):
@@ -150,6 +153,20 @@ def read(text):
             steps.append(step_of(at, words, version, acted))
             acted.add(words[0])
     return steps
+
+
+def touch(steps, touched):
+    """Has accesses touch parts of their words: the bytes from a first to a last one, by the numbers of their lines."""
+    for step in steps:
+        if step.line in touched:
+            first, last = touched[step.line]
+            step.bytes = range(first, last + 1)
+    return steps
+
+
+def read_bytes(text):
+    """The parts of words that lines touch."""
+    return {line: (first, last) for line, first, last in (map(int, row.split()) for row in text.splitlines())}
 
 
 # ---- What a step does ----
@@ -284,10 +301,22 @@ class Race:
 
 
 class Era:
-    """A word since its last reuse: the places of its writes and of all its accesses, as bits."""
+    """A word since its last reuse: for each byte the places of the writes and of all accesses that touch it, as bits."""
 
     def __init__(self):
-        self.writes, self.accesses, self.is_reported = 0, 0, False
+        self.writes, self.accesses, self.is_reported = [0] * 4, [0] * 4, False
+
+    def conflicting(self, touched, is_write):
+        """The places of the accesses that an access of these bytes conflicts with."""
+        found, kept = 0, self.accesses if is_write else self.writes
+        for byte in touched:
+            found |= kept[byte]
+        return found
+
+    def add(self, touched, is_write, place):
+        for byte in touched:
+            self.accesses[byte] |= 1 << place
+            self.writes[byte] |= is_write << place
 
 
 def pages_of(words):
@@ -298,9 +327,9 @@ def pages_of(words):
 def races_of_reuse(item, place, eras, before):
     """For each page of a reuse the lowest word that is in use, if there is one."""
     for words in pages_of(item.step.words):
-        used = [word for word in sorted(eras) if word in words and not eras[word].is_reported and eras[word].accesses & ~before]
+        used = [word for word in sorted(eras) if word in words and not eras[word].is_reported and eras[word].conflicting(range(4), True) & ~before]
         if used:
-            yield Race(item, place, (eras[used[0]].accesses & ~before).bit_length() - 1, words)
+            yield Race(item, place, (eras[used[0]].conflicting(range(4), True) & ~before).bit_length() - 1, words)
 
 
 def races(marked):
@@ -314,12 +343,11 @@ def races(marked):
         if not item.is_counted:
             continue
         era, is_write = eras[item.step.words.start], item.step.verb == "write"
-        apart = (era.accesses if is_write else era.writes) & ~before
+        apart = era.conflicting(item.step.bytes, is_write) & ~before
         if apart and not era.is_reported:
             era.is_reported = True
             found.append(Race(item, place, apart.bit_length() - 1, item.step.words))
-        era.accesses |= 1 << place
-        era.writes |= is_write << place
+        era.add(item.step.bytes, is_write, place)
     return found
 
 
@@ -333,9 +361,12 @@ def races_by_chains(marked):
     """The places that are reported, from the definition alone, for short lists."""
     order = order_by_chains(marked)
 
+    def is_apart(place, earlier):
+        step, other = marked[place].step, marked[earlier].step
+        return "write" in (step.verb, other.verb) and set(step.bytes) & set(other.bytes) and earlier not in order[place]
+
     def is_race(place):
-        step = marked[place].step
-        return any((step.verb == "write" or marked[k].step.verb == "write") and k not in order[place] for k in era_of(marked, step.words.start, place))
+        return any(is_apart(place, k) for k in era_of(marked, marked[place].step.words.start, place))
 
     def is_reported(place):
         return is_race(place) and not any(is_race(k) for k in era_of(marked, marked[place].step.words.start, place))
@@ -381,9 +412,15 @@ def line_of(race):
 
 def main():
     *options, name = sys.argv[1:]
+    touched = {}
+    if "--bytes" in options:
+        at = options.index("--bytes")
+        with open(options[at + 1], encoding="ascii") as file:
+            touched = read_bytes(file.read())
+        del options[at:at + 2]
     with open(name, "rb") as file:
         try:
-            marked = mark(read(file.read()))
+            marked = mark(touch(read(file.read()), touched))
         except Fault as fault:
             sys.exit(f"{name}: {fault}")
     found = races(marked)

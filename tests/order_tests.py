@@ -1,9 +1,10 @@
 #!/usr/bin/env python3
 """Happens-before as tests/order_reference.py reads it: no test of the program, but of what the program is compared with.
 
-- the lists of tests/order/worked.txt have the answers beside them
+- the lists of tests/order/worked.txt, and those of tests/order/bytes.txt by bytes, have the answers beside them
 - the texts of tests/order/faults.txt have the fault that stands below them
-- random lists race at the same places by the definition's chains and by sets of steps
+- random lists race at the same places by the definition's chains and by sets of steps, with bytes and without, and by bytes at no word that
+  doesn't race without
 - a random trace has its first fault at the line at which tests/reference.py finds it, or as many event lines
 """
 
@@ -39,17 +40,24 @@ def cases_of(path):
 # ---- Worked lists ----
 
 
+def lists_of(path):
+    """The name of each list of a file, with its text, the bytes that its lines touch, and the answers beside them."""
+    for name, rows in cases_of(path).items():
+        pairs = [row.split(" -> ") for row in rows if row and not row.startswith("#")]
+        lines = [line.split() for line, _ in pairs]
+        touched = {at: tuple(map(int, words[-1].split(".."))) for at, words in enumerate(lines, 2) if ".." in words[-1]}
+        texts = [" ".join(WORDS.get(word, word) for word in words if ".." not in word) for words in lines]
+        yield name, "".join(line + "\n" for line in ["eraser trace 3", *texts, "end"]).encode(), touched, [answer for _, answer in pairs]
+
+
 def worked_lists():
     """The name of each list of tests/order/worked.txt, with its text and the answers beside its lines."""
-    for name, rows in cases_of(CASES / "worked.txt").items():
-        pairs = [row.split(" -> ") for row in rows if row and not row.startswith("#")]
-        lines = [" ".join(WORDS.get(word, word) for word in line.split()) for line, _ in pairs]
-        yield name, "".join(line + "\n" for line in ["eraser trace 3", *lines, "end"]).encode(), [answer for _, answer in pairs]
+    return [(name, text, expected) for name, text, _, expected in lists_of(CASES / "worked.txt")]
 
 
 def worked(record):
-    for name, text, expected in worked_lists():
-        found = order_reference.answers(order_reference.mark(order_reference.read(text)))
+    for name, text, touched, expected in [*lists_of(CASES / "worked.txt"), *lists_of(CASES / "bytes.txt")]:
+        found = order_reference.answers(order_reference.mark(order_reference.touch(order_reference.read(text), touched)))
         record(f"order: {name}", bool(found) and found == expected, f"{found}")
 
 
@@ -105,14 +113,31 @@ def random_list(seed):
     return "".join(line + "\n" for line in ["eraser trace 3", *lines, *["end"] * (seed % 2)]).encode()
 
 
+def random_bytes(seed, steps):
+    """Parts of words for some of the steps."""
+    dice = random.Random(seed)
+    return {step.line: dice.choice([(0, 0), (0, 1), (1, 2), (2, 3), (3, 3)]) for step in steps if dice.randrange(3)}
+
+
+def raced_words(marked):
+    """The words of accesses that race."""
+    return {race.marked.step.words.start for race in order_reference.races(marked) if race.marked.step.verb != "reuse"}
+
+
 def random_lists(record):
-    racy = 0
+    racy, fewer = 0, 0
     for seed in range(RANDOM_LISTS):
-        marked = order_reference.mark(order_reference.read(random_list(seed)))
-        by_sets, by_chains = [race.place for race in order_reference.races(marked)], order_reference.races_by_chains(marked)
-        racy += bool(by_chains)
-        record(f"order: random list {seed}", by_sets == by_chains, f"{by_sets}, not {by_chains}")
+        text = random_list(seed)
+        marked = order_reference.mark(order_reference.read(text))
+        parted = order_reference.mark(order_reference.touch(order_reference.read(text), random_bytes(seed, order_reference.read(text))))
+        for name, some in ("", marked), (" by bytes", parted):
+            by_sets, by_chains = [race.place for race in order_reference.races(some)], order_reference.races_by_chains(some)
+            record(f"order: random list {seed}{name}", by_sets == by_chains, f"{by_sets}, not {by_chains}")
+        racy += bool(order_reference.races(marked))
+        fewer += raced_words(parted) < raced_words(marked)
+        record(f"order: bytes make no word of random list {seed} race", raced_words(parted) <= raced_words(marked), f"{raced_words(parted)}, not in {raced_words(marked)}")
     record("order: some random lists race, and some don't", RANDOM_LISTS // 10 < racy < RANDOM_LISTS * 9 // 10, f"{racy}")
+    record("order: some words of random lists race by words alone", fewer > RANDOM_LISTS // 20, f"{fewer}")
 
 
 def tests(record):

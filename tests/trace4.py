@@ -4,6 +4,7 @@
 trace4.py print [FILE]         prints the text that a trace means; a text means itself
 trace4.py encode [SEED]        makes a trace 4 of the text on standard input; with a seed its lengths, blocks and records without a meaning are random
 trace4.py sizes [FILE]         prints how many bytes, blocks and records of each kind a trace has
+trace4.py touched [FILE]       prints the lines whose access touches a part of its word, each with the first and the last byte, from 0 to 3
 trace4.py facts [FILE]         prints what a trace says of the function and the memory of each line that is an access, of its threads, and of its locks
 
 It shares no code with the program, nor with the recorder.
@@ -87,6 +88,8 @@ class Trace:
         self.calls = {}
         # By the numbers of lines, the number of the place of their event, and those of the calls.
         self.ways, self.functions, self.got, self.words = {}, {}, [], {}
+        # By the numbers of lines, the first and the last byte of the word that their access touches, unless it is all four.
+        self.touched = {}
         # The words of the races that a report shows in full, if they are known: no other words' blocks are kept for it.
         self.in_full = None
         try:
@@ -208,6 +211,9 @@ class Trace:
         for word in range(address & ~3, address + size, 4):
             self.line(b"write" if tag & 64 else b"read", b"0x%012x" % word, *self.site())
             self.words[len(self.lines)] = word
+            part = max(address - word, 0), min(address + size - word, 4) - 1
+            if part != (0, 3):
+                self.touched[len(self.lines)] = part
 
     def read_kind(self, kind, operand):
         if kind == THREAD:
@@ -364,10 +370,11 @@ def text_of(data):
 
 class Writer:
     """Makes a trace 4. Without dice each number is as short as it may be, and no record is there that says nothing. With `most_calls` each event is reached
-    by at most that many calls, which are random. With `facts` and dice there are facts that say something, and others that nearly do."""
+    by at most that many calls, which are random. With `facts` and dice there are facts that say something, and others that nearly do. With `words` each
+    access touches whole words."""
 
-    def __init__(self, dice=None, most_bytes=USUAL_BYTES, most_calls=0, facts=False):
-        self.dice, self.most_bytes, self.most_calls, self.facts, self.touched = dice, most_bytes, most_calls, facts, set()
+    def __init__(self, dice=None, most_bytes=USUAL_BYTES, most_calls=0, facts=False, words=False):
+        self.dice, self.most_bytes, self.most_calls, self.facts, self.words, self.touched = dice, most_bytes, most_calls, facts, words, set()
         self.blocks, self.whole, self.events = 0, bytearray(MAGIC), 0
         self.threads, self.locks, self.places, self.nodes = {}, {}, {}, {}
         self.begin_block()
@@ -597,14 +604,14 @@ def plain(text, events=0, lost=0):
     return b"".join(line + b"\n" for line in lines)
 
 
-def joined(parts, dice):
-    """Accesses of one thread at one place, of words one behind the other, as accesses of several words. With dice only some of them."""
+def joined(parts, dice, longest=5):
+    """Accesses of one thread at one place, of words one behind the other, as accesses of several words. With dice only some of them, and at most so many words."""
     run = []
     for part in [*parts, None]:
         is_access = isinstance(part, tuple) and part[1] in (b"read", b"write")
         word = reference.number(part[2][0]) & ~3 if is_access else None
         key = (part[0], part[1], site_in(part[2][1:])) if is_access else None
-        most = 4 if dice is None else dice.randrange(1, 6)
+        most = 4 if dice is None else dice.randrange(1, longest + 1)
         if run and (key != run[0][0] or word != run[-1][1] + 4 or len(run) >= most):
             yield run
             run = []
@@ -617,7 +624,7 @@ def joined(parts, dice):
 def encode(text, dice=None, lost=0, **more):
     """A trace 4 that means `plain` of the text."""
     writer = Writer(dice, **more)
-    for part in joined(parts_of(text), dice):
+    for part in joined(parts_of(text), dice, 4 if writer.words else 5):
         if isinstance(part, bytes):
             writer.note(part)
         elif isinstance(part, list):
@@ -631,7 +638,7 @@ def write_access(writer, run):
     """An access that touches the words of a run, and all its bytes or some."""
     (thread, verb, site), first = run[0]
     end = run[-1][1] + 4
-    if writer.chance(2):
+    if not writer.words and writer.chance(2):
         first += writer.dice.randrange(4)
         end = writer.dice.randrange(max(first + 1, end - 3), end + 1)
     if end - first > 16:
@@ -673,6 +680,9 @@ def main():
     data = open(rest[0], "rb").read() if rest else sys.stdin.buffer.read()
     if verb == "sizes":
         print_sizes(data)
+    elif verb == "touched":
+        for line, (first, last) in Trace(data).touched.items():
+            print(line, first, last)
     elif verb == "facts":
         for fact in Trace(data).facts():
             print(*fact)

@@ -4,7 +4,9 @@
 `tests/run` calls `tests`. By itself this file runs these tests alone.
 
 - random traces of texts 1 to 3, examples and worked traces, as trace 4 with random lengths, blocks and records that say nothing: `eraser print` gives
-  the text, and replays give the same report, by path and by standard input, with each option of a report and several workers
+  the text, and replays give the same report, by path and by standard input, with each option of a report and several workers; by happens-before, if
+  each access touches whole words
+- the report by happens-before of accesses that touch parts of their words is that of tests/order_reference.py by bytes
 - random trees of calls and facts: the reports by site by each analysis, the JSON and the SARIF of a file show the calls that led to accesses, and what
   raced, as their second readings say; from standard input, from a FIFO and with --until-fault they show neither
 - the last 256 blocks of memory are known to a report, and no block before them; facts that say nothing of a block
@@ -26,6 +28,7 @@ import tempfile
 
 sys.path.insert(0, str(pathlib.Path(__file__).parent))
 sys.dont_write_bytecode = True
+import analysis_tests
 import cases
 import json_tests
 import reference
@@ -110,8 +113,34 @@ def same_reports(record):
         record(f"trace 4: the text of {name}", found == (plain, b"", 0), f"{found}, {plain}"[:1500])
         found = run(["print", "-"], text)
         record(f"trace 4: {name} means itself", found == (text, b"", 0), f"{found}"[:1500])
+        by_words = trace4.encode(text, dice, loss_of(dice), most_bytes=dice.choice([1, 100, 65536]), words=True)
         for nth in range(4 if at < len(worked) else 2):
-            check(record, name, plain, data, FORMS[(at + 5 * nth) % len(FORMS)])
+            options = FORMS[(at + 5 * nth) % len(FORMS)]
+            given = by_words if "--analysis" in options else data
+            check(record, name, trace4.text_of(given), given, options)
+
+
+def touch(data):
+    """Has the second reading of happens-before know what the accesses of a trace touch."""
+    trace = trace4.Trace(data)
+    analysis_tests.TOUCHED[trace.text()] = trace.touched
+    return trace
+
+
+def by_bytes(record):
+    """The report by happens-before of a trace that says bytes. Some reports have fewer races than those of their texts."""
+    fewer = 0
+    for at, (name, text) in enumerate(random_texts()):
+        data = trace4.encode(text, random.Random(at), most_bytes=random.Random(at).choice([100, 65536]))
+        plain = touch(data).text()
+        for analysis in ("happens-before", "both"):
+            for options in ([], ["--explain"], ["--workers", "3"]):
+                wanted = analysis_tests.expected(plain, None, analysis, "--explain" in options)
+                options = [*options, "--analysis", analysis]
+                for way, found in (("standard input", run(["replay", *options, "-"], data)), ("a file", run_file(None, data, *options)), ("a file, up to a fault", run_file(None, data, "--until-fault", *options))):
+                    record(f"trace 4: bytes of {name} from {way} {' '.join(options)}", found == wanted, f"{found}, {wanted}"[:1500])
+        fewer += run(["replay", "--analysis", "happens-before", "-"], data)[0] != run(["replay", "--analysis", "happens-before", "-"], plain)[0]
+    record("trace 4: bytes make fewer races", fewer > 10, f"{fewer}")
 
 
 def long_traces(record):
@@ -169,7 +198,7 @@ def shown_calls(record):
     met = collections.Counter()
     for at, (name, text) in enumerate(random_texts()):
         data = trace4.encode(text, random.Random(at), most_bytes=random.Random(at).choice([100, 65536]), most_calls=at % 14, facts=at % 4 > 0)
-        met.update(check_calls(record, name, trace4.text_of(data), data, list(READ_ONCE)[at % 3]))
+        met.update(check_calls(record, name, touch(data).text(), data, list(READ_ONCE)[at % 3]))
     shown = collections.Counter()
     for (word, _), times in met.items():
         shown[word] += times
@@ -540,7 +569,7 @@ def example_of_facts(record):
     """The example of a report with facts is the first one of the trace by hand, and its threads."""
     formats, analysis = (TOP / "docs/FORMATS.md").read_text().encode(), ["--analysis", "happens-before"]
     data = pool()
-    found, wanted = run_file(None, data, "--by-site", *analysis), expected_by_site(trace4.text_of(data), None, trace4.Trace(data))["happens-before", True]
+    found, wanted = run_file(None, data, "--by-site", *analysis), expected_by_site(touch(data).text(), None, trace4.Trace(data))["happens-before", True]
     record("trace 4: a report with all facts", found == wanted, f"{found}, {wanted}")
     story = re.search(rb"\n(pool\.cpp:13 and .*?\n\n)(?s:.*)\n(threads:\n.*?\n\nlocks:\n.*?\n)\nsteps", found[0], re.S)
     shown = b"```text\n" + story[1] + story[2] + b"```\n" if story else None
@@ -552,6 +581,7 @@ def tests(record, preloaded):
         example(record)
         example_of_facts(record)
         same_reports(record)
+        by_bytes(record)
         shown_calls(record)
         blocks_by_hand(record)
         long_traces(record)

@@ -3,3 +3,4 @@ pub mod CrewLemmas
 pub mod LagLemmas
 pub mod StepLemmas
 pub mod PassLemmas
+pub mod TouchLemmas

@@ -14,17 +14,20 @@ use Rattle.er_report.specs.Builder.{Built, IsReported}
 use Rattle.er_report.specs.declared.reports.Analysis.{Analysis}
 use Rattle.er_rules.specs.Rules.{Target}
 use Rattle.er_text.specs.Trace.{IsFault}
+use Rattle.er_lines.specs.declared.ready.Touch.{Touch}
 use Rattle.er_lines.specs.declared.faults.ReadFault.{ReadFault}
 use Rattle.er_lines.specs.declared.faults.ReadFault.TheVariants.{Text, Memory, Read}
 use Rattle.er_trace.specs.Names.{NameTable}
 use Rattle.er_trace.specs.Trace.{Recording}
 
--- by which analysis, the rules that take races, whether the others are explained, and whether damage is looked for
+-- by which analysis, the rules that take races, whether the others are explained, whether damage is looked for, and what the accesses of the
+-- text touch that don't touch their whole word, if it is known
 pub record Asked : Type 0 where
   pub analysis : Analysis
   pub rules : List Target
   pub explain : Bool
   pub strict : Bool
+  pub touches : Option (List Touch)
 
 -- what answers is there exactly if it is wanted, and stands so
 pub record StandsIf {A : Type 0} (Stands : A → Type 0) (wanted : Bool) (analyst : Option A) : Type 0 where

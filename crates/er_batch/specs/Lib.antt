@@ -1,4 +1,5 @@
 pub mod Limits
 pub mod Runs
 pub mod Analysts
+pub mod Touching
 pub mod Inner

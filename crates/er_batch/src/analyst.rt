@@ -3,6 +3,7 @@ ghost use Rattle.std.specs.Prelude.{◌≡◌, ◌+◌, ◌<◌, ◌^◌, ℕ, B
 ghost use Rattle.std.specs.Thread.{IsSync};
 ghost use Rattle.er_batch.specs.Analysts.{Asked};
 ghost use Rattle.er_batch.specs.Runs.{recorded};
+ghost use Rattle.er_batch.specs.Touching.{AgreeOn};
 ghost use Rattle.er_event.specs.declared.steps.Step.{Step as Steps};
 ghost use Rattle.er_text.specs.Batches.{joined};
 ghost use Rattle.er_text.specs.Named.{KeepsNames};
@@ -10,6 +11,7 @@ ghost use Rattle.er_trace.specs.Names.{NameTable};
 ghost use Rattle.er_trace.specs.Trace.{Recording};
 
 use er_event::Step;
+use er_lines::Touch;
 use er_trace::Trace;
 use std::alloc::AllocError;
 use std::sync::Wait;
@@ -50,11 +52,17 @@ pub trait Analyst {
         ensures called { F.step beside.old result beside.new }
         ensures ready { (asked : Asked) (r : Recording) → stands self.old asked r → ready self.new asked r steps.now };
 
-    /// Answers the steps of a batch that it is ready for, behind those of the batches before.
-    fn answer<R: Threads + Wait + Sync>(&mut self, rt: &R, trace: &Trace) -> Answered
+    /// Answers the steps of a batch that it is ready for, behind those of the batches before. The touches say what the accesses on the lines of the
+    /// batch touch.
+    fn answer<R: Threads + Wait + Sync>(
+        &mut self,
+        rt: &R,
+        trace: &Trace,
+        touches: &[Touch],
+    ) -> Answered
         requires sync { IsSync R.row }
         ensures goes_on { (asked : Asked) (past : List Steps) (lines sites : List ℕ) (names : NameTable) → KeepsNames names trace.now.names → ready self.old asked (recorded past lines sites names) trace.now.steps
-            → OnOk result (stands self.new asked (joined past lines sites trace.now)) };
+            → AgreeOn asked.touches touches.now trace.now.lines → OnOk result (stands self.new asked (joined past lines sites trace.now)) };
 
     /// How many steps it has answered, and how many of them are races that have a line, or the greatest number that there is.
     fn counts(&self) -> (u64, u64)
@@ -94,9 +102,14 @@ impl<A: Analyst, B: Analyst> Analyst for Pair<A, B> {
         self.first.prepare(rt, steps, beside)
     }
 
-    fn answer<R: Threads + Wait + Sync>(&mut self, rt: &R, trace: &Trace) -> Answered {
-        self.first.answer(rt, trace)?;
-        self.second.answer(rt, trace)
+    fn answer<R: Threads + Wait + Sync>(
+        &mut self,
+        rt: &R,
+        trace: &Trace,
+        touches: &[Touch],
+    ) -> Answered {
+        self.first.answer(rt, trace, touches)?;
+        self.second.answer(rt, trace, touches)
     }
 
     fn counts(&self) -> (u64, u64) {
@@ -133,9 +146,14 @@ impl<A: Analyst> Analyst for Option<A> {
         }
     }
 
-    fn answer<R: Threads + Wait + Sync>(&mut self, rt: &R, trace: &Trace) -> Answered {
+    fn answer<R: Threads + Wait + Sync>(
+        &mut self,
+        rt: &R,
+        trace: &Trace,
+        touches: &[Touch],
+    ) -> Answered {
         match self {
-            Some(analyst) => analyst.answer(rt, trace),
+            Some(analyst) => analyst.answer(rt, trace, touches),
             None => Ok(()),
         }
     }

@@ -18,6 +18,7 @@ ghost use Rattle.er_trace.specs.Trace.{Recording, no_steps};
 use crate::answering::{add_behind, has_room};
 use crate::{Analyst, Answered, Options};
 use er_event::{Event, Lockset, Step};
+use er_lines::Touch;
 use er_parallel::{Crew, OpenGate, ReplayConfig, ReplayFault, Unusual, usual_answer};
 use er_report::{Report, ReportBuilder};
 use er_rules::Suppressions;
@@ -125,7 +126,12 @@ impl<'t, 'r> Analyst for CrewAnalyst<'t, 'r> {
         }
     }
 
-    fn answer<R: Threads + Wait + Sync>(&mut self, _rt: &R, trace: &Trace) -> Answered {
+    fn answer<R: Threads + Wait + Sync>(
+        &mut self,
+        _rt: &R,
+        trace: &Trace,
+        _touches: &[Touch],
+    ) -> Answered {
         let steps = trace.steps();
         prove!(steps.len() == trace.lines().len());
         prove!(steps.len() == trace.sites().len());

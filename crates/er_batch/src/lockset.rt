@@ -8,6 +8,7 @@ ghost use Rattle.er_trace.specs.Trace.{Recording, no_steps};
 
 use crate::{Analyst, Answered, answer_batch};
 use er_event::{NoRoom, Step};
+use er_lines::Touch;
 use er_replay::Machine;
 use er_report::{Report, ReportBuilder};
 use er_rules::Suppressions;
@@ -94,7 +95,12 @@ impl<'t, 'r> Analyst for LocksetAnalyst<'t, 'r> {
         beside()
     }
 
-    fn answer<R: Threads + Wait + Sync>(&mut self, rt: &R, trace: &Trace) -> Answered {
+    fn answer<R: Threads + Wait + Sync>(
+        &mut self,
+        rt: &R,
+        trace: &Trace,
+        _touches: &[Touch],
+    ) -> Answered {
         self.stop = answer_batch(rt, &mut self.machine, trace, &mut self.builder, self.stop)?;
         Ok(())
     }

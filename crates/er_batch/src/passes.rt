@@ -1,8 +1,8 @@
 //! The pass over a text: each batch of lines is read, answered and forgotten.
-ghost use Rattle.std.specs.Prelude.{◌≡◌, ◌+◌, ◌++◌, ◌<◌, ◌≤◌, ◌^◌, ℕ, List, Option, false, true, IfSome, IfOk, IfErr, OnOk};
+ghost use Rattle.std.specs.Prelude.{◌≡◌, ◌+◌, ◌++◌, ◌<◌, ◌≤◌, ◌^◌, [], ℕ, All, List, Option, false, true, filter, max, nat_le, IfSome, IfOk, IfErr, OnOk};
 ghost use Rattle.std.specs.Thread.{IsSync};
 ghost use Rattle.er_batch.specs.Analysts.{Asked, HasCounted, IsAnswered, IsFaultOfReading};
-ghost use Rattle.er_batch.specs.Inner.Passes.{HasCome, HasEnded, StandsFor};
+ghost use Rattle.er_batch.specs.Inner.Passes.{HasCome, HasEnded, StandsFor, Tells, TellsBetween};
 ghost use Rattle.er_batch.specs.Limits.{bytes_past_limit};
 ghost use Rattle.er_batch.specs.Runs.{IsWellFormed, recorded};
 ghost use Rattle.er_device.specs.Device.{inner_of, has_failed, taken_of};
@@ -12,13 +12,14 @@ ghost use Rattle.er_text.specs.Ending.{KnowsEnd, IsEndingOf};
 ghost use Rattle.er_text.specs.Named.{KeepsNames};
 ghost use Rattle.er_lines.specs.Lending.{taken_by};
 ghost use Rattle.er_lines.specs.Faults.{HasFailedBy};
+ghost use Rattle.er_lines.specs.declared.ready.Touch.{Touch as Touching};
 ghost use Rattle.er_trace.specs.Names.{NameTable};
 ghost use Rattle.er_trace.specs.Trace.{no_steps, without_steps};
 
 use crate::{Analyst, Options, Progress, Watch};
 use er_device::Device;
 use er_event::{Site, Step};
-use er_lines::Shortcut;
+use er_lines::{Shortcut, Touch};
 use er_parts::Part;
 use er_reading::PieceReader;
 use er_text::{Batch, Ending, ReadFault};
@@ -42,7 +43,8 @@ pub struct Analysed<A> {
 }
 
 // What reads the lines, the trace that each batch fills, and what answers its steps. The last batch that was read is not yet answered: its
-// steps, and the line and the site of each. If only a part is replayed, it has counted the steps of its pages.
+// steps, and the line and the site of each. If only a part is replayed, it has counted the steps of its pages. It has what accesses touch on lines
+// from this one on, as far as that was handed out.
 #[derive(Drop)]
 struct Pass<A> {
     lines: PieceReader,
@@ -53,6 +55,8 @@ struct Pass<A> {
     sites: Vec<Site>,
     part: Option<Part>,
     of_pages: u64,
+    touches: Vec<Touch>,
+    from: u64,
 }
 
 impl<A: Drop> Pass<A> {
@@ -71,6 +75,7 @@ impl<A: Drop> Pass<A> {
         ensures limit { IfOk result (λ pass. pass.lines.place.limit ≡ options.now.byte_limit) }
         ensures taken { IfOk result (λ pass. taken_by pass.lines.place ≡ 0) }
         ensures part { IfOk result (λ pass. pass.part ≡ options.now.part) }
+        ensures touches { IfOk result (λ pass. pass.touches.items ≡ []) }
     {
         let is_alone = options.workers == 1;
         let lines = PieceReader::new(alloc, options.byte_limit, options.keys, readers, is_alone)?;
@@ -83,6 +88,8 @@ impl<A: Drop> Pass<A> {
             sites: Vec::new(alloc),
             part: options.part,
             of_pages: 0,
+            touches: Vec::new(alloc),
+            from: 0,
         })
     }
 
@@ -98,6 +105,7 @@ impl<A: Drop> Pass<A> {
         ensures analyst { self.new.analyst ≡ self.old.analyst }
         ensures lines { self.new.lines ≡ self.old.lines }
         ensures part { self.new.part ≡ self.old.part }
+        ensures touches { (self.new.touches.items ≡ self.old.touches.items) × (self.new.from ≡ self.old.from) }
     {
         match self.part {
             Some(part) => {
@@ -108,24 +116,35 @@ impl<A: Drop> Pass<A> {
         }
     }
 
-    // Has the last batch answered and forgets it. The one that the trace has takes its place.
-    fn answer_last<R: Threads + Wait + Sync>(&mut self, rt: &R) -> Result<(), AllocError>
+    // Has the last batch answered and forgets it, and what its accesses touch. The one that the trace has takes its place. A line of the batch that
+    // was answered before or doesn't come before the next one is reported as a want of memory. There is none.
+    fn answer_last<R: Threads + Wait + Sync>(&mut self, rt: &R, next: u64) -> Result<(), AllocError>
     where
         A: Analyst,
         requires formed { IsWellFormed (recorded self.old.steps.items self.old.numbers.items self.old.sites.items self.old.trace.names) }
         ensures answered { (asked : Asked) (past : List Steps) (lines sites : List ℕ) (names : NameTable) → KeepsNames names self.old.trace.names
             → A.ready self.old.analyst asked (recorded past lines sites names) self.old.steps.items
+            → IfSome asked.touches (λ all. TellsBetween all self.old.touches.items self.old.from next)
             → OnOk result (A.stands self.new.analyst asked (recorded (past ++ self.old.steps.items) (lines ++ self.old.numbers.items) (sites ++ self.old.sites.items) self.old.trace.names)) }
         ensures next { OnOk result ((self.new.steps.items ≡ self.old.trace.steps) × (self.new.numbers.items ≡ self.old.trace.lines) × (self.new.sites.items ≡ self.old.trace.sites)) }
         ensures formed { OnOk result (IsWellFormed self.old.trace) }
         ensures trace { OnOk result (self.new.trace ≡ without_steps self.old.trace) }
         ensures lines { self.new.lines ≡ self.old.lines }
         ensures part { (self.new.part ≡ self.old.part) × (self.new.of_pages ≡ self.old.of_pages) }
+        ensures from { OnOk result (self.old.from ≤ self.new.from) }
+        ensures touches { OnOk result (self.new.touches.items ≡ filter (λ touch. nat_le self.new.from touch.line) self.old.touches.items) }
     {
+        let from = last_between(&self.numbers, self.from, next)?;
         self.trace
             .swap_steps(&mut self.steps, &mut self.numbers, &mut self.sites);
-        self.analyst.answer(rt, &self.trace)?;
+        self.analyst.answer(rt, &self.trace, &self.touches)?;
         self.trace.clear();
+        self.from = from;
+        self.touches.retain(
+            |touch| -> bool
+                ensures { result ≡ nat_le from touch.now.line }
+            { touch.line >= from },
+        );
         Ok(())
     }
 
@@ -141,16 +160,22 @@ impl<A: Drop> Pass<A> {
         requires open { has_failed reader.old ≡ false }
         requires formed { IsWellFormed (recorded self.old.steps.items self.old.numbers.items self.old.sites.items self.old.trace.names) }
         ensures formed { OnOk result (IsWellFormed (recorded self.new.steps.items self.new.numbers.items self.new.sites.items self.new.trace.names)) }
-        ensures come { (asked : Asked) (told : Option (List ℕ)) → HasCome (StandsFor self.old.part (A.stands self.old.analyst asked) self.old.of_pages) told (D.remaining (inner_of reader.old)) self.old.lines self.old.trace self.old.steps.items self.old.numbers.items self.old.sites.items
+        ensures come { (asked : Asked) (told : Option (List ℕ)) → IfSome asked.touches (λ all. Tells all self.old.touches.items (S.touches (inner_of reader.old)) self.old.from 0)
+            → HasCome (StandsFor self.old.part (A.stands self.old.analyst asked) self.old.of_pages) told (D.remaining (inner_of reader.old)) self.old.lines self.old.trace self.old.steps.items self.old.numbers.items self.old.sites.items
             → IfOk result (λ more. more ≡ true → HasCome (StandsFor self.new.part (A.stands self.new.analyst asked) self.new.of_pages) told (D.remaining (inner_of reader.new)) self.new.lines self.new.trace self.new.steps.items self.new.numbers.items self.new.sites.items) }
-        ensures ended { (asked : Asked) (told : Option (List ℕ)) → HasCome (StandsFor self.old.part (A.stands self.old.analyst asked) self.old.of_pages) told (D.remaining (inner_of reader.old)) self.old.lines self.old.trace self.old.steps.items self.old.numbers.items self.old.sites.items
+        ensures ended { (asked : Asked) (told : Option (List ℕ)) → IfSome asked.touches (λ all. Tells all self.old.touches.items (S.touches (inner_of reader.old)) self.old.from 0)
+            → HasCome (StandsFor self.old.part (A.stands self.old.analyst asked) self.old.of_pages) told (D.remaining (inner_of reader.old)) self.old.lines self.old.trace self.old.steps.items self.old.numbers.items self.old.sites.items
             → IfOk result (λ more. more ≡ false → HasEnded (StandsFor self.new.part (A.stands self.new.analyst asked) self.new.of_pages) told self.old.lines.place.limit self.new.trace.names) }
-        ensures ends { (asked : Asked) (told : Option (List ℕ)) → HasCome (StandsFor self.old.part (A.stands self.old.analyst asked) self.old.of_pages) told (D.remaining (inner_of reader.old)) self.old.lines self.old.trace self.old.steps.items self.old.numbers.items self.old.sites.items
+        ensures ends { (asked : Asked) (told : Option (List ℕ)) → IfSome asked.touches (λ all. Tells all self.old.touches.items (S.touches (inner_of reader.old)) self.old.from 0)
+            → HasCome (StandsFor self.old.part (A.stands self.old.analyst asked) self.old.of_pages) told (D.remaining (inner_of reader.old)) self.old.lines self.old.trace self.old.steps.items self.old.numbers.items self.old.sites.items
             → IfOk result (λ more. more ≡ false → IfSome told (λ text. KnowsEnd text self.new.lines)) }
-        ensures fault { (asked : Asked) (told : Option (List ℕ)) → HasCome (StandsFor self.old.part (A.stands self.old.analyst asked) self.old.of_pages) told (D.remaining (inner_of reader.old)) self.old.lines self.old.trace self.old.steps.items self.old.numbers.items self.old.sites.items
+        ensures fault { (asked : Asked) (told : Option (List ℕ)) → IfSome asked.touches (λ all. Tells all self.old.touches.items (S.touches (inner_of reader.old)) self.old.from 0)
+            → HasCome (StandsFor self.old.part (A.stands self.old.analyst asked) self.old.of_pages) told (D.remaining (inner_of reader.old)) self.old.lines self.old.trace self.old.steps.items self.old.numbers.items self.old.sites.items
             → IfErr result (λ why. IsFaultOfReading told self.old.lines.place.limit why) }
         ensures limit { self.new.lines.place.limit ≡ self.old.lines.place.limit }
         ensures part { self.new.part ≡ self.old.part }
+        ensures touches { (all : List Touching) → Tells all self.old.touches.items (S.touches (inner_of reader.old)) self.old.from 0
+            → OnOk result (Tells all self.new.touches.items (S.touches (inner_of reader.new)) self.new.from 0) }
         ensures more { IfOk result (λ more. more ≡ true → self.old.lines.place.start < self.new.lines.place.start) }
         ensures within { self.new.lines.place.start ≤ self.new.lines.place.limit }
         ensures failed { HasFailedBy (has_failed reader.new) result }
@@ -166,13 +191,14 @@ impl<A: Drop> Pass<A> {
                 requires { IsSync R.row × (has_failed reader.now ≡ false) }
             { lines.next_batch(rt, reader, shortcut, trace) },
         )?;
-        self.answer_last(rt)?;
+        let next = shortcut.hand_out(reader.inner_mut(), &mut self.touches)?;
+        self.answer_last(rt, next)?;
         match batch {
             Batch::More => Ok(true),
             Batch::End => {
                 self.keep_last();
                 self.analyst.prepare(rt, self.steps.as_slice(), &mut || ());
-                self.answer_last(rt)?;
+                self.answer_last(rt, next)?;
                 Ok(false)
             }
         }
@@ -206,11 +232,14 @@ impl<A: Drop> Pass<A> {
         A: Analyst,
         requires open { has_failed reader.old ≡ false }
         requires formed { IsWellFormed (recorded self.old.steps.items self.old.numbers.items self.old.sites.items self.old.trace.names) }
-        ensures ended { (asked : Asked) (told : Option (List ℕ)) → HasCome (StandsFor self.old.part (A.stands self.old.analyst asked) self.old.of_pages) told (D.remaining (inner_of reader.old)) self.old.lines self.old.trace self.old.steps.items self.old.numbers.items self.old.sites.items
+        ensures ended { (asked : Asked) (told : Option (List ℕ)) → IfSome asked.touches (λ all. Tells all self.old.touches.items (S.touches (inner_of reader.old)) self.old.from 0)
+            → HasCome (StandsFor self.old.part (A.stands self.old.analyst asked) self.old.of_pages) told (D.remaining (inner_of reader.old)) self.old.lines self.old.trace self.old.steps.items self.old.numbers.items self.old.sites.items
             → OnOk result (HasEnded (StandsFor self.new.part (A.stands self.new.analyst asked) self.new.of_pages) told self.old.lines.place.limit self.new.trace.names) }
-        ensures ends { (asked : Asked) (told : Option (List ℕ)) → HasCome (StandsFor self.old.part (A.stands self.old.analyst asked) self.old.of_pages) told (D.remaining (inner_of reader.old)) self.old.lines self.old.trace self.old.steps.items self.old.numbers.items self.old.sites.items
+        ensures ends { (asked : Asked) (told : Option (List ℕ)) → IfSome asked.touches (λ all. Tells all self.old.touches.items (S.touches (inner_of reader.old)) self.old.from 0)
+            → HasCome (StandsFor self.old.part (A.stands self.old.analyst asked) self.old.of_pages) told (D.remaining (inner_of reader.old)) self.old.lines self.old.trace self.old.steps.items self.old.numbers.items self.old.sites.items
             → OnOk result (IfSome told (λ text. KnowsEnd text self.new.lines)) }
-        ensures fault { (asked : Asked) (told : Option (List ℕ)) → HasCome (StandsFor self.old.part (A.stands self.old.analyst asked) self.old.of_pages) told (D.remaining (inner_of reader.old)) self.old.lines self.old.trace self.old.steps.items self.old.numbers.items self.old.sites.items
+        ensures fault { (asked : Asked) (told : Option (List ℕ)) → IfSome asked.touches (λ all. Tells all self.old.touches.items (S.touches (inner_of reader.old)) self.old.from 0)
+            → HasCome (StandsFor self.old.part (A.stands self.old.analyst asked) self.old.of_pages) told (D.remaining (inner_of reader.old)) self.old.lines self.old.trace self.old.steps.items self.old.numbers.items self.old.sites.items
             → IfErr result (λ why. IsFaultOfReading told self.old.lines.place.limit why) }
         ensures part { self.new.part ≡ self.old.part }
         ensures failed { HasFailedBy (has_failed reader.new) result }
@@ -225,8 +254,8 @@ impl<A: Drop> Pass<A> {
 }
 
 /// Reads a trace text of at most so many bytes to its end by so many threads, and has each batch of its steps answered and then forgotten. The analyst gets
-/// ready for a batch while the next one is read. If one thread reads, the shortcut may have lines ready. The watcher is told behind each batch how
-/// far the pass has come.
+/// ready for a batch while the next one is read. If one thread reads, the shortcut may have lines ready; what it hands out of the bytes that accesses
+/// touch goes to the analyst. The watcher is told behind each batch how far the pass has come.
 ///
 /// # Errors
 /// The text's first fault, a failed read, or a want of memory wherever it is met.
@@ -242,10 +271,10 @@ pub fn analyse<R: Threads + Wait + Sync, D: Read, S: Shortcut<D>, V: Watch, A: A
 ) -> Result<Analysed<A>, ReadFault>
     requires reader { has_failed reader.old ≡ false }
     requires readers { (1 ≤ readers) × (readers ≤ 16) }
-    ensures answered { (asked : Asked) → A.stands analyst asked no_steps
+    ensures answered { (asked : Asked) → asked.touches ≡ S.touches (inner_of reader.old) → A.stands analyst asked no_steps
         → IfOk result (λ found. IsAnswered (λ r. A.stands found.analyst asked r × HasCounted options.now.part found.of_pages r.steps) options.now.part (D.remaining (inner_of reader.old)) options.now.byte_limit found.trace.names) }
-    ensures ending { (asked : Asked) → A.stands analyst asked no_steps → IfOk result (λ found. IfSome (D.remaining (inner_of reader.old)) (λ text. IsEndingOf text found.ending)) }
-    ensures fault { (asked : Asked) → A.stands analyst asked no_steps → IfErr result (λ why. IsFaultOfReading (D.remaining (inner_of reader.old)) options.now.byte_limit why) }
+    ensures ending { (asked : Asked) → asked.touches ≡ S.touches (inner_of reader.old) → A.stands analyst asked no_steps → IfOk result (λ found. IfSome (D.remaining (inner_of reader.old)) (λ text. IsEndingOf text found.ending)) }
+    ensures fault { (asked : Asked) → asked.touches ≡ S.touches (inner_of reader.old) → A.stands analyst asked no_steps → IfErr result (λ why. IsFaultOfReading (D.remaining (inner_of reader.old)) options.now.byte_limit why) }
     ensures failed { HasFailedBy (has_failed reader.new) result }
     ensures taken { taken_of reader.new ≤ taken_of reader.old + options.now.byte_limit + bytes_past_limit }
 {
@@ -262,4 +291,15 @@ pub fn analyse<R: Threads + Wait + Sync, D: Read, S: Shortcut<D>, V: Watch, A: A
         }
         Err(why) => Err(why),
     }
+}
+
+// The last of these lines, or the one from which on they are to be. `AllocError`: one of them isn't from there on, or not before the next one.
+fn last_between(lines: &[u64], from: u64, next: u64) -> Result<u64, AllocError>
+    ensures between { OnOk result (All (λ line. (from ≤ line) × (line < next)) lines.now) }
+    ensures last { IfOk result (λ line. from ≤ line) }
+{
+    if !lines.iter().all(|line| *line >= from && *line < next) {
+        return Err(AllocError);
+    }
+    Ok(lines.last().copied().unwrap_or(from).max(from))
 }

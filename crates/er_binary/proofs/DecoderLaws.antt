@@ -2,7 +2,7 @@
 use Rattle.std.proofs.Common.{◌≡◌, ◌==◌, ℕ, ◌+◌, ◌-◌, ◌/◌, ◌<◌, ◌≤◌, List, [], ◌++◌, length, take, drop, vec_items, vec_len, Option, Some, None, option_map, if◌then◌else◌, refl, sym, ap, ◌∙◌, append_assoc, arith, rules}
 use Rattle.std.proofs.lemmas.List.{drop-drop, drop_all, drop_at, take_at, take-append-drop, take-append-le}
 use Rattle.std.specs.Io.KnownBytes.{Consumes, IsAtEnd, Keeps, prepend_known}
-use Rattle.er_binary.specs.Meaning.{Taken, damaged, past, spot_at, take_record}
+use Rattle.er_binary.specs.Meaning.{Making, as_text, Taken, damaged, past, spot_at, take_record}
 use Rattle.er_binary.specs.Numbers.{number, number_in, plus}
 use Rattle.er_binary.specs.States.{at_block}
 use Rattle.er_binary.specs.declared.decoder.Phase.{Phase}
@@ -16,20 +16,20 @@ use Rattle.er_binary.specs.declared.state.State.{State}
 use Rattle.er_binary.specs.declared.decoder.Phase.TheVariants as phase
 
 -- where the text is given, the words of the last access and what is undecoded are left
-pub words_left : (d : Decoder) (rest : List ℕ) → HasGiven d → still d rest ≡ words_text d.state d.words ++ undecoded d.phase d rest
+pub words_left : (d : Decoder) (rest : List ℕ) → HasGiven d → still d rest ≡ words_text d.state d.words ++ undecoded as_text d.phase d rest
 unfolding still
 words_left d rest given =
     let all : length (vec_items d.text) ≤ d.given = search rules in
-    ap (λ (t : List ℕ). t ++ (words_text d.state d.words ++ undecoded d.phase d rest)) (drop_all d.given (vec_items d.text) all)
+    ap (λ (t : List ℕ). t ++ (words_text d.state d.words ++ undecoded as_text d.phase d rest)) (drop_all d.given (vec_items d.text) all)
 
 pub words_none : (s : State) (w : Words) → AreTaken w → words_text s w ≡ []
 words_none s w none = lines_none s _ w.node (w.at / 4) (w.end - w.at / 4) (omega arith)
 
-pub given_is : (d : Decoder) (rest : List ℕ) → IsGiven d → still d rest ≡ undecoded d.phase d rest
-given_is d rest given = words_left d rest given.0 ∙ ap (λ (t : List ℕ). t ++ undecoded d.phase d rest) (words_none d.state d.words given.1)
+pub given_is : (d : Decoder) (rest : List ℕ) → IsGiven d → still d rest ≡ undecoded as_text d.phase d rest
+given_is d rest given = words_left d rest given.0 ∙ ap (λ (t : List ℕ). t ++ undecoded as_text d.phase d rest) (words_none d.state d.words given.1)
 
 -- two decoders whose text is given still give the same, if the same is undecoded
-pub same_undecoded : (d e : Decoder) (rest : List ℕ) → IsGiven d → IsGiven e → undecoded d.phase d rest ≡ undecoded e.phase e rest → still d rest ≡ still e rest
+pub same_undecoded : (d e : Decoder) (rest : List ℕ) → IsGiven d → IsGiven e → undecoded as_text d.phase d rest ≡ undecoded as_text e.phase e rest → still d rest ≡ still e rest
 same_undecoded d e rest given done same = given_is d rest given ∙ same ∙ sym (given_is e rest done)
 
 -- a piece of a text is given, and the rest is left
@@ -40,22 +40,22 @@ piece_given text buffer rest given n is =
     rw (is, back) (ap (λ (t : List ℕ). t ++ rest) (sym (take-append-drop n left)) ∙ append_assoc (take n left) (drop n left) rest)
 
 -- what is left in each phase
-pub header_is : (d : Decoder) (rest : List ℕ) → IsGiven d → d.phase ≡ phase.Header → still d rest ≡ all_blocks d.spot.block d.spot.start d.state (take d.header_held d.header ++ rest)
-header_is d rest given at = given_is d rest given ∙ ap (λ (p : Phase). undecoded p d rest) at
+pub header_is : (d : Decoder) (rest : List ℕ) → IsGiven d → d.phase ≡ phase.Header → still d rest ≡ all_blocks as_text d.spot.block d.spot.start d.state (take d.header_held d.header ++ rest)
+header_is d rest given at = given_is d rest given ∙ ap (λ (p : Phase). undecoded as_text p d rest) at
 
-pub content_is : (d : Decoder) (rest : List ℕ) → IsGiven d → d.phase ≡ phase.Content → still d rest ≡ all_content d.spot (vec_len d.bytes) d.state (take d.held (vec_items d.bytes) ++ rest)
-content_is d rest given at = given_is d rest given ∙ ap (λ (p : Phase). undecoded p d rest) at
+pub content_is : (d : Decoder) (rest : List ℕ) → IsGiven d → d.phase ≡ phase.Content → still d rest ≡ all_content as_text d.spot (vec_len d.bytes) d.state (take d.held (vec_items d.bytes) ++ rest)
+content_is d rest given at = given_is d rest given ∙ ap (λ (p : Phase). undecoded as_text p d rest) at
 
 pub record_is : (d : Decoder) (rest : List ℕ) → IsGiven d → d.phase ≡ phase.Record
-    → still d rest ≡ all_records (plus d.spot.start (16 + vec_len d.bytes)) d.spot d.state (drop d.next (vec_items d.bytes)) rest
-record_is d rest given at = given_is d rest given ∙ ap (λ (p : Phase). undecoded p d rest) at
+    → still d rest ≡ all_records as_text (plus d.spot.start (16 + vec_len d.bytes)) d.spot d.state (drop d.next (vec_items d.bytes)) rest
+record_is d rest given at = given_is d rest given ∙ ap (λ (p : Phase). undecoded as_text p d rest) at
 
 -- behind the last record of a block
 pub end_is : (d : Decoder) (rest : List ℕ) → IsGiven d → d.phase ≡ phase.Record → d.next ≡ vec_len d.bytes
-    → still d rest ≡ (if d.spot.found == d.spot.count then all_blocks (plus d.spot.block 1) (plus d.spot.start (16 + vec_len d.bytes)) d.state rest else damaged d.spot.start)
+    → still d rest ≡ (if d.spot.found == d.spot.count then all_blocks as_text (plus d.spot.block 1) (plus d.spot.start (16 + vec_len d.bytes)) d.state rest else damaged d.spot.start)
 end_is d rest given at whole =
     let all : length (vec_items d.bytes) ≤ d.next = search rules in
-    record_is d rest given at ∙ record_end (plus d.spot.start (16 + vec_len d.bytes)) d.spot d.state (drop d.next (vec_items d.bytes)) rest (ap length (drop_all d.next (vec_items d.bytes) all))
+    record_is d rest given at ∙ record_end as_text (plus d.spot.start (16 + vec_len d.bytes)) d.spot d.state (drop d.next (vec_items d.bytes)) rest (ap length (drop_all d.next (vec_items d.bytes) all))
 
 -- known bytes go on to mean the same, while some are taken from the reader
 pub keeps_by : (f g : List ℕ → List ℕ) (a b : List ℕ) (old new : Option (List ℕ)) → Keeps (prepend_known a old) (prepend_known b new)
@@ -81,52 +81,52 @@ pub taken_is : (d e : Decoder) (rest : List ℕ) (t : Taken) → IsGiven d → d
 unfolding still
 taken_is d e rest t given at less some len taken phase none text state spot bytes next =
     record_is d rest given at
-    ∙ record_some (plus d.spot.start (16 + vec_len d.bytes)) d.spot d.state (vec_items d.bytes) rest d.next t less some len
-    ∙ sym (ap (λ (w : List ℕ). drop e.given (vec_items e.text) ++ (w ++ undecoded e.phase e rest)) (words_none e.state e.words taken) ∙ rw (phase, none, text, state, spot, bytes, next) refl)
+    ∙ record_some as_text (plus d.spot.start (16 + vec_len d.bytes)) d.spot d.state (vec_items d.bytes) rest d.next t less some len
+    ∙ sym (ap (λ (w : List ℕ). drop e.given (vec_items e.text) ++ (w ++ undecoded as_text e.phase e rest)) (words_none e.state e.words taken) ∙ rw (phase, none, text, state, spot, bytes, next) refl)
 
 -- or met one that may not come
 pub refused_is : (d : Decoder) (rest : List ℕ) → IsGiven d → d.phase ≡ phase.Record → d.next < length (vec_items d.bytes)
     → take_record d.state (drop d.next (vec_items d.bytes)) ≡ None → still d rest ≡ damaged d.spot.at
 refused_is d rest given at less none =
-    record_is d rest given at ∙ record_none (plus d.spot.start (16 + vec_len d.bytes)) d.spot d.state (vec_items d.bytes) rest d.next less none
+    record_is d rest given at ∙ record_none as_text (plus d.spot.start (16 + vec_len d.bytes)) d.spot d.state (vec_items d.bytes) rest d.next less none
 
 -- the blocks that are left, by the bytes that were read since
 pub header_from : (d : Decoder) (before bytes : List ℕ) → IsGiven d → d.phase ≡ phase.Header → bytes ≡ take d.header_held d.header ++ before
-    → still d before ≡ all_blocks d.spot.block d.spot.start d.state bytes
-header_from d before bytes given at same = header_is d before given at ∙ ap (λ (t : List ℕ). all_blocks d.spot.block d.spot.start d.state t) (sym same)
+    → still d before ≡ all_blocks as_text d.spot.block d.spot.start d.state bytes
+header_from d before bytes given at same = header_is d before given at ∙ ap (λ (t : List ℕ). all_blocks as_text d.spot.block d.spot.start d.state t) (sym same)
 
 -- and what is left of a block
 pub content_from : (d : Decoder) (before bytes : List ℕ) → IsGiven d → d.phase ≡ phase.Content → bytes ≡ take d.held (vec_items d.bytes) ++ before
-    → still d before ≡ all_content d.spot (vec_len d.bytes) d.state bytes
-content_from d before bytes given at same = content_is d before given at ∙ ap (λ (t : List ℕ). all_content d.spot (vec_len d.bytes) d.state t) (sym same)
+    → still d before ≡ all_content as_text d.spot (vec_len d.bytes) d.state bytes
+content_from d before bytes given at same = content_is d before given at ∙ ap (λ (t : List ℕ). all_content as_text d.spot (vec_len d.bytes) d.state t) (sym same)
 
 -- the first bytes of a block that are all there, before others
 pub number_front : (front rest : List ℕ) → 4 ≤ length front → number_in (front ++ rest) 0 4 ≡ number_in front 0 4
 number_front front rest long = ap number (take-append-le 4 front rest long)
 
 -- a block with these first bytes, and what is behind them
-pub good_parts : (block start : ℕ) (s : State) (header rest : List ℕ) (len : ℕ) → length header ≡ 16 → number_in (header ++ rest) 0 4 ≡ len
-    → all_content (spot_at block start (take 16 (header ++ rest))) (number_in (header ++ rest) 0 4) s (drop 16 (header ++ rest)) ≡ all_content (spot_at block start header) len s rest
-good_parts block start s header rest len sixteen is =
-    ap (λ (h : List ℕ). all_content (spot_at block start h) (number_in (header ++ rest) 0 4) s (drop 16 (header ++ rest))) (take_at header rest 16 sixteen)
-    ∙ ap (λ (k : ℕ). all_content (spot_at block start header) k s (drop 16 (header ++ rest))) is
-    ∙ ap (λ (t : List ℕ). all_content (spot_at block start header) len s t) (drop_at header rest 16 sixteen)
+pub good_parts : {M : Type 0} (made : Making M) (block start : ℕ) (s : State) (header rest : List ℕ) (len : ℕ) → length header ≡ 16 → number_in (header ++ rest) 0 4 ≡ len
+    → all_content made (spot_at block start (take 16 (header ++ rest))) (number_in (header ++ rest) 0 4) s (drop 16 (header ++ rest)) ≡ all_content made (spot_at block start header) len s rest
+good_parts made block start s header rest len sixteen is =
+    ap (λ (h : List ℕ). all_content made (spot_at block start h) (number_in (header ++ rest) 0 4) s (drop 16 (header ++ rest))) (take_at header rest 16 sixteen)
+    ∙ ap (λ (k : ℕ). all_content made (spot_at block start header) k s (drop 16 (header ++ rest))) is
+    ∙ ap (λ (t : List ℕ). all_content made (spot_at block start header) len s t) (drop_at header rest 16 sixteen)
 
 -- a decoder that read on in a block
 pub content_now : (d e : Decoder) (h rest : List ℕ) → IsGiven e → e.phase ≡ phase.Content → e.spot ≡ d.spot → e.state ≡ d.state → vec_len e.bytes ≡ vec_len d.bytes → vec_items e.bytes ≡ h
-    → still e rest ≡ all_content d.spot (vec_len d.bytes) d.state (take e.held h ++ rest)
+    → still e rest ≡ all_content as_text d.spot (vec_len d.bytes) d.state (take e.held h ++ rest)
 content_now d e h rest given at spot state len items =
     content_is e rest given at
-    ∙ ap (λ (k : ℕ). all_content e.spot k e.state (take e.held (vec_items e.bytes) ++ rest)) len
-    ∙ ap (λ (xs : List ℕ). all_content e.spot (vec_len d.bytes) e.state (take e.held xs ++ rest)) items ∙ rw (spot, state) refl
+    ∙ ap (λ (k : ℕ). all_content as_text e.spot k e.state (take e.held (vec_items e.bytes) ++ rest)) len
+    ∙ ap (λ (xs : List ℕ). all_content as_text e.spot (vec_len d.bytes) e.state (take e.held xs ++ rest)) items ∙ rw (spot, state) refl
 
 -- or began to take its records
 pub content_done : (d e : Decoder) (h rest : List ℕ) → IsGiven e → e.phase ≡ phase.Record → e.spot ≡ d.spot → e.state ≡ at_block d.state → e.next ≡ 0 → vec_len e.bytes ≡ length h → vec_items e.bytes ≡ h
-    → still e rest ≡ all_records (plus d.spot.start (16 + length h)) d.spot (at_block d.state) h rest
+    → still e rest ≡ all_records as_text (plus d.spot.start (16 + length h)) d.spot (at_block d.state) h rest
 content_done d e h rest given at spot state next len items =
     record_is e rest given at
-    ∙ ap (λ (k : ℕ). all_records (plus e.spot.start (16 + k)) e.spot e.state (drop e.next (vec_items e.bytes)) rest) len
-    ∙ ap (λ (xs : List ℕ). all_records (plus e.spot.start (16 + length h)) e.spot e.state (drop e.next xs) rest) items ∙ rw (spot, state, next) refl
+    ∙ ap (λ (k : ℕ). all_records as_text (plus e.spot.start (16 + k)) e.spot e.state (drop e.next (vec_items e.bytes)) rest) len
+    ∙ ap (λ (xs : List ℕ). all_records as_text (plus e.spot.start (16 + length h)) e.spot e.state (drop e.next xs) rest) items ∙ rw (spot, state, next) refl
 
 -- what is given of bytes that went on to mean the same
 pub gives_by : (f g h : List ℕ → List ℕ) (old known : Option (List ℕ)) (bytes : List ℕ) → Keeps (option_map f old) (option_map g known)

@@ -1,11 +1,13 @@
 pub mod NodeLemmas
 pub mod DecodedLaws
 pub mod HexLemmas
+pub mod LaterLaws
 pub mod LineLemmas
 pub mod DecoderLaws
 pub mod FillLemmas
 pub mod MeaningLaws
 pub mod NameLemmas
+pub mod NotesLaws
 pub mod NumberLemmas
 pub mod TakingLaws
 pub mod TextLemmas

@@ -1,13 +1,14 @@
 -- A decoder that took a line, and one that made the text of its words.
-use Rattle.std.proofs.Common.{◌≡◌, ℕ, ◌+◌, ◌*◌, ◌<◌, ◌≤◌, true, zero, suc, List, ◌++◌, length, drop, vec_items, vec_len, Some, refl, sym, ap, ◌∙◌, append_assoc}
+use Rattle.std.proofs.Common.{◌≡◌, ℕ, ◌+◌, ◌*◌, ◌<◌, ◌≤◌, true, zero, suc, List, ◌++◌, length, drop, vec_items, vec_len, Some, refl, sym, ap, ◌∙◌, append_assoc, append-nil}
 use Rattle.er_lines.specs.Ready.{line_text}
 use Rattle.er_lines.specs.declared.ready.ReadyLine.{ReadyLine}
-use Rattle.er_binary.specs.Inner.Decoders.{HasGiven, IsGiven, all_records, still, undecoded}
+use Rattle.er_binary.specs.Inner.Decoders.{HasGiven, IsGiven, all_records, still, undecoded, NotesOn}
 use Rattle.er_binary.specs.Inner.Words.{passed, words_at, words_text}
-use Rattle.er_binary.specs.Meaning.{Taken, past, take_record, take_said}
+use Rattle.er_binary.specs.Meaning.{as_text, Taken, past, take_record, take_said}
 use Rattle.er_binary.specs.Numbers.{address_word, plus}
 use Rattle.er_binary.specs.Records.{record_at}
 use Rattle.er_binary.specs.States.{after_access, is_access, names_in}
+use Rattle.er_binary.specs.Touches.{said_by, lines_alone, passed_by, touches_said}
 use Rattle.er_binary.specs.Texts.{access_lines, access_text, feed, site, thread_does}
 use Rattle.er_binary.specs.declared.decoder.Decoder.{Decoder}
 use Rattle.er_binary.specs.declared.decoder.Phase.TheVariants as phase
@@ -18,14 +19,17 @@ use Rattle.er_binary.specs.declared.state.State.{State}
 use Rattle.er_binary.specs.declared.state.Words.{Words}
 use Rattle.er_binary.proofs.DecoderLaws.{given_is, record_is, words_left}
 use Rattle.er_binary.proofs.MeaningLaws.{record_some, take_some}
+use Rattle.er_binary.specs.declared.touches.Said.{Said}
+use Rattle.er_lines.specs.declared.ready.Touch.{Touch}
+use Rattle.er_binary.proofs.NotesLaws.{noted_record, touches_none}
 
 -- a decoder whose text is given took a word's line
 pub word_taken : (d e : Decoder) (line : ReadyLine) (rest : List ℕ) → HasGiven d → HasGiven e → words_text d.state d.words ≡ line_text (names_in d.state) line ++ words_text e.state e.words
-    → undecoded e.phase e rest ≡ undecoded d.phase d rest → still d rest ≡ line_text (names_in d.state) line ++ still e rest
+    → undecoded as_text e.phase e rest ≡ undecoded as_text d.phase d rest → still d rest ≡ line_text (names_in d.state) line ++ still e rest
 word_taken d e line rest given done one same =
     words_left d rest given
-    ∙ ap (λ (t : List ℕ). t ++ undecoded d.phase d rest) one
-    ∙ append_assoc (line_text (names_in d.state) line) (words_text e.state e.words) (undecoded d.phase d rest)
+    ∙ ap (λ (t : List ℕ). t ++ undecoded as_text d.phase d rest) one
+    ∙ append_assoc (line_text (names_in d.state) line) (words_text e.state e.words) (undecoded as_text d.phase d rest)
     ∙ ap (λ (t : List ℕ). line_text (names_in d.state) line ++ (words_text e.state e.words ++ t)) (sym same)
     ∙ ap (λ (t : List ℕ). line_text (names_in d.state) line ++ t) (sym (words_left e rest done))
 
@@ -43,11 +47,11 @@ pub access_taken : (d e : Decoder) (rest : List ℕ) (head : Head) (a : Access) 
     → d.next < length (vec_items d.bytes) → 1 ≤ head.len → is_access d.state a ≡ true → HasGiven e → e.phase ≡ phase.Record → e.state ≡ passed d.state (words_at d.state a) → e.words ≡ words_at d.state a
     → e.spot ≡ past d.spot head.len → e.bytes ≡ d.bytes → e.next ≡ d.next + head.len → still d rest ≡ still e rest
 access_taken d e rest head a given at is says less some right done phase state words spot bytes next =
-    let t : Taken = record { text = access_text d.state a; state = after_access d.state a; len = head.len } in
+    let t : Taken = record { text = access_text d.state a; state = after_access d.state a; len = head.len; says = said_by d.state (said.Access a) } in
     let said : take_said d.state head.len (drop head.len (drop d.next (vec_items d.bytes))) head.says ≡ Some t = rw (says, right) refl in
     record_is d rest given at
-    ∙ record_some (plus d.spot.start (16 + vec_len d.bytes)) d.spot d.state (vec_items d.bytes) rest d.next t less (record_taken d.state _ head t is said) some
-    ∙ ap (λ (w : List ℕ). w ++ all_records (plus d.spot.start (16 + vec_len d.bytes)) (past d.spot head.len) (after_access d.state a) (drop (d.next + head.len) (vec_items d.bytes)) rest)
+    ∙ record_some as_text (plus d.spot.start (16 + vec_len d.bytes)) d.spot d.state (vec_items d.bytes) rest d.next t less (record_taken d.state _ head t is said) some
+    ∙ ap (λ (w : List ℕ). w ++ all_records as_text (plus d.spot.start (16 + vec_len d.bytes)) (past d.spot head.len) (after_access d.state a) (drop (d.next + head.len) (vec_items d.bytes)) rest)
     (sym (passed_lines d.state (words_at d.state a) _ _ _ _))
     ∙ sym (words_left e rest done ∙ rw (phase, state, words, spot, bytes, next) refl)
 
@@ -57,5 +61,30 @@ pub other_taken : (d e : Decoder) (rest : List ℕ) (head : Head) (t : Taken) �
     → e.state ≡ t.state → e.spot ≡ past d.spot t.len → e.bytes ≡ d.bytes → e.next ≡ d.next + t.len → still d rest ≡ t.text ++ still e rest
 other_taken d e rest head t given at is said less some done phase state spot bytes next =
     record_is d rest given at
-    ∙ record_some (plus d.spot.start (16 + vec_len d.bytes)) d.spot d.state (vec_items d.bytes) rest d.next t less (record_taken d.state _ head t is said) some
+    ∙ record_some as_text (plus d.spot.start (16 + vec_len d.bytes)) d.spot d.state (vec_items d.bytes) rest d.next t less (record_taken d.state _ head t is said) some
     ∙ ap (λ (text : List ℕ). t.text ++ text) (sym (given_is e rest done ∙ rw (phase, state, spot, bytes, next) refl))
+
+-- what is noted where an access was found
+pub access_noted : (d e : Decoder) (head : Head) (a : Access) → d.phase ≡ phase.Record → record_at (drop d.next (vec_items d.bytes)) ≡ Some head → head.says ≡ said.Access a
+    → d.next < length (vec_items d.bytes) → 1 ≤ head.len → is_access d.state a ≡ true → e.phase ≡ phase.Record → e.state ≡ passed d.state (words_at d.state a)
+    → e.spot ≡ past d.spot head.len → e.bytes ≡ d.bytes → e.next ≡ d.next + head.len → e.notes.is_on ≡ d.notes.is_on
+    → (d.notes.is_on ≡ true → vec_items e.notes.touches ≡ vec_items d.notes.touches ++ touches_said d.notes.line (said_by d.state head.says))
+    → (d.notes.is_on ≡ true → e.notes.line ≡ passed_by d.notes.line (said_by d.state head.says).lines) → NotesOn d e
+access_noted d e head a at is says less some right phase state spot bytes next on touches line =
+    let t : Taken = record { text = access_text d.state a; state = after_access d.state a; len = head.len; says = said_by d.state (said.Access a) } in
+    let said : take_said d.state head.len (drop head.len (drop d.next (vec_items d.bytes))) head.says ≡ Some t = rw (says, right) refl in
+    let same : said_by d.state head.says ≡ t.says = rw says refl in
+    noted_record d e t at less (record_taken d.state _ head t is said) some phase state spot bytes next on
+    (λ is_on. touches is_on ∙ ap (λ (s : Said). vec_items d.notes.touches ++ touches_said d.notes.line s) same)
+    (λ is_on. line is_on ∙ ap (λ (s : Said). passed_by d.notes.line s.lines) same)
+
+-- or another record, whose lines are of no access
+pub other_noted : (d e : Decoder) (head : Head) (t : Taken) (lines : ℕ) → d.phase ≡ phase.Record → record_at (drop d.next (vec_items d.bytes)) ≡ Some head
+    → take_said d.state head.len (drop head.len (drop d.next (vec_items d.bytes))) head.says ≡ Some t → d.next < length (vec_items d.bytes) → 1 ≤ t.len → e.phase ≡ phase.Record
+    → e.state ≡ t.state → e.spot ≡ past d.spot t.len → e.bytes ≡ d.bytes → e.next ≡ d.next + t.len → t.says ≡ lines_alone lines → e.notes.is_on ≡ d.notes.is_on
+    → vec_items e.notes.touches ≡ vec_items d.notes.touches → (d.notes.is_on ≡ true → e.notes.line ≡ passed_by d.notes.line lines) → NotesOn d e
+other_noted d e head t lines at is said less some phase state spot bytes next says on touches line =
+    noted_record d e t at less (record_taken d.state _ head t is said) some phase state spot bytes next on
+    (λ is_on. touches ∙ sym (ap (λ (s : Said). vec_items d.notes.touches ++ touches_said d.notes.line s) says
+    ∙ ap (λ (more : List Touch). vec_items d.notes.touches ++ more) (touches_none d.notes.line lines) ∙ append-nil (vec_items d.notes.touches)))
+    (λ is_on. line is_on ∙ sym (ap (λ (s : Said). passed_by d.notes.line s.lines) says))

@@ -1,5 +1,5 @@
 -- Texts that are put one behind another.
-use Rattle.std.proofs.Common.{◌≡◌, ℕ, List, ◌++◌, cond, ap, ◌∙◌, append_assoc, Option, Some, None, IfNone, IfSome, Result, Ok, Err, OnOk, OnErr}
+use Rattle.std.proofs.Common.{◌≡◌, ℕ, List, ◌++◌, cond, ap, ◌∙◌, append_assoc, Option, Some, None, IfNone, IfSome, Result, Ok, Err, OnOk, OnErr, IfOk}
 use Rattle.std.specs.Result.{is_ok}
 
 -- two texts put one behind the other
@@ -44,3 +44,8 @@ none_then (Some x) p f = tt
 pub some_then : {T : Type 0} {P Q : T → Type 0} (o : Option T) → IfSome o P → ((x : T) → P x → Q x) → IfSome o Q
 some_then None p f = tt
 some_then (Some x) p f = f x p
+
+-- what holds of what a call gave, under a premise that isn't asked for
+pub ok_given : {T E : Type 0} (P : Type 0) (Q : T → Type 0) (r : Result T E) → IfOk r Q → IfOk r (λ x. P → Q x)
+ok_given P Q (Ok v) q = λ p. q
+ok_given P Q (Err e) q = tt

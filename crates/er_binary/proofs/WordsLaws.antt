@@ -5,14 +5,14 @@ use Rattle.std.proofs.lemmas.List.Folds.{list_all_at}
 use Rattle.std.specs.List.{list_all}
 use Rattle.er_lines.specs.Naming.{is_name, is_lock_name}
 use Rattle.er_lines.specs.Lines.{has_bytes}
-use Rattle.er_lines.specs.Ready.{IsRight, KeepsNames, is_ready, kind_behind, line_text, name_by, name_word, operand_name, ready_text, thread_name}
+use Rattle.er_lines.specs.Ready.{IsRight, KeepsNames, is_ready, line_text, name_by, name_word, ready_text}
 use Rattle.er_lines.specs.declared.ready.NameKind.{NameKind}
 use Rattle.er_lines.specs.declared.ready.NameKind.TheVariants as names
-use Rattle.er_lines.specs.declared.ready.ReadyLine.{ReadyLine}
 use Rattle.er_lines.specs.declared.ready.ReadyVerb.{ReadyVerb}
 use Rattle.er_lines.specs.declared.ready.ReadyVerb.TheVariants as does
-use Rattle.er_binary.specs.Inner.Words.{AreNamed, IsSite, behind_first, counted, kind_for, passed, verb_for, words_text}
+use Rattle.er_binary.specs.Inner.Words.{AreNamed, IsSite, behind_first, counted, kind_for, verb_for, words_text}
 use Rattle.er_binary.specs.Meaning.{take_said}
+use Rattle.er_binary.specs.Touches.{lines_alone}
 use Rattle.er_binary.specs.declared.records.Record.TheVariants as said
 use Rattle.er_binary.specs.Numbers.{address_word, name_at}
 use Rattle.er_binary.specs.States.{after, is_place, is_right, names_in}
@@ -84,7 +84,7 @@ by_kind None k P is p = absurd (cc is)
 by_kind (Some j) k P is p = subst P (cc is) p
 
 abbrev IsTaken : State → ReadyVerb → ℕ → ℕ → ℕ → ℕ → List ℕ → Kind → Type 0
-IsTaken s v lock thread width len rest k = take_said s len rest (said.Other k lock) ≡ Some (record { text = line_text (names_in s) (record { verb = v; address = 0; thread = thread; name = Some lock; width = width }); state = counted s; len = len })
+IsTaken s v lock thread width len rest k = take_said s len rest (said.Other k lock) ≡ Some (record { text = line_text (names_in s) (record { verb = v; address = 0; thread = thread; name = Some lock; width = width }); state = counted s; len = len; says = lines_alone 1 })
 
 verb_taken : (s : State) (v : ReadyVerb) (lock thread width len : ℕ) (rest : List ℕ) → s.thread ≡ Some thread → lock < length s.locks → IfSome (kind_for v) (IsTaken s v lock thread width len rest)
 unfolding ready_text
@@ -96,7 +96,7 @@ verb_taken s does.ReadLock lock thread width len rest is less = lock_by s rest l
 verb_taken s does.ReadUnlock lock thread width len rest is less = lock_by s rest lock len less (λ test zero none. rw (test, zero, none, is) refl)
 
 pub lock_taken : (s : State) (v : ReadyVerb) (k : Kind) (lock thread width len : ℕ) (rest : List ℕ) → kind_for v ≡ Some k → s.thread ≡ Some thread → lock < length s.locks
-    → take_said s len rest (said.Other k lock) ≡ Some (record { text = line_text (names_in s) (record { verb = v; address = 0; thread = thread; name = Some lock; width = width }); state = counted s; len = len })
+    → take_said s len rest (said.Other k lock) ≡ Some (record { text = line_text (names_in s) (record { verb = v; address = 0; thread = thread; name = Some lock; width = width }); state = counted s; len = len; says = lines_alone 1 })
 lock_taken s v k lock thread width len rest right is less = by_kind (kind_for v) k (IsTaken s v lock thread width len rest) right (verb_taken s v lock thread width len rest is less)
 
 pub lock_right : (s : State) (v : ReadyVerb) (k : Kind) (lock thread : ℕ) → kind_for v ≡ Some k → AreNamed s → s.thread ≡ Some thread → lock < length s.locks

@@ -1,12 +1,13 @@
--- What a reader of a trace of any form still gives.
-use Rattle.std.specs.Prelude.{◌≡◌, ℕ, List, [], ◌++◌, drop, take}
+-- What a reader of a trace of any form still gives, and what it notes of accesses.
+use Rattle.std.specs.Prelude.{◌≡◌, ℕ, Bool, cond, List, [], ◌++◌, Option, None, drop, option_map, take}
 use Rattle.er_lines.specs.declared.ready.NameKind.{NameKind}
-use Rattle.er_binary.specs.Inner.Decoders.{still}
-use Rattle.er_binary.specs.Meaning.{meant}
+use Rattle.er_binary.specs.Inner.Decoders.{still, to_note}
+use Rattle.er_binary.specs.Meaning.{meant, touches}
 use Rattle.er_binary.specs.States.{names_in}
 use Rattle.er_binary.specs.declared.decoded.Decoded.{Decoded}
 use Rattle.er_binary.specs.declared.decoded.Form.{Form}
 use Rattle.er_binary.specs.declared.decoded.Form.TheVariants as form
+use Rattle.er_lines.specs.declared.ready.Touch.{Touch}
 
 -- the reader that it reads
 abbrev pub source_of : {R : Type 0} → Decoded R → R
@@ -41,3 +42,28 @@ names_by f = λ kind n. []
 
 abbrev pub names_of : {R : Type 0} → Decoded R → NameKind → ℕ → List ℕ
 names_of decoded = names_by decoded.form
+
+-- what accesses touch that was noted and not handed out, and what is to be noted of these bytes: by what its first bytes were found to begin
+abbrev pub to_touch_by : Form → List ℕ → List ℕ → List Touch
+to_touch_by form.Unknown first bytes = touches (first ++ bytes)
+to_touch_by form.Text first bytes = []
+to_touch_by (form.Binary decoder) first bytes = to_note decoder bytes
+
+unfoldable pub to_touch : {R : Type 0} → Decoded R → List ℕ → List Touch
+to_touch decoded bytes = to_touch_by decoded.form (take decoded.held decoded.first) bytes
+
+-- it has noted nothing yet
+abbrev pub TouchesFresh : {R : Type 0} → Decoded R → Type 0
+TouchesFresh decoded = (bytes : List ℕ) → to_touch decoded bytes ≡ touches bytes
+
+-- whether it notes what accesses touch
+abbrev pub is_noting_by : Form → Bool → Bool
+is_noting_by (form.Binary decoder) asked = decoder.notes.is_on
+is_noting_by f asked = asked
+
+abbrev pub is_noting : {R : Type 0} → Decoded R → Bool
+is_noting decoded = is_noting_by decoded.form decoded.is_noting
+
+-- what is known of what is to be handed out, by what is known of the bytes of the reader that it reads
+abbrev pub known_touches : {R : Type 0} → (R → Option (List ℕ)) → Decoded R → Option (List Touch)
+known_touches remaining decoded = cond (is_noting decoded) (option_map (to_touch decoded) (remaining (source_of decoded))) None

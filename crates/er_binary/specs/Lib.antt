@@ -6,3 +6,4 @@ pub mod Inner
 pub mod Meaning
 pub mod States
 pub mod Texts
+pub mod Touches

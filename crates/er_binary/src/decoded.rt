@@ -1,13 +1,13 @@
 //! A reader of the text that a trace of any form means.
-ghost use Rattle.std.specs.Prelude.{◌≡◌, ◌≢◌, ◌≤◌, OnOk, option_map};
+ghost use Rattle.std.specs.Prelude.{◌≡◌, ◌≢◌, ◌≤◌, ℕ, List, IfOk, IfSome, OnErr, OnOk, Some, option_map, true};
 ghost use Rattle.std.specs.Io.{ReadsAtMost};
 ghost use Rattle.std.specs.Io.KnownBytes.{Keeps, ReadConsumes};
 
 use crate::decoder::{Decoder, copy_front, fill};
 use crate::names::Names;
 use crate::state::State;
-use er_lines::{NameKind, ReadyLine, Shortcut};
-use std::alloc::Global;
+use er_lines::{NameKind, ReadyLine, Shortcut, Touch};
+use std::alloc::{AllocError, Global};
 use std::io;
 use std::io::Read;
 
@@ -41,6 +41,8 @@ pub struct Decoded<R> {
     inner: R,
     alloc: Global,
     form: Form,
+    // Whether what accesses touch is noted.
+    is_noting: bool,
     // The first bytes, of which there are `held`. Of these `given` were given.
     first: [u8; 8],
     held: usize,
@@ -50,20 +52,70 @@ pub struct Decoded<R> {
 }
 
 impl<R> Decoded<R> {
-    ghost use Rattle.er_binary.specs.Decoded.{IsFresh, source_of};
+    ghost use Rattle.er_binary.specs.Decoded.{IsFresh, TouchesFresh, is_noting, names_of, source_of, to_come, to_touch};
+    ghost use Rattle.er_lines.specs.Touches.{HasHanded};
 
-    /// A reader of what the other one gives.
+    /// A reader of what the other one gives. It notes nothing of what accesses touch.
     pub fn new(alloc: Global, inner: R) -> Decoded<R>
         ensures source { source_of result ≡ inner }
         ensures fresh { IsFresh result }
+    {
+        Decoded::with_notes(alloc, inner, false)
+    }
+
+    /// The same, which also notes what accesses touch that don't touch their whole word, if that is asked for. What is noted is to be handed out
+    /// now and then: see [`hand_out`](Decoded::hand_out).
+    pub fn with_notes(alloc: Global, inner: R, notes: bool) -> Decoded<R>
+        ensures source { source_of result ≡ inner }
+        ensures fresh { IsFresh result }
+        ensures noting { is_noting result ≡ notes }
+        ensures touches { TouchesFresh result }
     {
         Decoded {
             inner,
             alloc,
             form: Form::Unknown,
+            is_noting: notes,
             first: [0; 8],
             held: 0,
             given: 0,
+        }
+    }
+
+    /// Has what accesses touch noted from now on, if nothing was read yet.
+    pub fn note_touches(&mut self)
+        ensures text { (bytes : List ℕ) → to_come self.new bytes ≡ to_come self.old bytes }
+        ensures touches { (bytes : List ℕ) → to_touch self.new bytes ≡ to_touch self.old bytes }
+        ensures source { source_of self.new ≡ source_of self.old }
+        ensures names { names_of self.new ≡ names_of self.old }
+    {
+        self.is_noting = true;
+    }
+
+    // Whether it notes what accesses touch.
+    fn is_noting(&self) -> bool
+        ensures { result ≡ is_noting self.now }
+    {
+        match &self.form {
+            Form::Binary(decoder) => decoder.notes.is_on,
+            _ => self.is_noting,
+        }
+    }
+
+    /// Puts what was noted behind the others. From then on it isn't known here any more. Returns the number of a line: what is noted later is of this
+    /// line or of lines behind it. `AllocError`: memory was refused, and nothing changed.
+    pub fn hand_out(&mut self, touches: &mut Vec<Touch>) -> Result<u64, AllocError>
+        ensures handed { IfOk result (λ line. is_noting self.old ≡ true → (bytes : List ℕ) → HasHanded (to_touch self.old bytes) (Some (to_touch self.new bytes)) touches.old.items touches.new.items line) }
+        ensures noting { is_noting self.new ≡ is_noting self.old }
+        ensures same { OnErr result ((touches.new.items ≡ touches.old.items) × ((bytes : List ℕ) → to_touch self.new bytes ≡ to_touch self.old bytes)) }
+        ensures text { (bytes : List ℕ) → to_come self.new bytes ≡ to_come self.old bytes }
+        ensures source { source_of self.new ≡ source_of self.old }
+        ensures names { names_of self.new ≡ names_of self.old }
+    {
+        match &mut self.form {
+            Form::Binary(decoder) => decoder.notes.hand_out(touches),
+            Form::Text => Ok(u64::MAX),
+            Form::Unknown => Ok(0),
         }
     }
 
@@ -89,7 +141,8 @@ impl<R: Drop> Decoded<R> {
 }
 
 impl<R: Read> Decoded<R> {
-    ghost use Rattle.er_binary.specs.Decoded.{source_of, to_come};
+    ghost use Rattle.er_binary.specs.Decoded.{is_noting, source_of, to_come, to_touch};
+    ghost use Rattle.er_lines.specs.Touches.{StaysKnown};
     ghost use Rattle.er_binary.specs.declared.decoded.Form.TheVariants as form;
 
     /// Reads as [`Read::read`] does. The listener hears each record whose text comes next.
@@ -100,6 +153,8 @@ impl<R: Read> Decoded<R> {
     ) -> io::Result<usize>
         ensures bound { ReadsAtMost result buffer.new }
         ensures bytes { ReadConsumes (option_map (to_come self.old) (R.remaining (source_of self.old))) (option_map (to_come self.new) (R.remaining (source_of self.new))) result buffer.new }
+        ensures noting { is_noting self.new ≡ is_noting self.old }
+        ensures touches { is_noting self.old ≡ true → StaysKnown (option_map (to_touch self.old) (R.remaining (source_of self.old))) (option_map (to_touch self.new) (R.remaining (source_of self.new))) }
     {
         self.begin()?;
         match &mut self.form {
@@ -112,6 +167,8 @@ impl<R: Read> Decoded<R> {
     fn begin(&mut self) -> io::Result<()>
         ensures known { OnOk result (self.new.form ≢ form.Unknown) }
         ensures same { Keeps (option_map (to_come self.old) (R.remaining (source_of self.old))) (option_map (to_come self.new) (R.remaining (source_of self.new))) }
+        ensures noting { is_noting self.new ≡ is_noting self.old }
+        ensures touches { is_noting self.old ≡ true → StaysKnown (option_map (to_touch self.old) (R.remaining (source_of self.old))) (option_map (to_touch self.new) (R.remaining (source_of self.new))) }
     {
         match self.form {
             Form::Unknown => self.find_form(),
@@ -125,6 +182,8 @@ impl<R: Read> Decoded<R> {
         requires { self.old.form ≡ form.Unknown }
         ensures known { OnOk result (self.new.form ≢ form.Unknown) }
         ensures same { Keeps (option_map (to_come self.old) (R.remaining (source_of self.old))) (option_map (to_come self.new) (R.remaining (source_of self.new))) }
+        ensures noting { is_noting self.new ≡ is_noting self.old }
+        ensures touches { is_noting self.old ≡ true → StaysKnown (option_map (to_touch self.old) (R.remaining (source_of self.old))) (option_map (to_touch self.new) (R.remaining (source_of self.new))) }
     {
         self.given = 0;
         fill(&mut self.inner, &mut self.first, &mut self.held)?;
@@ -132,7 +191,7 @@ impl<R: Read> Decoded<R> {
             self.form = Form::Text;
             return Ok(());
         }
-        self.form = Form::Binary(Decoder::new(self.alloc)?);
+        self.form = Form::Binary(Decoder::new(self.alloc, self.is_noting)?);
         Ok(())
     }
 
@@ -141,6 +200,8 @@ impl<R: Read> Decoded<R> {
         requires { self.old.form ≡ form.Text }
         ensures bound { ReadsAtMost result buffer.new }
         ensures bytes { ReadConsumes (option_map (to_come self.old) (R.remaining (source_of self.old))) (option_map (to_come self.new) (R.remaining (source_of self.new))) result buffer.new }
+        ensures noting { is_noting self.new ≡ is_noting self.old }
+        ensures touches { is_noting self.old ≡ true → StaysKnown (option_map (to_touch self.old) (R.remaining (source_of self.old))) (option_map (to_touch self.new) (R.remaining (source_of self.new))) }
     {
         if self.given == self.held {
             return self.inner.read(buffer);
@@ -152,20 +213,55 @@ impl<R: Read> Decoded<R> {
     }
 }
 
-/// Takes accesses and lock events of a binary trace before they are text.
+/// Takes accesses and lock events of a binary trace before they are text, and hands out what was noted of accesses, if that is noted.
 #[derive(Clone, Copy)]
 pub struct Directly;
 
-impl<R: Read> Shortcut<Decoded<R>> for Directly {
-    ghost use Rattle.er_binary.specs.Decoded.{names_of};
+impl<R: Read> Decoded<R> {
+    ghost use Rattle.er_binary.specs.Decoded.{is_noting, names_of, source_of, to_come, to_touch};
+    ghost use Rattle.er_lines.specs.Ready.{HasTaken, IsRight, KeepsNames, line_text};
 
-    ghost names_of = { names_of };
-
-    fn take(&self, reader: &mut Decoded<R>) -> Option<ReadyLine> {
-        match &mut reader.form {
+    // Takes the next line, if it is ready.
+    fn take_line(&mut self) -> Option<ReadyLine>
+        ensures taken { HasTaken (option_map (to_come self.old) (R.remaining (source_of self.old))) (option_map (to_come self.new) (R.remaining (source_of self.new))) (line_text (names_of self.new)) result }
+        ensures right { IfSome result (IsRight (names_of self.new)) }
+        ensures kept { KeepsNames (names_of self.old) (names_of self.new) }
+        ensures source { source_of self.new ≡ source_of self.old }
+        ensures noting { is_noting self.new ≡ is_noting self.old }
+        ensures touches { is_noting self.old ≡ true → (bytes : List ℕ) → to_touch self.old bytes ≡ to_touch self.new bytes }
+    {
+        match &mut self.form {
             Form::Binary(decoder) => decoder.take(),
             _ => None,
         }
+    }
+}
+
+impl<R: Read> Shortcut<Decoded<R>> for Directly {
+    ghost use Rattle.er_binary.specs.Decoded.{known_touches, names_of};
+
+    ghost names_of = { names_of };
+
+    ghost touches = { known_touches R.remaining };
+
+    fn read(&self, reader: &mut Decoded<R>, buffer: &mut [u8]) -> io::Result<usize> {
+        reader.read_with(buffer, &mut ())
+    }
+
+    fn take(&self, reader: &mut Decoded<R>) -> Option<ReadyLine> {
+        reader.take_line()
+    }
+
+    fn hand_out(
+        &self,
+        reader: &mut Decoded<R>,
+        others: &mut Vec<Touch>,
+    ) -> Result<u64, AllocError> {
+        if !reader.is_noting() {
+            // Nothing is handed out later.
+            return Ok(u64::MAX);
+        }
+        reader.hand_out(others)
     }
 
     fn name<'a>(&self, reader: &'a Decoded<R>, kind: NameKind, number: u64) -> &'a [u8] {

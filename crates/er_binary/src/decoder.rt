@@ -1,16 +1,19 @@
 //! Decodes the blocks of a binary trace, one after another.
-ghost use Rattle.std.specs.Prelude.{◌≡◌, ◌<◌, ◌≤◌, ◌^◌, ◌+◌, ◌/◌, ◌++◌, ℕ, List, OnOk, OnErr, IfOk, IfNone, IfSome, length, vec_len, min, take, option_map, false};
+ghost use Rattle.std.specs.Prelude.{◌≡◌, ◌<◌, ◌≤◌, ◌^◌, ◌+◌, ◌/◌, ◌++◌, ℕ, List, OnOk, OnErr, IfOk, IfNone, IfSome, length, vec_len, min, take, option_map, false, true};
 ghost use Rattle.std.specs.Io.{ReadsAtMost};
 ghost use Rattle.er_lines.specs.Ready.{IsRight, KeepsNames, line_text};
 ghost use Rattle.er_binary.specs.Inner.Words.{AreNamed, AreTaken};
 ghost use Rattle.er_binary.specs.Meaning.{checksum, is_bad_len, last_line, mixed, past};
+ghost use Rattle.er_binary.specs.Records.{record_at};
 ghost use Rattle.er_binary.specs.States.{names_in};
+ghost use Rattle.er_binary.specs.Touches.{said_by};
 ghost use Rattle.std.specs.Io.KnownBytes.{IsAtEnd, Keeps, ReadConsumes, prepend_known};
 
 use crate::decoded::Listener;
 use crate::names::{Names, Put, number};
 use crate::records::{Record, record_at};
 use crate::state::{State, Words};
+use crate::touches::{Notes, Said};
 use er_lines::{ReadyLine, put_number};
 use std::alloc::{AllocError, Global};
 use std::io;
@@ -67,6 +70,8 @@ pub(crate) struct Decoder {
     words: Words,
     // Whether lines are taken: then a read gives the text of one record.
     is_taken: bool,
+    // What accesses touch, if that is noted: those of all records that are decoded.
+    pub(crate) notes: Notes,
     ghost begun: { header_held ≤ 16 },
     ghost within: { held ≤ vec_len bytes },
     ghost decoded: { next ≤ vec_len bytes },
@@ -78,13 +83,16 @@ pub(crate) struct Decoder {
 }
 
 impl Decoder {
-    ghost use Rattle.er_binary.specs.Inner.Decoders.{HasGiven, IsGiven, left, still};
-    ghost use Rattle.er_binary.specs.Meaning.{text_behind};
+    ghost use Rattle.er_binary.specs.Inner.Decoders.{HasGiven, IsGiven, NotesOn, left, still, to_note};
+    ghost use Rattle.er_lines.specs.Touches.{StaysKnown};
+    ghost use Rattle.er_binary.specs.Meaning.{text_behind, touches_behind};
     ghost use Rattle.er_binary.specs.declared.decoder.Phase.TheVariants as phase;
 
-    /// A decoder behind the first 8 bytes of a trace.
-    pub(crate) fn new(alloc: Global) -> Result<Decoder, AllocError>
-        ensures { IfOk result (λ d. (bytes : List ℕ) → still d bytes ≡ text_behind bytes) }
+    /// A decoder behind the first 8 bytes of a trace, which notes what accesses touch, or doesn't.
+    pub(crate) fn new(alloc: Global, is_noting: bool) -> Result<Decoder, AllocError>
+        ensures text { IfOk result (λ d. (bytes : List ℕ) → still d bytes ≡ text_behind bytes) }
+        ensures on { IfOk result (λ d. d.notes.is_on ≡ is_noting) }
+        ensures touches { IfOk result (λ d. (bytes : List ℕ) → to_note d bytes ≡ touches_behind bytes) }
     {
         Ok(Decoder {
             state: State::new(alloc),
@@ -111,6 +119,7 @@ impl Decoder {
                 end: 0,
             },
             is_taken: false,
+            notes: Notes::new(alloc, is_noting),
         })
     }
 
@@ -131,6 +140,8 @@ impl Decoder {
     ) -> io::Result<usize>
         ensures bound { ReadsAtMost result buffer.new }
         ensures bytes { ReadConsumes (option_map (still self.old) (R.remaining reader.old)) (option_map (still self.new) (R.remaining reader.new)) result buffer.new }
+        ensures on { self.new.notes.is_on ≡ self.old.notes.is_on }
+        ensures noted { self.old.notes.is_on ≡ true → StaysKnown (option_map (to_note self.old) (R.remaining reader.old)) (option_map (to_note self.new) (R.remaining reader.new)) }
     {
         if buffer.is_empty() {
             return Ok(0);
@@ -156,6 +167,7 @@ impl Decoder {
         ensures some { IfSome result (λ line. (rest : List ℕ) → still self.old rest ≡ line_text (names_in self.new.state) line ++ still self.new rest) }
         ensures right { IfSome result (IsRight (names_in self.new.state)) }
         ensures kept { KeepsNames (names_in self.old.state) (names_in self.new.state) }
+        ensures noted { NotesOn self.old self.new }
     {
         self.is_taken = true;
         for _ in 0..8u8 {
@@ -172,6 +184,9 @@ impl Decoder {
             match head.says {
                 Record::Access(access) => {
                     let words = self.state.words_of(access)?;
+                    if !self.notes.note(&self.state, head.says) {
+                        return None;
+                    }
                     self.state.pass(&words);
                     self.words = words;
                     self.next += head.len;
@@ -179,6 +194,7 @@ impl Decoder {
                 }
                 Record::Other(kind, number) => {
                     if let Some(line) = self.state.lock_line(kind, number) {
+                        self.notes.pass_lines(1);
                         self.state.events = self.state.events.wrapping_add(1);
                         self.next += head.len;
                         self.spot.pass(head.len);
@@ -202,6 +218,7 @@ impl Decoder {
         ensures gives { IfOk result (λ n. (rest : List ℕ) → still self.old rest ≡ take n buffer.new ++ still self.new rest) }
         ensures given { IfOk result (λ n. n ≡ 0 → 0 < length buffer.new → IsGiven self.new) }
         ensures err { OnErr result ((rest : List ℕ) → still self.old rest ≡ still self.new rest) }
+        ensures noted { NotesOn self.old self.new }
     {
         self.put_rest()?;
         let mut count = self.give(buffer);
@@ -218,6 +235,7 @@ impl Decoder {
     fn put_rest(&mut self) -> io::Result<()>
         ensures same { (rest : List ℕ) → still self.old rest ≡ still self.new rest }
         ensures taken { OnOk result (AreTaken self.new.words) }
+        ensures noted { NotesOn self.old self.new }
     {
         if self.words.end <= self.words.at / 4 {
             return Ok(());
@@ -241,6 +259,7 @@ impl Decoder {
         ensures phase { self.new.phase ≡ self.old.phase }
         ensures bytes { self.new.bytes ≡ self.old.bytes }
         ensures next { self.new.next ≡ self.old.next }
+        ensures noted { NotesOn self.old self.new }
     {
         let (_, rest) = self.text.split_at(self.given);
         let count = copy_front(rest, buffer);
@@ -256,15 +275,19 @@ impl Decoder {
         ensures less { OnOk result (left self.new.phase self.new < left self.old.phase self.old) }
         ensures kept { KeepsNames (names_in self.old.state) (names_in self.new.state) }
         ensures words { self.new.words ≡ self.old.words }
+        ensures noted { NotesOn self.old self.new }
     {
         if self.next == self.bytes.len() {
             return self.end_block();
         }
+        self.notes.make_room()?;
         self.given = 0;
         self.text.clear();
         let (_, rest) = self.bytes.split_at(self.next);
+        let said = said_in_front(self.notes.is_on, &self.state, rest);
         match self.state.take(&mut self.text, rest) {
             Ok(Some(len)) => {
+                self.notes.follow(said);
                 self.next += len;
                 self.spot.pass(len);
                 let (bytes, _) = rest.split_at(len);
@@ -287,6 +310,7 @@ impl Decoder {
         ensures less { OnOk result (left self.new.phase self.new < left self.old.phase self.old) }
         ensures state { self.new.state ≡ self.old.state }
         ensures words { self.new.words ≡ self.old.words }
+        ensures noted { NotesOn self.old self.new }
     {
         if self.spot.found != u64::from(self.spot.count) {
             return self.stop(b"damaged", self.spot.start);
@@ -302,7 +326,9 @@ impl Decoder {
     fn read_header<R: Read>(&mut self, reader: &mut R) -> io::Result<()>
         requires phase { self.old.phase ≡ phase.Header }
         requires given { IsGiven self.old }
-        ensures { Keeps (option_map (still self.old) (R.remaining reader.old)) (option_map (still self.new) (R.remaining reader.new)) }
+        ensures same { Keeps (option_map (still self.old) (R.remaining reader.old)) (option_map (still self.new) (R.remaining reader.new)) }
+        ensures on { self.new.notes.is_on ≡ self.old.notes.is_on }
+        ensures noted { self.old.notes.is_on ≡ true → StaysKnown (option_map (to_note self.old) (R.remaining reader.old)) (option_map (to_note self.new) (R.remaining reader.new)) }
     {
         fill(reader, &mut self.header, &mut self.header_held)?;
         let (start, held) = (self.spot.start, self.header_held as u64);
@@ -337,7 +363,9 @@ impl Decoder {
     fn read_content<R: Read>(&mut self, reader: &mut R) -> io::Result<()>
         requires phase { self.old.phase ≡ phase.Content }
         requires given { IsGiven self.old }
-        ensures { Keeps (option_map (still self.old) (R.remaining reader.old)) (option_map (still self.new) (R.remaining reader.new)) }
+        ensures same { Keeps (option_map (still self.old) (R.remaining reader.old)) (option_map (still self.new) (R.remaining reader.new)) }
+        ensures on { self.new.notes.is_on ≡ self.old.notes.is_on }
+        ensures noted { self.old.notes.is_on ≡ true → StaysKnown (option_map (to_note self.old) (R.remaining reader.old)) (option_map (to_note self.new) (R.remaining reader.new)) }
     {
         fill(reader, &mut self.bytes, &mut self.held)?;
         let start = self.spot.start;
@@ -361,6 +389,9 @@ impl Decoder {
         ensures err { OnErr result ((rest : List ℕ) → still self.old rest ≡ still self.new rest) }
         ensures state { self.new.state ≡ self.old.state }
         ensures words { self.new.words ≡ self.old.words }
+        ensures touches { OnOk result ((rest : List ℕ) → to_note self.new rest ≡ self.old.notes.touches.items) }
+        ensures same { OnErr result (NotesOn self.old self.new) }
+        ensures on { self.new.notes.is_on ≡ self.old.notes.is_on }
     {
         self.given = 0;
         self.text.clear();
@@ -370,6 +401,21 @@ impl Decoder {
         }
         self.phase = Phase::Nothing;
         Ok(())
+    }
+}
+
+// What the record in front says of the lines of its text, if there is one and that is asked for.
+fn said_in_front(is_asked: bool, state: &State, bytes: &[u8]) -> Said
+    ensures said { is_asked ≡ true → IfSome (record_at bytes.now) (λ head. result ≡ said_by state.now head.says) }
+    ensures few { result.words ≤ 5 }
+    ensures below { result.address + result.size < 2 ^ 63 }
+{
+    if !is_asked {
+        return Said::lines(0);
+    }
+    match record_at(bytes) {
+        Some(head) => state.said_by(head.says),
+        None => Said::lines(0),
     }
 }
 

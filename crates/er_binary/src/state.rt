@@ -8,6 +8,7 @@ ghost use Rattle.er_binary.specs.Meaning.{take_record, take_said};
 ghost use Rattle.er_binary.specs.Numbers.{name_at};
 ghost use Rattle.er_binary.specs.Records.{body_len};
 ghost use Rattle.er_binary.specs.States.{address_of, after, at_block, first_state, is_access, is_note_byte, is_right, names_in, node_by, slot};
+ghost use Rattle.er_binary.specs.Touches.{lines_alone};
 ghost use Rattle.er_binary.specs.declared.records.Record.TheVariants as said;
 
 use crate::names::{Names, number};
@@ -319,7 +320,7 @@ impl State {
     #[inline(always)]
     pub(crate) fn lock_line(&self, kind: Kind, lock: u64) -> Option<ReadyLine>
         requires { AreNamed self.now }
-        ensures taken { IfSome result (λ line. (len : ℕ) (rest : List ℕ) → take_said self.now len rest (said.Other kind lock) ≡ Some (record { text = line_text (names_in self.now) line; state = counted self.now; len = len })) }
+        ensures taken { IfSome result (λ line. (len : ℕ) (rest : List ℕ) → take_said self.now len rest (said.Other kind lock) ≡ Some (record { text = line_text (names_in self.now) line; state = counted self.now; len = len; says = lines_alone 1 })) }
         ensures right { IfSome result (IsRight (names_in self.now)) }
     {
         let verb = kind.lock_verb()?;
@@ -339,7 +340,7 @@ impl State {
     /// Goes on at a thread or a node that there is. Another record changes nothing.
     #[inline(always)]
     pub(crate) fn goes_to(&mut self, kind: Kind, number: u64) -> bool
-        ensures taken { result ≡ true → (len : ℕ) (rest : List ℕ) → take_said self.old len rest (said.Other kind number) ≡ Some (record { text = []; state = self.new; len = len }) }
+        ensures taken { result ≡ true → (len : ℕ) (rest : List ℕ) → take_said self.old len rest (said.Other kind number) ≡ Some (record { text = []; state = self.new; len = len; says = lines_alone 0 }) }
         ensures other { result ≡ false → self.new ≡ self.old }
         ensures named { AreNamed self.old → AreNamed self.new }
         ensures same { (self.new.threads ≡ self.old.threads) × (self.new.locks ≡ self.old.locks) × (self.new.places ≡ self.old.places) }

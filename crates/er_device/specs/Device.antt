@@ -27,6 +27,10 @@ with_inner device inner = record device { inner = inner }
 abbrev pub more_taken : {D : Type 0} → Device D → ℕ → Device D
 more_taken device count = record device { taken = min (device.taken + count) (2 ^ 64 - 1) }
 
+-- the device once a call of it has failed
+abbrev pub failing : {D : Type 0} → Device D → Device D
+failing device = record device { failed = true }
+
 -- an error marks the device for good, and nothing else does
 abbrev pub Failing : {X E : Type 0} → Bool → Bool → Result X E → Type 0
 Failing old new result = MatchResult result (λ _. new ≡ old) (λ _. new ≡ true)

@@ -4,12 +4,12 @@ ghost use Rattle.std.specs.Io.{ReadsAtMost};
 ghost use Rattle.std.specs.Io.KnownBytes.{ReadConsumes, WriteAppends};
 ghost use Rattle.std.specs.Borrow.{Lends, sem};
 ghost use Rattle.er_device.specs.contracts.device.Device.{the_row};
-ghost use Rattle.er_device.specs.Device.{inner_of, has_failed, taken_of, fresh, with_inner, more_taken, Failing, CountsTaken, WritesPrefix};
+ghost use Rattle.er_device.specs.Device.{inner_of, has_failed, taken_of, fresh, with_inner, more_taken, failing, Failing, CountsTaken, WritesPrefix};
 
 use std::io::{Read, Write};
 
 /// A reader or a writer that remembers whether one of its calls failed, and how many bytes were taken from it: those that its reads gave, and those
-/// that its caller counted. A call through `inner_mut` goes past both: the caller counts what it takes there, and a failure is not remembered.
+/// that its caller counted. A call through `inner_mut` goes past both: the caller counts what it takes there, and says if it failed.
 #[derive(Debug, Drop)]
 pub struct Device<D> {
     inner: D,
@@ -80,8 +80,9 @@ impl<D> Device<D> {
         inner
     }
 
-    fn fail(&mut self) -> Failed
-        ensures { self.new ≡ record self.old { failed = true } }
+    /// Remembers that a call of what it wraps failed, which its caller made there.
+    pub fn fail(&mut self) -> Failed
+        ensures { self.new ≡ failing self.old }
     {
         self.failed = true;
         Failed

@@ -24,20 +24,20 @@ follows-raced past tags words follows t w kind =
     ∙ ap (λ k. reports_at (clock past t) k kind) (plain-at tags past w (length past))
 
 -- a counted access is of the step's thread
-own_thread : (h : Holdings) (t : ℕ) (e : Event) (u : ℕ) (kind : Kind) (word : ℕ) (cover : List ℕ) → marked h t e ≡ Counted u kind word cover → u ≡ t
-own_thread h t (Access kind w site) u kind2 word cover is = by (nat_lt 0 h.depth) is
+pub own-thread : (h : Holdings) (t : ℕ) (e : Event) (u : ℕ) (kind : Kind) (word : ℕ) (cover : List ℕ) → marked h t e ≡ Counted u kind word cover → u ≡ t
+own-thread h t (Access kind w site) u kind2 word cover is = by (nat_lt 0 h.depth) is
   where
     by : (b : Bool) → cond b Nothing (Counted t kind w (locks_for h kind)) ≡ Counted u kind2 word cover → u ≡ t
     by true is = cc
     by false is = cc
-own_thread h t (Acquire l m) u kind word cover is = cc
-own_thread h t (Release l m) u kind word cover is = cc
-own_thread h t (Reuse range) u kind word cover is = cc
-own_thread h t IgnoreOn u kind word cover is = cc
-own_thread h t IgnoreOff u kind word cover is = cc
-own_thread h t (Show v) u kind word cover is = cc
-own_thread h t (Level n) u kind word cover is = cc
-own_thread h t (Sync sync) u kind word cover is = cc
+own-thread h t (Acquire l m) u kind word cover is = cc
+own-thread h t (Release l m) u kind word cover is = cc
+own-thread h t (Reuse range) u kind word cover is = cc
+own-thread h t IgnoreOn u kind word cover is = cc
+own-thread h t IgnoreOff u kind word cover is = cc
+own-thread h t (Show v) u kind word cover is = cc
+own-thread h t (Level n) u kind word cover is = cc
+own-thread h t (Sync sync) u kind word cover is = cc
 
 module _ {A : Type 0} (past : List Step) (s : Step) (tags : ℕ → A) (old new : AllWords A) (tag : A) where
   abbrev mark : Mark
@@ -46,7 +46,7 @@ module _ {A : Type 0} (past : List Step) (s : Step) (tags : ℕ → A) (old new 
   pub follows-on : Follows tags old past → tags (length past) ≡ tag → ((w : ℕ) → IsStoredMoved (clock past s.thread) tag (stored_among old w) w mark (stored_among new w)) → Follows tags new (past ++ s ∷ [])
   follows-on follows last moved w =
       subst (λ (wanted : Stored A). ServesFor (past ++ s ∷ []) (stored_among new w) wanted) (sym grown)
-      (serves-moved past s tag w (stored_among old w) (stored_at tags past w (length past)) (stored_among new w) (follows w) mark (own_thread (holdings_at past s.thread (length past)) s.thread s.event) (moved w))
+      (serves-moved past s tag w (stored_among old w) (stored_at tags past w (length past)) (stored_among new w) (follows w) mark (own-thread (holdings_at past s.thread (length past)) s.thread s.event) (moved w))
     where
       grown : stored_at tags (past ++ s ∷ []) w (length (past ++ s ∷ [])) ≡ stored_moved (clock past s.thread) tag (stored_at tags past w (length past)) w mark
       grown =

@@ -10,3 +10,8 @@ pub mod Places
 pub mod ReasonLemmas
 pub mod Serving
 pub mod StepLemmas
+pub mod KnownLemmas
+pub mod KnownSteps
+pub mod Split
+pub mod Ended
+pub mod KnownAnswers

@@ -71,7 +71,7 @@ module _ {X : Type 0} (p : ℕ → Bool) (q : X → Bool) (f : ℕ → X) where
   find_one true x xs one two rest = rw (one, two) refl
   find_one false x xs one two rest = rw (one, two) rest
 
-  find-mapped : (xs : List ℕ) → ((j : ℕ) → has xs j ≡ true → p j ≡ q (f j)) → find q (map f xs) ≡ option_map f (find p xs)
+  pub find-mapped : (xs : List ℕ) → ((j : ℕ) → has xs j ≡ true → p j ≡ q (f j)) → find q (map f xs) ≡ option_map f (find p xs)
   find-mapped [] h = refl
   find-mapped (x ∷ xs) h =
       find_one (p x) x xs refl (sym (h x (or_left (x == x) (has xs x) (eq-eqb x x refl)))) (find-mapped xs (λ j member. h j (or_right (x == j) (has xs j) member)))

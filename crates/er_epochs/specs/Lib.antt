@@ -1,3 +1,4 @@
 pub mod Epochs
 pub mod Words
 pub mod Standing
+pub mod Known

@@ -9,9 +9,13 @@
 //! law of the definitions (`a_reason_is_found` of `er_order`).
 #![tactic(auto)]
 
+pub use byte_words::OrderBytes;
 pub use reads::Tagged;
+pub use touches::Touch;
 pub use words::OrderWords;
 
+mod byte_words;
 mod reads;
+mod touches;
 mod word;
 mod words;

@@ -5,8 +5,10 @@ ghost use Rattle.er_order.specs.Following.{is_unordered};
 ghost use Rattle.er_order.specs.Keeping.{IsNoted, first_apart};
 ghost use Rattle.er_clock.specs.Counts.{count_by};
 ghost use Rattle.er_epochs.specs.Epochs.{is_apart, is_replaced, pair_of, readers_in, reads_beside, tag_found, tag_of_first, tagged, IsStoredBy};
+ghost use Rattle.er_epochs.specs.Known.{Since, known_of, touches_of};
 ghost use Rattle.er_epochs.specs.Words.{list_of, said, stored_beside};
 
+use crate::touches::Touches;
 use crate::word::{NONE, OrderWord, SEVERAL};
 use er_clock::{Epoch, ThreadClock};
 use er_event::{Kind, ThreadId};
@@ -79,6 +81,26 @@ impl<A: Copy> Reads<A> {
         ensures { result ≡ tag_of_first (count_by clock.now) self.now }
     {
         find(&self.reads, clock)
+    }
+
+    /// The same reads once more. `AllocError`: memory was refused.
+    pub(crate) fn again(&self, alloc: Global) -> Result<Self, AllocError>
+        ensures { IfOk result (λ reads. reads ≡ self.now) }
+    {
+        let mut reads = Vec::new(alloc);
+        reads.extend_from_slice(&self.reads)?;
+        Ok(Reads { reads })
+    }
+
+    /// This last write and the reads, as accesses of the whole word. `AllocError`: memory was refused.
+    pub(crate) fn touches(
+        &self,
+        write: Option<Tagged<A>>,
+        alloc: Global,
+    ) -> Result<Touches<A>, AllocError>
+        ensures { IfOk result (λ touches. touches ≡ Since (touches_of (record { write = write; reads = self.now }))) }
+    {
+        Touches::of_whole(write, &self.reads, alloc)
     }
 
     /// Notes a read in the clock's epoch. `AllocError`: memory was refused, and the reads are as they were.
@@ -186,6 +208,16 @@ impl<A: Copy> ReadLists<A> {
         let index = reach(self.alloc, &mut self.lists, word.hint(), number)?;
         let reads = &mut self.lists[index];
         word.access_listed(reads, index, self.alloc, self.keys, clock, kind, tag)
+    }
+
+    /// The accesses of the word of this number, as accesses of the whole word. `AllocError`: memory was refused.
+    pub(crate) fn touches(&self, number: u64, word: OrderWord<A>) -> Result<Touches<A>, AllocError>
+        ensures { IfOk result (λ touches. touches ≡ known_of (stored_beside self.now number (said word))) }
+    {
+        match index_of(&self.lists, word.hint(), number) {
+            Some(index) => word.touches(&self.lists[index], self.alloc),
+            None => word.touches(&Reads::new(self.alloc), self.alloc),
+        }
     }
 
     /// The tag of the last one of the listed reads of the word of this number that doesn't happen before what the clock's thread does now.

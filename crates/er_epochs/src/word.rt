@@ -6,9 +6,11 @@ ghost use Rattle.er_order.specs.Following.{is_unordered};
 ghost use Rattle.er_clock.specs.Counts.{count_by};
 ghost use Rattle.er_epochs.specs.declared.reads.Tagged.{Tagged as Access};
 ghost use Rattle.er_epochs.specs.Epochs.{access_in, is_raced, reads_beside, readers_in, some_apart, stored_by, tag_found, tag_of_first, tagged, Readers, Told, IsStoredBy};
+ghost use Rattle.er_epochs.specs.Known.{known_of};
 ghost use Rattle.er_epochs.specs.Words.{said, blank, stored_in, IsButForTags};
 
 use crate::reads::{Reads, Tagged, access_by};
+use crate::touches::Touches;
 use er_clock::{Epoch, ThreadClock};
 use er_event::{Kind, ThreadId};
 use er_keys::HashKeys;
@@ -195,6 +197,33 @@ impl<A: Copy> OrderWord<A> {
             Some(tag) => Some(tag),
             None => unordered(self.writer, self.write_count, self.write_tag, clock),
         }
+    }
+
+    /// Its accesses, with the list of reads, as accesses of the whole word. `AllocError`: memory was refused.
+    pub(crate) fn touches(self, listed: &Reads<A>, alloc: Global) -> Result<Touches<A>, AllocError>
+        ensures { IfOk result (λ touches. touches ≡ known_of (stored_in self listed.now)) }
+    {
+        if self.writer == TOLD {
+            return Ok(Touches::told(alloc));
+        }
+        let mut reads = listed.again(alloc)?;
+        reads.gather(self.reader, self.read_count, self.read_tag)?;
+        reads.touches(self.last_write(), alloc)
+    }
+
+    // The last write.
+    fn last_write(self) -> Option<Tagged<A>>
+        ensures { result ≡ (said self).write }
+    {
+        if self.writer >= NONE {
+            return None;
+        }
+        let thread = ThreadId::new(self.writer);
+        let count = self.write_count;
+        Some(Tagged {
+            epoch: Epoch { thread, count },
+            tag: self.write_tag,
+        })
     }
 
     // The same of the reads alone, if no race was reported.

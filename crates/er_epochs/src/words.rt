@@ -4,11 +4,13 @@ ghost use Rattle.std.specs.Option.{option_map};
 ghost use Rattle.er_model.specs.Words.{is_within};
 ghost use Rattle.er_clock.specs.Counts.{count_by};
 ghost use Rattle.er_epochs.specs.Epochs.{is_raced, tag_found, tagged, untouched, Accesses, IsStoredBy};
+ghost use Rattle.er_epochs.specs.Known.{known_of};
 ghost use Rattle.er_epochs.specs.Standing.{Follows};
 ghost use Rattle.er_epochs.specs.declared.word.OrderWord.{OrderWord as Stored};
 ghost use Rattle.er_epochs.specs.Words.{IsButForTags, blank, said, word_at, list_of, stored_among, stored_beside, is_place_in, IsLowest};
 
 use crate::reads::ReadLists;
+use crate::touches::Touches;
 use crate::word::OrderWord;
 use er_clock::ThreadClock;
 use er_event::{Kind, PageRange, Word};
@@ -87,6 +89,20 @@ impl<A: Copy> OrderWords<A> {
                 self.blocks.insert(number, block)?;
                 Ok(rival)
             }
+        }
+    }
+
+    /// The accesses of a word, as accesses of the whole word. `AllocError`: memory was refused.
+    pub(crate) fn touches(&self, word: Word) -> Result<Touches<A>, AllocError>
+        ensures { IfOk result (λ touches. touches ≡ known_of (stored_among self.now word)) }
+    {
+        let number = word.block();
+        match index_of(&self.blocks, self.hints.hint(number), number) {
+            Some(index) => {
+                let kept = self.blocks[index].word(word.place_in_block());
+                self.lists.touches(word.number(), kept)
+            }
+            None => Ok(Touches::new(self.alloc)),
         }
     }
 
@@ -205,6 +221,14 @@ impl<A: Copy> Block<A> {
         let (next, rival) = lists.access(number, word, clock, kind, tag)?;
         put(&mut self.words, place, next);
         Ok(rival)
+    }
+
+    /// The word at a place.
+    pub(crate) fn word(&self, place: usize) -> OrderWord<A>
+        requires { place < 32 }
+        ensures { said result ≡ word_at self.now place }
+    {
+        get(&self.words, place)
     }
 
     /// Reads some part of the word at a place, for an access of it that comes soon.

@@ -1,5 +1,5 @@
 -- The bytes of a window after a read into its end, and after a step of its start.
-use Rattle.std.proofs.Common.{◌≡◌, ℕ, ◌+◌, ◌-◌, ◌≤◌, List, ◌++◌, length, take, drop, slice_range, refl, sym, ap, ◌∙◌, arith, Result, Ok, Err, OnErr}
+use Rattle.std.proofs.Common.{◌≡◌, ℕ, ◌+◌, ◌-◌, ◌≤◌, List, ◌++◌, length, take, drop, slice_range, refl, sym, ap, ◌∙◌, arith}
 use Rattle.std.proofs.lemmas.List.{take_at, drop_at, take-append-le, drop-take, drop-drop, length-take-le, length-take}
 use Rattle.std.proofs.lemmas.Slice.{between_from_start}
 use Rattle.std.proofs.Math.Seq.{take-add}
@@ -30,8 +30,3 @@ kept_front xs buffer tail start end zero fits =
     let new : slice_range all start end ≡ take end all = rw zero (between_from_start all end) in
     let old : slice_range xs start end ≡ take end xs = rw zero (between_from_start xs end) in
     new ∙ take_at (take end xs) (buffer ++ tail) end front ∙ sym old
-
--- what holds anyway holds after an error
-pub on_err_of : {T E : Type 0} (r : Result T E) (P : Type 0) → P → OnErr r P
-on_err_of (Ok v) P p = tt
-on_err_of (Err e) P p = p

@@ -9,4 +9,5 @@ pub mod Lending
 pub mod Reading
 pub mod Ready
 pub mod Taking
+pub mod Touches
 pub mod Inner

@@ -6,12 +6,13 @@
 //!
 //! What it promises, by the names of clauses: the line that is found is the next one of the text, or its fault is that it is too long or
 //! goes past the limit (`found`); a fault of the reader is reported if and only if the reader failed (`failed`); no more than the limit
-//! and 1,025 bytes are taken from the reader (`taken`, `most`).
+//! and 1,025 bytes are taken from the reader (`taken`, `most`). What a [`Shortcut`] says of the bytes that accesses touch stays with the reader until it
+//! is handed out (`touches`).
 //!
 //! ```
 //! let mut reader = Device::new(b"t1 write 0x1000\n".as_slice());
 //! let mut lines = LineReader::new(alloc, 1 << 20, 65_536)?;
-//! if let Some(front) = lines.find(&mut reader)? {
+//! if let Some(front) = lines.find(&mut reader, &ByText)? {
 //!     // The words `t1`, `write` and `0x1000`.
 //!     let words = split_words(lines.bytes(front));
 //!     assert_eq!(number_of(words.third), Some(0x1000));
@@ -28,7 +29,7 @@ pub use naming::{
     is_lock_name, is_name, is_site_name, lock_name_of, name_of, name_text, site_text,
 };
 pub use numbers::{hex_digit, number_of, put_hex, put_number, value_in};
-pub use ready::{ByText, NameKind, ReadyLine, ReadyVerb, Shortcut, ready_width};
+pub use ready::{ByText, NameKind, ReadyLine, ReadyVerb, Shortcut, Touch, ready_width};
 pub use words::{Words, number, split_words};
 
 mod bytes;

@@ -8,6 +8,7 @@ ghost use Rattle.er_lines.specs.Inner.Windows.{items};
 ghost use Rattle.er_lines.specs.Lending.{taken_by, lines_left, is_ended, front_width, past, past_lines, IsInFront, IsWithin, Finds};
 ghost use Rattle.er_lines.specs.Ready.{IsRight, KeepsNames};
 ghost use Rattle.er_lines.specs.Taking.{TakesReady};
+ghost use Rattle.er_lines.specs.Touches.{StaysKnown};
 
 use crate::bytes::whole_len;
 use crate::faults::{ReadFault, TextKind, fault_at};
@@ -87,7 +88,11 @@ impl LineReader {
     }
 
     /// Reads on until the window is full, the limit is reached, or the text ends.
-    pub fn fill<R: Read>(&mut self, reader: &mut Device<R>) -> Result<(), Failed>
+    pub fn fill<R: Read, S: Shortcut<R>>(
+        &mut self,
+        reader: &mut Device<R>,
+        shortcut: &S,
+    ) -> Result<(), Failed>
         ensures same { OnOk result (Keeps (prepend_known self.old.ahead (R.remaining (inner_of reader.old)))
             (prepend_known self.new.ahead (R.remaining (inner_of reader.new)))) }
         ensures limit { self.new.limit ≡ self.old.limit }
@@ -97,9 +102,10 @@ impl LineReader {
         ensures failed { Failing (has_failed reader.old) (has_failed reader.new) result }
         ensures taken { taken_of reader.new + taken_by self.old ≤ taken_of reader.old + taken_by self.new }
         ensures most { taken_by self.new ≤ self.new.limit + bytes_past_limit }
+        ensures touches { StaysKnown (S.touches (inner_of reader.old)) (S.touches (inner_of reader.new)) }
     {
         let most = (self.limit + 1025 - self.start) as usize;
-        self.window.fill_up(reader, most)
+        self.window.fill_up(reader, shortcut, most)
     }
 
     /// The whole lines that were read ahead, and none of them if they go past the limit.
@@ -129,7 +135,11 @@ impl LineReader {
 
     /// Looks for the next line, which stays the next one. None at the end of the text.
     #[inline(always)]
-    pub fn find<R: Read>(&mut self, reader: &mut Device<R>) -> Result<Option<FrontLine>, ReadFault>
+    pub fn find<R: Read, S: Shortcut<R>>(
+        &mut self,
+        reader: &mut Device<R>,
+        shortcut: &S,
+    ) -> Result<Option<FrontLine>, ReadFault>
         requires open { has_failed reader.old ≡ false }
         ensures found { Finds (lines_left self.old (R.remaining (inner_of reader.old))) self.new (R.remaining (inner_of reader.new)) result }
         ensures front { IfOk result (λ found. IfSome found (λ front. IsInFront self.new front)) }
@@ -140,9 +150,10 @@ impl LineReader {
         ensures failed { HasFailedBy (has_failed reader.new) result }
         ensures taken { taken_of reader.new + taken_by self.old ≤ taken_of reader.old + taken_by self.new }
         ensures most { taken_by self.new ≤ self.new.limit + bytes_past_limit }
+        ensures touches { StaysKnown (S.touches (inner_of reader.old)) (S.touches (inner_of reader.new)) }
     {
         let most = (self.limit + 1025 - self.start) as usize;
-        match self.window.find(reader, most)? {
+        match self.window.find(reader, shortcut, most)? {
             LineEnd::Long => Err(fault_at(self.number, TextKind::LineTooLong)),
             LineEnd::Whole(len) => self.within(FrontLine { len, breaks: 1 }),
             LineEnd::Last(0) => Ok(None),
@@ -200,6 +211,7 @@ impl LineReader {
         ensures counted { taken_of reader.new + taken_by self.old ≤ taken_of reader.old + taken_by self.new }
         ensures told { IfSome result (λ line. taken_of reader.new ≡ min (taken_of reader.old + (self.new.start - self.old.start)) (2 ^ 64 - 1)) }
         ensures most { taken_by self.new ≤ self.new.limit + bytes_past_limit }
+        ensures touches { StaysKnown (S.touches (inner_of reader.old)) (S.touches (inner_of reader.new)) }
     {
         if !is_asked || !self.window.is_empty() || self.limit - self.start < 1025 {
             return None;

@@ -1,7 +1,12 @@
 //! Lines of a trace that were never made as text.
-ghost use Rattle.std.specs.Prelude.{◌≡◌, List, ℕ, [], IfSome, length, true};
+ghost use Rattle.std.specs.Prelude.{◌≡◌, List, ℕ, [], IfOk, IfSome, OnErr, Some, length, true};
+ghost use Rattle.std.specs.Io.{ReadsAtMost};
+ghost use Rattle.std.specs.Io.KnownBytes.{ReadConsumes};
 ghost use Rattle.er_lines.specs.Ready.{HasTaken, IsRight, KeepsNames, is_ready, line_text, ready_text};
+ghost use Rattle.er_lines.specs.Touches.{HasHanded, StaysKnown};
 
+use std::alloc::AllocError;
+use std::io;
 use std::io::Read;
 
 /// What a ready line does.
@@ -40,12 +45,34 @@ pub struct ReadyLine {
     pub width: u64,
 }
 
-/// Takes lines from a reader before they are text.
+/// Which bytes of its word the access on a line of the text touches, from the first to the last one, both included.
+#[derive(Clone, Copy)]
+pub struct Touch {
+    /// The number of the line.
+    pub line: u64,
+    /// The first byte, of 0 to 3.
+    pub first: u8,
+    /// The last one.
+    pub last: u8,
+}
+
+/// Takes lines from a reader before they are text, and hands out what their accesses touch.
 pub trait Shortcut<R: Read> {
+    ghost use Rattle.std.specs.Prelude.{Option};
     ghost use Rattle.er_lines.specs.declared.ready.NameKind.{NameKind};
+    ghost use Rattle.er_lines.specs.declared.ready.Touch.{Touch};
 
     /// The name of a number of the reader, and no bytes if the number has none.
     ghost names_of: { R → NameKind → ℕ → List ℕ };
+
+    /// What the accesses of the text touch that don't touch their whole word, in the order of lines, as far as it isn't handed out: if it is known.
+    ghost touches: { R → Option (List Touch) };
+
+    /// Reads as [`Read::read`] does.
+    fn read(&self, reader: &mut R, buffer: &mut [u8]) -> io::Result<usize>
+        ensures bound { ReadsAtMost result buffer.new }
+        ensures bytes { ReadConsumes (R.remaining reader.old) (R.remaining reader.new) result buffer.new }
+        ensures touches { StaysKnown (touches reader.old) (touches reader.new) };
 
     /// Takes the next line, if it is ready. None changes nothing of what the reader gives.
     fn take(&self, reader: &mut R) -> Option<ReadyLine>
@@ -53,23 +80,44 @@ pub trait Shortcut<R: Read> {
         ensures right { IfSome result (IsRight (names_of reader.new)) }
 
         // A number that had a name keeps it.
-        ensures kept { KeepsNames (names_of reader.old) (names_of reader.new) };
+        ensures kept { KeepsNames (names_of reader.old) (names_of reader.new) }
+
+        ensures touches { StaysKnown (touches reader.old) (touches reader.new) };
+
+    /// Puts what is known so far of what accesses touch behind the others. Returns the number of a line: what comes later is of this line or of lines
+    /// behind it. `AllocError`: memory was refused, and nothing changed.
+    fn hand_out(&self, reader: &mut R, others: &mut Vec<Touch>) -> Result<u64, AllocError>
+        ensures handed { IfOk result (λ line. IfSome (touches reader.old) (λ old. HasHanded old (touches reader.new) others.old.items others.new.items line)) }
+        ensures same { OnErr result ((others.new.items ≡ others.old.items) × StaysKnown (touches reader.old) (touches reader.new)) }
+        ensures text { R.remaining reader.new ≡ R.remaining reader.old }
+        ensures names { names_of reader.new ≡ names_of reader.old };
 
     /// The name of a number, and no bytes if it has none, until the reader changes.
     fn name<'a>(&self, reader: &'a R, kind: NameKind, number: u64) -> &'a [u8]
         ensures { result.now ≡ names_of reader.now kind number };
 }
 
-/// Takes no line: everything comes as text.
+/// Takes no line: everything comes as text, and each access touches its whole word.
 #[derive(Clone, Copy)]
 pub struct ByText;
 
 impl<R: Read> Shortcut<R> for ByText {
     ghost names_of = { λ reader kind number. [] };
 
+    ghost touches = { λ reader. Some [] };
+
+    #[inline(always)]
+    fn read(&self, reader: &mut R, buffer: &mut [u8]) -> io::Result<usize> {
+        reader.read(buffer)
+    }
+
     #[inline(always)]
     fn take(&self, _reader: &mut R) -> Option<ReadyLine> {
         None
+    }
+
+    fn hand_out(&self, _reader: &mut R, _others: &mut Vec<Touch>) -> Result<u64, AllocError> {
+        Ok(u64::MAX)
     }
 
     fn name<'a>(&self, _reader: &'a R, _kind: NameKind, _number: u64) -> &'a [u8] {

@@ -2,8 +2,10 @@
 ghost use Rattle.std.specs.Prelude.{◌≡◌, ◌≢◌, ◌+◌, ◌-◌, ◌^◌, ◌<◌, ◌≤◌, ℕ, List, Option, length, take, drop, slice_index, All, IfOk, IsTrue, [], OnErr, OnOk, max, vec_len, ◌++◌};
 ghost use Rattle.std.specs.Io.KnownBytes.{Keeps, Consumes, IsAtEnd, prepend_known};
 ghost use Rattle.er_device.specs.Device.{inner_of, has_failed, taken_of, Failing};
+ghost use Rattle.er_lines.specs.Touches.{StaysKnown};
 
 use crate::bytes::line_len;
+use crate::ready::Shortcut;
 use er_device::{Device, Failed};
 use std::alloc::{AllocError, Global};
 use std::io::Read;
@@ -83,7 +85,12 @@ impl Window {
     }
 
     /// One read behind what the window shows, up to this place of it.
-    fn read<R: Read>(&mut self, reader: &mut Device<R>, stop: usize) -> Result<usize, Failed>
+    fn read<R: Read, S: Shortcut<R>>(
+        &mut self,
+        reader: &mut Device<R>,
+        shortcut: &S,
+        stop: usize,
+    ) -> Result<usize, Failed>
         requires front { self.old.start ≡ 0 }
         requires room { self.old.end < stop }
         requires within { stop ≤ vec_len self.old.bytes }
@@ -97,17 +104,22 @@ impl Window {
         ensures taken { IfOk result (λ n. taken_of reader.new ≤ taken_of reader.old + n) }
         ensures taken_err { OnErr result (taken_of reader.new ≡ taken_of reader.old) }
         ensures kept { OnErr result (items self.new ≡ items self.old) }
+        ensures touches { StaysKnown (S.touches (inner_of reader.old)) (S.touches (inner_of reader.new)) }
     {
         let end = self.end;
-        let count = reader.read(&mut self.bytes[end..stop])?;
+        let Ok(count) = shortcut.read(reader.inner_mut(), &mut self.bytes[end..stop]) else {
+            return Err(reader.fail());
+        };
+        reader.count_taken(count as u64);
         self.end = end + count;
         Ok(count)
     }
 
     /// Reads until the window is full, or has `most` bytes, or the text ends.
-    pub(crate) fn fill_up<R: Read>(
+    pub(crate) fn fill_up<R: Read, S: Shortcut<R>>(
         &mut self,
         reader: &mut Device<R>,
+        shortcut: &S,
         most: usize,
     ) -> Result<(), Failed>
         requires held { length (items self.old) ≤ most }
@@ -116,11 +128,12 @@ impl Window {
         ensures most { length (items self.new) ≤ most }
         ensures failed { Failing (has_failed reader.old) (has_failed reader.new) result }
         ensures taken { taken_of reader.new + length (items self.old) ≤ taken_of reader.old + length (items self.new) }
+        ensures touches { StaysKnown (S.touches (inner_of reader.old)) (S.touches (inner_of reader.new)) }
     {
         self.move_to_front();
         let stop = self.bytes.len().min(most);
         while self.end < stop {
-            if self.read(reader, stop)? == 0 {
+            if self.read(reader, shortcut, stop)? == 0 {
                 return Ok(());
             }
         }
@@ -129,9 +142,10 @@ impl Window {
 
     /// Where the line in front ends. It leaves at most `most` bytes in the window.
     #[inline(always)]
-    pub(crate) fn find<R: Read>(
+    pub(crate) fn find<R: Read, S: Shortcut<R>>(
         &mut self,
         reader: &mut Device<R>,
+        shortcut: &S,
         most: usize,
     ) -> Result<LineEnd, Failed>
         requires most { 1024 < most }
@@ -142,6 +156,7 @@ impl Window {
         ensures most { length (items self.new) ≤ most }
         ensures failed { Failing (has_failed reader.old) (has_failed reader.new) result }
         ensures taken { taken_of reader.new + length (items self.old) ≤ taken_of reader.old + length (items self.new) }
+        ensures touches { StaysKnown (S.touches (inner_of reader.old)) (S.touches (inner_of reader.new)) }
     {
         loop {
             let bytes = self.as_slice();
@@ -154,7 +169,7 @@ impl Window {
             }
             self.move_to_front();
             let stop = self.bytes.len().min(most);
-            if self.read(reader, stop)? == 0 {
+            if self.read(reader, shortcut, stop)? == 0 {
                 return Ok(LineEnd::Last(len));
             }
         }

@@ -29,7 +29,7 @@ use Rattle.er_order.proofs.Searches.{greatest-Some, greatest-none}
 use Rattle.er_order.proofs.StepLemmas.{Agree, agree-steps, decided}
 use Rattle.er_order.proofs.RaceLemmas.{not-reused, latest-in, latest-empty, race-finds}
 
-or_none : (b : Bool) → (b || false) ≡ b
+pub or_none : (b : Bool) → (b || false) ≡ b
 or_none true = refl
 or_none false = refl
 
@@ -52,7 +52,7 @@ every-not (suc n) p = rw (every-not n p) (and_nots (some_below n p) (p n))
 
 -- a step of each search
 module _ (order : Order) (r : Reading) (w n : ℕ) (stays : reuses (r n) w ≡ false) where
-  had-step : had_race order r w (suc n) ≡ (had_race order r w n || (counts (r n) w && is_race order r w n))
+  pub had-step : had_race order r w (suc n) ≡ (had_race order r w n || (counts (r n) w && is_race order r w n))
   unfolding had_race some_below
   had-step = rw (era-kept r w n stays) (rw (le-leb (era r w n) n (era-below r w n)) refl)
 
@@ -96,7 +96,7 @@ module _ (order : Order) (r : Reading) (w n : ℕ) (stays : reuses (r n) w ≡ f
 
 -- a reuse takes all away
 module _ (order : Order) (r : Reading) (w n : ℕ) (reused : reuses (r n) w ≡ true) where
-  had_reused : had_race order r w (suc n) ≡ false
+  pub had_reused : had_race order r w (suc n) ≡ false
   unfolding had_race
   had_reused = rw (era-reused r w n reused) (some_below-none (suc n) (λ k. counted_from r w (suc n) k && is_race order r w k) (λ k l. rw (lt-leb (suc n) k l) refl))
 

@@ -11,7 +11,7 @@ use Rattle.er_order.specs.Keeping.{first_apart, AreAlike, IsNoted}
 use Rattle.er_order.proofs.ClockFlows.{behind, behind-sum, knows_all}
 use Rattle.er_order.proofs.StepLemmas.{clocks-front}
 
-not_covered : (b : Bool) → not b ≡ false → b ≡ true
+pub not_covered : (b : Bool) → not b ≡ false → b ≡ true
 not_covered true e = refl
 not_covered false e = cc
 
@@ -79,11 +79,11 @@ module _ (steps : List Step) (s : Step) where
   abbrev grown : List Step
   grown = steps ++ s ∷ []
 
-  longer : length grown ≡ suc (length steps)
+  pub longer : length grown ≡ suc (length steps)
   longer = length_push steps s
 
   -- a thread that knows an epoch of what a thread does now knows what that one does
-  own_then : (t : ℕ) (more : List Step) (n u : ℕ) → length grown ≤ n → clock steps t t ≤ clocks_at (acts_of (grown ++ more)) n (OfThread u) t → (v : ℕ) → clock steps t v ≤ clocks_at (acts_of (grown ++ more)) n (OfThread u) v
+  pub own_then : (t : ℕ) (more : List Step) (n u : ℕ) → length grown ≤ n → clock steps t t ≤ clocks_at (acts_of (grown ++ more)) n (OfThread u) t → (v : ℕ) → clock steps t v ≤ clocks_at (acts_of (grown ++ more)) n (OfThread u) v
   unfolding own_count
   own_then t more n u past low v =
       let later : steps ++ (s ∷ more) ≡ grown ++ more = sym (append_assoc steps (s ∷ []) more) in

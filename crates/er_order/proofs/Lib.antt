@@ -18,3 +18,5 @@ pub mod ReasonLemmas
 pub mod ReasonsGrow
 pub mod Reuses
 pub mod ReusesGrow
+pub mod ByBytes
+pub mod Parts

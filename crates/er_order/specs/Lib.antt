@@ -7,4 +7,6 @@ pub mod Reasons
 pub mod Following
 pub mod Keeping
 pub mod Locality
+pub mod ByBytes
+pub mod Parts
 pub mod Examples

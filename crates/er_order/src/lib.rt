@@ -10,9 +10,13 @@
 //! `an_ordered_list_grows_by_a_step`); a race is unordered with an earlier access (`a_race_is_unordered_with_an_access`), which is found
 //! among the same ones (`a_reason_is_found`); an era is reported once (`an_era_is_reported_once`); more order gives fewer races, and no
 //! order at all each race that two threads can make (`more_order_fewer_races`, `with_no_order_each_shared_write_races`); a lock that no two
-//! threads hold at once orders what it covers (`a_common_lock_orders`). Such a function does nothing: its contract is the law. The cases in `worked_races` and `worked_reasons` are computed from the definitions alone.
+//! threads hold at once orders what it covers (`a_common_lock_orders`). Accesses of some bytes of a word race
+//! exactly if they have a byte in common (`a_race_has_a_common_byte`). Such a function does nothing: its contract is the law. The cases in `worked_races` and `worked_reasons` are computed from the definitions alone.
 #![tactic(auto)]
 
+pub use bytes::{
+    Bytes, a_race_has_a_common_byte, an_era_is_searched_from_its_end, what_is_of_no_use_may_go,
+};
 pub use laws::{
     a_clock_follows_its_step, a_step_moves_its_clocks, clock_lists_stand_for_clocks,
     clocks_decide_order, order_is_by_chains,
@@ -26,6 +30,7 @@ pub use races::{
 pub use reasons::{a_race_is_unordered_with_an_access, a_reason_is_found};
 pub use worked::{worked_races, worked_reasons};
 
+mod bytes;
 mod laws;
 mod locks;
 mod races;

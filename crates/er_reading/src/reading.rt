@@ -9,11 +9,12 @@ ghost use Rattle.er_lines.specs.Lines.{bytes_past_limit};
 ghost use Rattle.er_text.specs.Named.{Grows};
 ghost use Rattle.er_text.specs.Places.{no_tail};
 ghost use Rattle.er_lines.specs.Faults.{HasFailedBy};
+ghost use Rattle.er_lines.specs.Touches.{StaysKnown};
 ghost use Rattle.er_trace.specs.Trace.{no_steps};
 
 use crate::adding::add_ahead;
 use er_device::Device;
-use er_lines::{ByText, Shortcut};
+use er_lines::Shortcut;
 use er_text::{Batch, Ending, Piece, ReadFault, TraceReader};
 use er_trace::{NameKeys, Trace};
 use std::alloc::{AllocError, Global};
@@ -94,8 +95,8 @@ impl PieceReader {
         })
     }
 
-    /// Reads some of the next lines, or those up to the end of the text, and adds their steps to the trace. If one thread reads, the shortcut may
-    /// have lines ready.
+    /// Reads some of the next lines, or those up to the end of the text, and adds their steps to the trace. The shortcut may have
+    /// lines ready, unless they are cut into pieces.
     ///
     /// A text that ends without a header has a fault at its end. After a fault the reader is not to be called again: nothing is known
     /// of what it would read.
@@ -130,6 +131,7 @@ impl PieceReader {
         ensures failed { HasFailedBy (has_failed reader.new) result }
         ensures taken { taken_of reader.new + taken_by self.old.place ≤ taken_of reader.old + taken_by self.new.place }
         ensures most { taken_by self.new.place ≤ self.new.place.limit + bytes_past_limit }
+        ensures touches { StaysKnown (S.touches (inner_of reader.old)) (S.touches (inner_of reader.new)) }
     {
         if self.pieces.len() == 1 {
             let most_lines = if self.is_alone {
@@ -139,7 +141,7 @@ impl PieceReader {
             };
             return self.lines.next_batch(reader, shortcut, trace, most_lines);
         }
-        self.lines.fill(reader)?;
+        self.lines.fill(reader, shortcut)?;
         if add_ahead(rt, &mut self.lines, trace, self.pieces.as_mut_slice())? {
             return Ok(Batch::More);
         }
@@ -148,7 +150,7 @@ impl PieceReader {
         } else {
             BATCH_LINES
         };
-        self.lines.next_batch(reader, &ByText, trace, most_lines)
+        self.lines.next_batch(reader, shortcut, trace, most_lines)
     }
 
     /// How the text ended, once a batch was the last.

@@ -15,7 +15,7 @@ use crate::rules::{FactKind, Rule, Suppressions, WordSpan};
 use er_device::Device;
 use er_event::Word;
 use er_lines::{
-    LineReader, ReadFault, TextKind, Words, fault_at, is_ascii, is_site_name, number,
+    ByText, LineReader, ReadFault, TextKind, Words, fault_at, is_ascii, is_site_name, number,
     says_something, site_text, split_words,
 };
 use std::alloc::{AllocError, Global};
@@ -244,7 +244,7 @@ fn next_rule<R: Read>(
     ensures taken { taken_of reader.new + taken_by lines.old ≤ taken_of reader.old + taken_by lines.new }
     ensures most { taken_by lines.new ≤ lines.new.limit + bytes_past_limit }
 {
-    let Some(front) = lines.find(reader)? else {
+    let Some(front) = lines.find(reader, &ByText)? else {
         return Ok(false);
     };
     let line = lines.number();

@@ -27,7 +27,8 @@ use Rattle.er_text.specs.declared.endings.Ending.{Ending}
 use Rattle.er_text.specs.declared.endings.Lost.{Lost}
 use Rattle.er_trace.specs.Names.{NameTable}
 use Rattle.er_trace.specs.Trace.{Recording}
-use Rattle.er_unordered.specs.Reports.{unordered_report}
+use Rattle.er_lines.specs.declared.ready.Touch.{Touch}
+use Rattle.er_unordered.specs.Reports.{touched_by, unordered_report}
 use Rattle.er_run.proofs.PassLemmas.{part-unstopped}
 
 -- the lines that tell of no refused step
@@ -117,13 +118,16 @@ module _ (part : Option PartView) (of_pages : ℕ) (lost : Option ℕ) where
         ∙ ap (λ (l : Option ℕ). report_with part l r rules explain says.stop) same;
   }
 
-  order-given : (told : Option ℕ) (r : Recording) (rules : List Target) (explain : Bool) (o p : Option Report) → lost ≡ told → HasCounted part of_pages r.steps → IsGivenIf (is_later part) of_pages lost o p
-      → IfSome o (λ one. summary one ≡ unordered_report r rules explain) → IfSome p (λ one. summary one ≡ unordered_with part told r rules explain)
-  order-given told r rules explain None None same counted is says = tt
-  order-given told r rules explain None (Some new) same counted is says = absurd is
-  order-given told r rules explain (Some old) None same counted is says = tt
-  order-given told r rules explain (Some old) (Some new) same counted is says =
-      says-given part of_pages lost old new is r.steps (unordered_report r rules explain) counted says (λ some. refl) ∙ ap (λ (l : Option ℕ). unordered_with part l r rules explain) same
+  order-given : (told : Option ℕ) (r : Recording) (touches : Option (List Touch)) (rules : List Target) (explain : Bool) (o p : Option Report) → lost ≡ told → HasCounted part of_pages r.steps → IsGivenIf (is_later part) of_pages lost o p
+      → IfSome o (λ one. IfSome touches (λ all. summary one ≡ unordered_report r (touched_by all r.lines) rules explain))
+      → IfSome p (λ one. IfSome touches (λ all. summary one ≡ unordered_with part told r (touched_by all r.lines) rules explain))
+  order-given told r touches rules explain None None same counted is says = tt
+  order-given told r touches rules explain None (Some new) same counted is says = absurd is
+  order-given told r touches rules explain (Some old) None same counted is says = tt
+  order-given told r None rules explain (Some old) (Some new) same counted is says = tt
+  order-given told r (Some all) rules explain (Some old) (Some new) same counted is says =
+      says-given part of_pages lost old new is r.steps (unordered_report r (touched_by all r.lines) rules explain) counted says (λ some. refl)
+      ∙ ap (λ (l : Option ℕ). unordered_with part l r (touched_by all r.lines) rules explain) same
 
   pub unstopped : (r : Recording) (rules : List Target) (explain : Bool) (o p : Option Report) → IsGivenIf (is_later part) of_pages lost o p → IfSome o (λ one. IsReportOfRun None true None r rules explain one)
       → IfSome p (λ one. one.stop ≡ None)
@@ -152,14 +156,14 @@ module _ (part : Option PartView) (of_pages : ℕ) (told : Option (List ℕ)) (l
 
   module _ (lockset : IsGivenIf (is_later part) of_pages lost reports.lockset left.lockset) (unordered : IsGivenIf (is_later part) of_pages lost reports.unordered left.unordered) where
     reports-by : (o : Option (List ℕ)) → IfSome o (λ text. IsPartOf part text limit r) → IfSome o (λ text. lost ≡ lost_told text)
-        → IfSome o (λ text. AreReportsOfText part asked.analysis text limit asked.rules asked.explain trace.names left)
+        → IfSome o (λ text. AreReportsOfText part asked.analysis text asked.touches limit asked.rules asked.explain trace.names left)
     reports-by None read is = tt
     reports-by (Some text) read is = record {
       recording = r;
       trace = read;
       names = names;
       lockset = run-given part of_pages lost (is_unstopped part asked.analysis) (lost_told text) r asked.rules asked.explain reports.lockset left.lockset is (part-unstopped part asked.analysis) counted lockset built.lockset.says;
-      unordered = order-given part of_pages lost (lost_told text) r asked.rules asked.explain reports.unordered left.unordered is counted unordered built.unordered.says;
+      unordered = order-given part of_pages lost (lost_told text) r asked.touches asked.rules asked.explain reports.unordered left.unordered is counted unordered built.unordered.says;
     }
 
     order-by : (o : Option (List ℕ)) → IfSome o (λ text. IsPartOf part text limit r) → IfSome o (λ text. IsOrderOfText part asked.analysis text limit has)

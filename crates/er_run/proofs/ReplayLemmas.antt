@@ -6,6 +6,7 @@ use Rattle.er_batch.specs.declared.verdict.Verdict.TheVariants as verdict
 use Rattle.er_event.specs.declared.steps.Step.{Step}
 use Rattle.er_journal.specs.declared.answers.Stopped.{Stopped}
 use Rattle.er_batch.specs.Runs.{IsPartOf}
+use Rattle.er_lines.specs.declared.ready.Touch.{Touch}
 use Rattle.er_parts.specs.Given.{given_by}
 use Rattle.er_parts.specs.Parts.{PartView}
 use Rattle.er_print.specs.Printed.{report_text}
@@ -77,9 +78,9 @@ module _ (part : Option PartView) (limit : ℕ) (rules : List Target) (explain :
     written = written-of (λ (bytes : List ℕ). take written.0 bytes) report is written.1;
   }
 
-module _ (part : Option PartView) (told : Option (List ℕ)) (limit : ℕ) (rules : List Target) (explain : Bool) (old new : Option (List ℕ)) (names : NameTable) (reports : Reports) (one : is_some reports.lockset ≡ true)
-    (are : IfSome told (λ text. AreReportsOfText part Lockset text limit rules explain names reports)) where
-  whole-by : (o : Option (List ℕ)) (verdict : Verdict) → is_some reports.unordered ≡ false → IfSome o (λ text. AreReportsOfText part Lockset text limit rules explain names reports)
+module _ {touches : Option (List Touch)} (part : Option PartView) (told : Option (List ℕ)) (limit : ℕ) (rules : List Target) (explain : Bool) (old new : Option (List ℕ)) (names : NameTable) (reports : Reports) (one : is_some reports.lockset ≡ true)
+    (are : IfSome told (λ text. AreReportsOfText part Lockset text touches limit rules explain names reports)) where
+  whole-by : (o : Option (List ℕ)) (verdict : Verdict) → is_some reports.unordered ≡ false → IfSome o (λ text. AreReportsOfText part Lockset text touches limit rules explain names reports)
       → verdict ≡ is_verdict_of reports → IfSome reports.lockset (λ report. Appends old new (report_text names (summary report))) → IfSome o (λ text. IsReplayed part text limit rules explain old new verdict)
   whole-by None verdict none is says written = tt
   whole-by (Some text) verdict none is says written =
@@ -90,7 +91,7 @@ module _ (part : Option PartView) (told : Option (List ℕ)) (limit : ℕ) (rule
   whole-of (Ok verdict) none says written = whole-by told verdict none are says written
   whole-of (Err why) none says written = tt
 
-  begun-by : (o : Option (List ℕ)) → IfSome o (λ text. AreReportsOfText part Lockset text limit rules explain names reports)
+  begun-by : (o : Option (List ℕ)) → IfSome o (λ text. AreReportsOfText part Lockset text touches limit rules explain names reports)
       → IfSome reports.lockset (λ report. (n : ℕ) × Appends old new (take n (report_text names (summary report)))) → IfSome o (λ text. IsBegun part text limit rules explain old new)
   begun-by None is written = tt
   begun-by (Some text) is written = begun part limit rules explain old new names text is.recording is.trace is.names reports.lockset one is.lockset written

@@ -5,6 +5,8 @@ use Rattle.er_batch.specs.declared.verdict.Verdict.{Verdict}
 use Rattle.er_batch.specs.declared.verdict.Verdict.TheVariants as verdict
 use Rattle.er_event.specs.declared.refusals.NoRoom.{NoRoom}
 use Rattle.er_journal.specs.declared.answers.Stopped.{Stopped}
+use Rattle.er_lines.specs.declared.ready.Touch.{Touch}
+use Rattle.er_order.specs.ByBytes.{Touched}
 use Rattle.er_parts.specs.Given.{given_by}
 use Rattle.er_parts.specs.Parts.{PartView}
 use Rattle.er_report.specs.Report.{Summary, report_of, told as summary}
@@ -16,15 +18,15 @@ use Rattle.er_rules.specs.Rules.{Target}
 use Rattle.er_text.specs.Ending.{lost_told}
 use Rattle.er_trace.specs.Names.{NameTable}
 use Rattle.er_trace.specs.Trace.{Recording}
-use Rattle.er_unordered.specs.Reports.{has_order, unordered_report}
+use Rattle.er_unordered.specs.Reports.{has_order, touched_by, unordered_report}
 
 -- what a part gives of the report of a run over these steps, with so many lost events; without a part it gives all
 abbrev pub report_with : Option PartView → Option ℕ → Recording → List Target → Bool → Option Stopped → Summary
 report_with part lost recording rules explain stop = record (given_by part recording.steps (report_of recording rules explain stop)) { lost = lost }
 
--- that of their unordered accesses
-abbrev pub unordered_with : Option PartView → Option ℕ → Recording → List Target → Bool → Summary
-unordered_with part lost recording rules explain = record (given_by part recording.steps (unordered_report recording rules explain)) { lost = lost }
+-- that of their unordered accesses, where positions touch these bytes
+abbrev pub unordered_with : Option PartView → Option ℕ → Recording → Touched → List Target → Bool → Summary
+unordered_with part lost recording touched rules explain = record (given_by part recording.steps (unordered_report recording touched rules explain)) { lost = lost }
 
 -- a stop of the lockset rule is a fault: of a part, or beside another report
 abbrev pub is_unstopped : Option PartView → Analysis → Bool
@@ -39,17 +41,17 @@ pub record IsReportOfRun (part : Option PartView) (unstopped : Bool) (lost : Opt
   pub says : summary report ≡ report_with part lost recording rules explain stop
 
 -- the reports of the text's trace, or of a part of it, by this analysis under these rules, with reasons or without, with so many lost events, and the
--- names of that trace
-pub record AreReportsBy (part : Option PartView) (lost : Option ℕ) (analysis : Analysis) (text : List ℕ) (limit : ℕ) (rules : List Target) (explain : Bool) (used : NameTable) (reports : Reports) : Type 0 where
+-- names of that trace. By happens-before its accesses touch what the touches say of their lines, if these are known
+pub record AreReportsBy (part : Option PartView) (lost : Option ℕ) (analysis : Analysis) (text : List ℕ) (touches : Option (List Touch)) (limit : ℕ) (rules : List Target) (explain : Bool) (used : NameTable) (reports : Reports) : Type 0 where
   pub recording : Recording
   pub trace : IsPartOf part text limit recording
   pub names : used ≡ recording.names
   pub lockset : IfSome reports.lockset (λ report. IsReportOfRun part (is_unstopped part analysis) lost recording rules explain report)
-  pub unordered : IfSome reports.unordered (λ report. summary report ≡ unordered_with part lost recording rules explain)
+  pub unordered : IfSome reports.unordered (λ report. IfSome touches (λ all. summary report ≡ unordered_with part lost recording (touched_by all recording.lines) rules explain))
 
 -- with those that the text says are lost
-abbrev pub AreReportsOfText : Option PartView → Analysis → List ℕ → ℕ → List Target → Bool → NameTable → Reports → Type 0
-AreReportsOfText part analysis text limit rules explain used reports = AreReportsBy part (lost_told text) analysis text limit rules explain used reports
+abbrev pub AreReportsOfText : Option PartView → Analysis → List ℕ → Option (List Touch) → ℕ → List Target → Bool → NameTable → Reports → Type 0
+AreReportsOfText part analysis text touches limit rules explain used reports = AreReportsBy part (lost_told text) analysis text touches limit rules explain used reports
 
 -- happens-before is asked for, and some step of the text's trace, or of the part, starts or joins a thread, signals or awaits
 pub record IsOrderOfText (part : Option PartView) (analysis : Analysis) (text : List ℕ) (limit : ℕ) (has : Bool) : Type 0 where

@@ -9,6 +9,7 @@ ghost use Rattle.er_trace.specs.Trace.{no_steps};
 use er_batch::{Analyst, Answered};
 use er_damage::{Damage, Inspector};
 use er_event::Step;
+use er_lines::Touch;
 use er_text::Ending;
 use er_trace::Trace;
 use std::alloc::Global;
@@ -70,7 +71,12 @@ impl Analyst for Inspection {
         beside()
     }
 
-    fn answer<R: Threads + Wait + Sync>(&mut self, _rt: &R, trace: &Trace) -> Answered {
+    fn answer<R: Threads + Wait + Sync>(
+        &mut self,
+        _rt: &R,
+        trace: &Trace,
+        _touches: &[Touch],
+    ) -> Answered {
         let steps = trace.steps();
         let lines = trace.lines();
         match &mut self.inspector {

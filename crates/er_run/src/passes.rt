@@ -50,7 +50,7 @@ pub(crate) fn report_by_crew<R: Threads + Wait + Sync, D: Read, S: Shortcut<D>, 
     watcher: &mut V,
 ) -> Result<ReplayedTrace, RunFault>
     requires reader { has_failed reader.old ≡ false }
-    ensures replay { IsReplayOf (D.remaining (inner_of reader.old)) options.now (targets_of suppressions.now) Lockset (taken_of reader.old) (taken_of reader.new) (has_failed reader.new) result }
+    ensures replay { IsReplayOf (D.remaining (inner_of reader.old)) (S.touches (inner_of reader.old)) options.now (targets_of suppressions.now) Lockset (taken_of reader.old) (taken_of reader.new) (has_failed reader.new) result }
     ensures whole { IfOk result (λ found. IfSome found.reports.lockset (λ report. report.stop ≡ None)) }
 {
     let answering = (options.workers / 4).max(1);
@@ -122,7 +122,7 @@ pub(crate) fn reports_by_one<R: Threads + Wait + Sync, D: Read, S: Shortcut<D>, 
     watcher: &mut V,
 ) -> Result<ReplayedTrace, RunFault>
     requires reader { has_failed reader.old ≡ false }
-    ensures replay { IsReplayOf (D.remaining (inner_of reader.old)) options.now (targets_of suppressions.now) analysis (taken_of reader.old) (taken_of reader.new) (has_failed reader.new) result }
+    ensures replay { IsReplayOf (D.remaining (inner_of reader.old)) (S.touches (inner_of reader.old)) options.now (targets_of suppressions.now) analysis (taken_of reader.old) (taken_of reader.new) (has_failed reader.new) result }
     ensures alone { is_unstopped options.now.part analysis ≡ false → IfErr result IsOfReading }
     ensures one { asks_order analysis ≡ false → IfErr result IsOfOneWorker }
 {

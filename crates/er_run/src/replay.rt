@@ -107,7 +107,8 @@ fn write_found<W: Write>(
 /// beside a report by happens-before, the report of the lockset rule is whole: a step that finds no room is a fault.
 ///
 /// By the lockset rule alone a quarter of several workers, but at least one, answer a batch while the others read the next one; by another
-/// analysis all of them read, and one answers. If one thread reads, the shortcut may have lines ready. The watcher is told behind each batch how
+/// analysis all of them read, and one answers. If one thread reads, the shortcut may have lines ready. Happens-before goes by the bytes that the
+/// shortcut says accesses touch. The watcher is told behind each batch how
 /// far the replay has come, and called once more at the end. What it does changes nothing of what is returned.
 ///
 /// # Errors
@@ -130,7 +131,7 @@ where
     S: Shortcut<D>,
     V: Watch,
     requires reader { has_failed reader.old ≡ false }
-    ensures reports { IfOk result (λ found. IfSome (D.remaining (inner_of reader.old)) (λ text. AreReportsOfText options.now.part analysis text options.now.byte_limit (targets_of suppressions.now) options.now.explain found.trace.names found.reports)) }
+    ensures reports { IfOk result (λ found. IfSome (D.remaining (inner_of reader.old)) (λ text. AreReportsOfText options.now.part analysis text (S.touches (inner_of reader.old)) options.now.byte_limit (targets_of suppressions.now) options.now.explain found.trace.names found.reports)) }
     ensures asked { IfOk result (λ found. (is_some found.reports.lockset ≡ asks_locks analysis) × (is_some found.reports.unordered ≡ asks_order analysis)) }
     ensures named { IfOk result (λ found. HaveNames found.trace.names found.reports) }
     ensures ending { IfOk result (λ found. IfSome (D.remaining (inner_of reader.old)) (λ text. IsEndingOf text found.ending)) }

@@ -16,6 +16,7 @@ ghost use Rattle.er_text.specs.Ending.{KnowsEnd, IsEndingOf, comment_past};
 ghost use Rattle.er_text.specs.Inner.Endings.{PassesTail, BatchesTail};
 ghost use Rattle.er_lines.specs.Lending.{taken_by, lines_from, lines_left};
 ghost use Rattle.er_lines.specs.Reading.{Continues, Reads, Turns};
+ghost use Rattle.er_lines.specs.Touches.{StaysKnown};
 ghost use Rattle.er_text.specs.Inner.FastPath.{ReadsUsual};
 ghost use Rattle.er_text.specs.Inner.Numbers.{AreRight};
 ghost use Rattle.er_text.specs.Inner.Parsing.{event_line};
@@ -212,7 +213,7 @@ impl TraceReader {
 
     /// Reads on until the window is full, the limit is reached, or the text ends. It passes over no line: those that were read ahead are
     /// the next ones.
-    pub fn fill<R: Read>(&mut self, reader: &mut Device<R>) -> Done
+    pub fn fill<R: Read, S: Shortcut<R>>(&mut self, reader: &mut Device<R>, shortcut: &S) -> Done
         requires { has_failed reader.old ≡ false }
 
         // What was read of a text stays read, and what is left of it is left.
@@ -226,8 +227,9 @@ impl TraceReader {
         ensures failed { HasFailedBy (has_failed reader.new) result }
         ensures taken { taken_of reader.new + taken_by self.old.place ≤ taken_of reader.old + taken_by self.new.place }
         ensures most { taken_by self.new.place ≤ self.new.place.limit + bytes_past_limit }
+        ensures touches { StaysKnown (S.touches (inner_of reader.old)) (S.touches (inner_of reader.new)) }
     {
-        self.lines.fill(reader)?;
+        self.lines.fill(reader, shortcut)?;
         Ok(())
     }
 
@@ -262,12 +264,13 @@ impl TraceReader {
         ensures failed { HasFailedBy (has_failed reader.new) result }
         ensures taken { taken_of reader.new + taken_by self.old.place ≤ taken_of reader.old + taken_by self.new.place }
         ensures most { taken_by self.new.place ≤ self.new.place.limit + bytes_past_limit }
+        ensures touches { StaysKnown (S.touches (inner_of reader.old)) (S.touches (inner_of reader.new)) }
     {
         let line = self.lines.number();
         let is_asked = self.header.stage == Stage::Events(Version::Three);
         let Some(ready) = self.lines.take(reader, shortcut, is_asked) else {
             numbers.forget();
-            let Some(front) = self.lines.find(reader)? else {
+            let Some(front) = self.lines.find(reader, shortcut)? else {
                 return Ok(false);
             };
             let bytes = self.lines.bytes(front);
@@ -331,6 +334,7 @@ impl TraceReader {
         ensures failed { HasFailedBy (has_failed reader.new) result }
         ensures taken { taken_of reader.new + taken_by self.old.place ≤ taken_of reader.old + taken_by self.new.place }
         ensures most { taken_by self.new.place ≤ self.new.place.limit + bytes_past_limit }
+        ensures touches { StaysKnown (S.touches (inner_of reader.old)) (S.touches (inner_of reader.new)) }
     {
         // What is known of the place, also if no line is asked for.
         let _line = self.lines.number();
@@ -384,6 +388,7 @@ impl TraceReader {
         ensures failed { HasFailedBy (has_failed reader.new) result }
         ensures taken { taken_of reader.new + taken_by self.old.place ≤ taken_of reader.old + taken_by self.new.place }
         ensures most { taken_by self.new.place ≤ self.new.place.limit + bytes_past_limit }
+        ensures touches { StaysKnown (S.touches (inner_of reader.old)) (S.touches (inner_of reader.new)) }
     {
         let mut numbers = self.take_numbers();
         let batch = self.read_batch(reader, shortcut, trace, &mut numbers, most_lines);

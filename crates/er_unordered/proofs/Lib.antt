@@ -1,7 +1,10 @@
 pub mod AnswerLemmas
+pub mod BytesLemmas
 pub mod HoldingLemmas
 pub mod PassLemmas
 pub mod ReasonLemmas
 pub mod StandingLemmas
 pub mod StoppingLemmas
+pub mod TextLemmas
+pub mod TouchLemmas
 pub mod Later

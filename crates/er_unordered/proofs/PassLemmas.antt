@@ -17,8 +17,7 @@ use Rattle.er_report.proofs.GrowthLemmas.{goes-on-by}
 use Rattle.er_explain.proofs.RaceLemmas.{race-is}
 use Rattle.er_explain.specs.Racing.{is_race, places_below}
 use Rattle.er_model.specs.Holdings.{holdings_end}
-use Rattle.er_order.specs.Races.{order_answer}
-use Rattle.er_order.specs.Reasons.{unordered_with}
+use Rattle.er_order.specs.ByBytes.{Touched, answer_by_bytes, unordered_by_bytes}
 use Rattle.er_report.specs.Builder.{ArePlainBy, Built, IsBuiltBy, IsStepBy, GoesOn, is_plain, report_below_by}
 use Rattle.er_batch.proofs.BatchLemmas.{all-known, all-named}
 use Rattle.er_text.specs.Batches.{joined}
@@ -26,18 +25,19 @@ use Rattle.er_text.specs.Named.{KeepsNames}
 use Rattle.er_trace.specs.Names.{NameTable}
 use Rattle.er_trace.specs.Trace.{Recording, IsNamed, HasSiteName}
 use Rattle.er_batch.proofs.StepLemmas.{past-next}
-use Rattle.er_unordered.proofs.AnswerLemmas.{locks-here, long, order-front, order-here, with-here}
-use Rattle.er_unordered.proofs.ReasonLemmas.{races-told, tag-there, told-next, told-stays}
+use Rattle.er_unordered.proofs.AnswerLemmas.{bytes-here, locks-here, long, with-here}
+use Rattle.er_unordered.proofs.BytesLemmas.{answer-stays, races-told}
+use Rattle.er_unordered.proofs.ReasonLemmas.{tag-there, told-next, told-stays}
 use Rattle.er_unordered.proofs.StandingLemmas.{stands-tags}
 use Rattle.er_unordered.specs.Inner.Passes.{HasAnswered, HasComeTo, recorded}
 use Rattle.er_unordered.specs.Inner.Reasons.{tag_at, told_at}
 use Rattle.er_unordered.specs.Standing.{Ordered, Stands}
 
 -- a batch of steps behind those that are past
-module _ {A : Type 0} (tag_of : ℕ → Option Step → A) (told_of : Option A → List (List Because)) (past : List Step) (lines sites : List ℕ) (names : NameTable) (trace : Recording) (kept : KeepsNames names trace.names)
+module _ {A : Type 0} (touched : Touched) (tag_of : ℕ → Option Step → A) (told_of : Option A → List (List Because)) (past : List Step) (lines sites : List ℕ) (names : NameTable) (trace : Recording) (kept : KeepsNames names trace.names)
     (known : All (IsNamed trace.names) trace.steps) (even : length trace.lines ≡ length trace.steps)
     (seen : All (HasSiteName trace.names) trace.sites) (level : length trace.sites ≡ length trace.steps)
-    (old : Ordered A) (oldest : Built) (before : List (List Because)) (run : HasAnswered tag_of told_of old oldest before (recorded past lines sites names)) where
+    (old : Ordered A) (oldest : Built) (before : List (List Because)) (run : HasAnswered touched tag_of told_of old oldest before (recorded past lines sites names)) where
   abbrev after : Recording
   after = joined past lines sites trace
 
@@ -57,22 +57,22 @@ module _ {A : Type 0} (tag_of : ℕ → Option Step → A) (told_of : Option A �
   }
 
   -- what is past was answered, and its answers stay
-  pub start : HasComeTo tag_of told_of old oldest before after (length past)
+  pub start : HasComeTo touched tag_of told_of old oldest before after (length past)
   start =
       record {
-        stands = subst (Stands (tag_at tag_of after) old) (sym (take-append_seam past trace.steps))
-            (stands-tags (tag_at tag_of (recorded past lines sites names)) (tag_at tag_of after) old past (λ k below. tag-there (recorded past lines sites names) after on tag_of told_of k below)
-            (subst (Stands (tag_at tag_of (recorded past lines sites names)) old) (take-length past) run.come.stands));
-        built = goes-on-by (order_answer past) (order_answer (past ++ trace.steps)) oldest (recorded past lines sites names) after (length past) on (omega arith)
-            (λ k below. sym (order-front past trace.steps k below)) run.come.built;
-        reasons = run.come.reasons ∙ told-stays (recorded past lines sites names) after on tag_of told_of oldest.races _ run.come.built.races;
+        stands = subst (Stands (tag_at tag_of after) touched old) (sym (take-append_seam past trace.steps))
+            (stands-tags (tag_at tag_of (recorded past lines sites names)) (tag_at tag_of after) touched old past (λ k below. tag-there touched (recorded past lines sites names) after on tag_of told_of k below)
+            (subst (Stands (tag_at tag_of (recorded past lines sites names)) touched old) (take-length past) run.come.stands));
+        built = goes-on-by (answer_by_bytes touched past) (answer_by_bytes touched (past ++ trace.steps)) oldest (recorded past lines sites names) after (length past) on (omega arith)
+            (λ k below. sym (answer-stays touched past trace.steps k below)) run.come.built;
+        reasons = run.come.reasons ∙ told-stays touched (recorded past lines sites names) after on tag_of told_of oldest.races _ run.come.built.races;
       }
 
   -- and at the end of the batch all is answered
-  pub whole : (machine : Ordered A) (builder : Built) (told : List (List Because)) → HasComeTo tag_of told_of machine builder told after (length past + length trace.steps) → HasAnswered tag_of told_of machine builder told after
+  pub whole : (machine : Ordered A) (builder : Built) (told : List (List Because)) → HasComeTo touched tag_of told_of machine builder told after (length past + length trace.steps) → HasAnswered touched tag_of told_of machine builder told after
   whole machine builder told come =
       record {
-        come = subst (λ (n : ℕ). HasComeTo tag_of told_of machine builder told after n) (sym (length-append past trace.steps)) come;
+        come = subst (λ (n : ℕ). HasComeTo touched tag_of told_of machine builder told after n) (sym (length-append past trace.steps)) come;
         named = All-append (IsNamed trace.names) past trace.steps (all-named names trace.names kept past run.named) known;
         long = (let a : length lines ≡ length past = run.long in omega (arith, length-append lines trace.lines, length-append past trace.steps, even));
         seen = All-append (HasSiteName trace.names) sites trace.sites (all-known names trace.names kept sites run.seen) seen;
@@ -80,29 +80,29 @@ module _ {A : Type 0} (tag_of : ℕ → Option Step → A) (told_of : Option A �
       }
 
 -- one step more
-module _ {A : Type 0} (tag_of : ℕ → Option Step → A) (told_of : Option A → List (List Because)) (machine next : Ordered A) (builder : Built) (told : List (List Because)) (r : Recording) (n : ℕ) (step : Step)
-    (here : slice_get r.steps n ≡ Some step) (come : HasComeTo tag_of told_of machine builder told r n)
+module _ {A : Type 0} (touched : Touched) (tag_of : ℕ → Option Step → A) (told_of : Option A → List (List Because)) (machine next : Ordered A) (builder : Built) (told : List (List Because)) (r : Recording) (n : ℕ) (step : Step)
+    (here : slice_get r.steps n ≡ Some step) (come : HasComeTo touched tag_of told_of machine builder told r n)
     (given : Result Reply Refusal) (rival : Option A) (number : ℕ) (line : number ≡ slice_index r.lines n)
-    (answer : (past : List Step) (tags : ℕ → A) → Stands tags machine past → given ≡ order_answer (past ++ step ∷ []) (length past))
-    (named : (past : List Step) (tags : ℕ → A) → Stands tags machine past → given ≡ Ok Race → rival ≡ option_map tags (unordered_with (past ++ step ∷ []) (length past)))
-    (goes_on : (past : List Step) (tags : ℕ → A) → Stands tags machine past → tags (length past) ≡ tag_of number (Some step) → Stands tags next (past ++ step ∷ [])) where
-  known : given ≡ order_answer r.steps n
-  known = answer (take n r.steps) (tag_at tag_of r) come.stands ∙ order-here r.steps n step here
+    (answer : (past : List Step) (tags : ℕ → A) → Stands tags touched machine past → length past ≡ n → given ≡ answer_by_bytes touched (past ++ step ∷ []) (length past))
+    (named : (past : List Step) (tags : ℕ → A) → Stands tags touched machine past → length past ≡ n → given ≡ Ok Race → rival ≡ option_map tags (unordered_by_bytes touched (past ++ step ∷ []) (length past)))
+    (goes_on : (past : List Step) (tags : ℕ → A) → Stands tags touched machine past → length past ≡ n → tags (length past) ≡ tag_of number (Some step) → Stands tags touched next (past ++ step ∷ [])) where
+  known : given ≡ answer_by_bytes touched r.steps n
+  known = answer (take n r.steps) (tag_at tag_of r) come.stands (long r.steps n step here) ∙ bytes-here r.steps n step here touched
 
   tag_here : tag_at tag_of r (length (take n r.steps)) ≡ tag_of number (Some step)
   unfolding tag_at
   tag_here = ap (λ (k : ℕ). tag_of (slice_index r.lines k) (slice_get r.steps k)) (long r.steps n step here) ∙ ap₂ tag_of (sym line) here
 
-  stands : Stands (tag_at tag_of r) next (take (n + 1) r.steps)
-  stands = subst (Stands (tag_at tag_of r) next) (past-next r.steps n step here) (goes_on (take n r.steps) (tag_at tag_of r) come.stands tag_here)
+  stands : Stands (tag_at tag_of r) touched next (take (n + 1) r.steps)
+  stands = subst (Stands (tag_at tag_of r) touched next) (past-next r.steps n step here) (goes_on (take n r.steps) (tag_at tag_of r) come.stands (long r.steps n step here) tag_here)
 
-  pub plain-here : is_plain given ≡ true → ArePlainBy (order_answer r.steps) n 1
+  pub plain-here : is_plain given ≡ true → ArePlainBy (answer_by_bytes touched r.steps) n 1
   plain-here plain i low high =
       let same : n ≡ i = omega (arith, low, high) in
-      subst (λ (k : ℕ). is_plain (order_answer r.steps k) ≡ true) same (ap is_plain (sym known) ∙ plain)
+      subst (λ (k : ℕ). is_plain (answer_by_bytes touched r.steps k) ≡ true) same (ap is_plain (sym known) ∙ plain)
 
-  pub step-here : (names : NameTable) (site : ℕ) (locks : List ℕ) → site ≡ slice_index r.sites n → names ≡ r.names → ((past : List Step) (tags : ℕ → A) → Stands tags next past → locks ≡ (holdings_end past step.thread).held)
-      → IsStepBy (order_answer r.steps) r n names number site step given locks
+  pub step-here : (names : NameTable) (site : ℕ) (locks : List ℕ) → site ≡ slice_index r.sites n → names ≡ r.names → ((past : List Step) (tags : ℕ → A) → Stands tags touched next past → locks ≡ (holdings_end past step.thread).held)
+      → IsStepBy (answer_by_bytes touched r.steps) r n names number site step given locks
   step-here names site locks at listed locked =
       record {
         here = here;
@@ -110,39 +110,39 @@ module _ {A : Type 0} (tag_of : ℕ → Option Step → A) (told_of : Option A �
         site = at;
         named = listed;
         answered = known;
-        locked = λ race. locked (take n r.steps ++ step ∷ []) (tag_at tag_of r) (goes_on (take n r.steps) (tag_at tag_of r) come.stands tag_here)
-            ∙ locks-here r.steps n step here (λ none. races-told r.steps n (sym known ∙ race-is given race) (ap may_race_at here ∙ none)) step.thread;
+        locked = λ race. locked (take n r.steps ++ step ∷ []) (tag_at tag_of r) (goes_on (take n r.steps) (tag_at tag_of r) come.stands (long r.steps n step here) tag_here)
+            ∙ locks-here r.steps n step here (λ none. races-told touched r.steps n (sym known ∙ race-is given race) (ap may_race_at here ∙ none)) step.thread;
       }
 
   -- the access that it names is that of the definitions
-  rival-here : given ≡ Ok Race → rival ≡ option_map (tag_at tag_of r) (unordered_with r.steps n)
-  rival-here race = named (take n r.steps) (tag_at tag_of r) come.stands race ∙ ap (option_map (tag_at tag_of r)) (with-here r.steps n step here)
+  rival-here : given ≡ Ok Race → rival ≡ option_map (tag_at tag_of r) (unordered_by_bytes touched r.steps n)
+  rival-here race = named (take n r.steps) (tag_at tag_of r) come.stands (long r.steps n step here) race ∙ ap (option_map (tag_at tag_of r)) (with-here r.steps n step here touched)
 
   abbrev printed : Bool
-  printed = is_printed_by (order_answer r.steps) r builder.rules n
+  printed = is_printed_by (answer_by_bytes touched r.steps) r builder.rules n
 
-  told_step : cond printed (told_of rival) [] ≡ cond printed (told_of (option_map (tag_at tag_of r) (unordered_with r.steps n))) []
+  told_step : cond printed (told_of rival) [] ≡ cond printed (told_of (option_map (tag_at tag_of r) (unordered_by_bytes touched r.steps n))) []
   told_step = by printed refl
     where
-      by : (b : Bool) → printed ≡ b → cond b (told_of rival) [] ≡ cond b (told_of (option_map (tag_at tag_of r) (unordered_with r.steps n))) []
-      by true is = ap told_of (rival-here (known ∙ race-is (order_answer r.steps n) (and_parts (is_race (order_answer r.steps n)) (is_none (matching_rule_by (order_answer r.steps) r builder.rules n)) is).0))
+      by : (b : Bool) → printed ≡ b → cond b (told_of rival) [] ≡ cond b (told_of (option_map (tag_at tag_of r) (unordered_by_bytes touched r.steps n))) []
+      by true is = ap told_of (rival-here (known ∙ race-is (answer_by_bytes touched r.steps n) (and_parts (is_race (answer_by_bytes touched r.steps n)) (is_none (matching_rule_by (answer_by_bytes touched r.steps) r builder.rules n)) is).0))
       by false is = refl
 
-  pub come-to : (new : Built) (now : List (List Because)) → IsBuiltBy (order_answer r.steps) new r (n + 1) → new.rules ≡ builder.rules → now ≡ told ++ cond printed (told_of rival) []
-      → HasComeTo tag_of told_of next new now r (n + 1)
+  pub come-to : (new : Built) (now : List (List Because)) → IsBuiltBy (answer_by_bytes touched r.steps) new r (n + 1) → new.rules ≡ builder.rules → now ≡ told ++ cond printed (told_of rival) []
+      → HasComeTo touched tag_of told_of next new now r (n + 1)
   come-to new now built rules is = record {
     stands = stands;
     built = built;
-    reasons = is ∙ ap₂ (λ a b. a ++ b) (come.reasons ∙ ap (told_at tag_of told_of r) come.built.races) told_step
-        ∙ sym (told-next (λ k. told_of (option_map (tag_at tag_of r) (unordered_with r.steps k))) (is_printed_by (order_answer r.steps) r builder.rules) n)
-        ∙ sym (ap (told_at tag_of told_of r) (built.races ∙ ap (λ (l : List Target). places_below (is_printed_by (order_answer r.steps) r l) (n + 1)) rules));
+    reasons = is ∙ ap₂ (λ a b. a ++ b) (come.reasons ∙ ap (told_at tag_of told_of touched r) come.built.races) told_step
+        ∙ sym (told-next (λ k. told_of (option_map (tag_at tag_of r) (unordered_by_bytes touched r.steps k))) (is_printed_by (answer_by_bytes touched r.steps) r builder.rules) n)
+        ∙ sym (ap (told_at tag_of told_of touched r) (built.races ∙ ap (λ (l : List Target). places_below (is_printed_by (answer_by_bytes touched r.steps) r l) (n + 1)) rules));
   }
 
   -- of what is plain nothing is told
   pub told-plain : is_plain given ≡ true → told ≡ told ++ cond printed (told_of rival) []
   told-plain plain = sym (append-nil told) ∙ ap (λ more. told ++ more) (by given known plain)
     where
-      by : (g : Result Reply Refusal) → g ≡ order_answer r.steps n → is_plain g ≡ true → [] ≡ cond printed (told_of rival) []
+      by : (g : Result Reply Refusal) → g ≡ answer_by_bytes touched r.steps n → is_plain g ≡ true → [] ≡ cond printed (told_of rival) []
       by (Ok Done) is plain = rw (← is) refl
       by (Ok Quiet) is plain = rw (← is) refl
       by (Ok Ignored) is plain = rw (← is) refl

@@ -1,5 +1,5 @@
 -- What is told of races is their reasons, and stays if more steps and names come behind them.
-use Rattle.std.proofs.Common.{◌≡◌, ◌<◌, ◌+◌, ◌∙◌, ℕ, zero, suc, add-one, Bool, true, false, cond, List, [], ◌∷◌, ◌++◌, append-nil, length, map, flat_map, slice_get, slice_index, Option, Some, None, refl, sym, ap, ap₂, arith, ⊎_elim}
+use Rattle.std.proofs.Common.{◌≡◌, ◌<◌, ◌+◌, ◌∙◌, ℕ, zero, suc, add-one, Bool, true, false, cond, List, [], ◌∷◌, ◌++◌, append-nil, length, map, flat_map, slice_get, slice_index, Option, Some, None, refl, sym, ap, ap₂, arith}
 use Rattle.std.specs.List.{All}
 use Rattle.std.specs.Option.{option_map, option_to_list}
 use Rattle.std.proofs.lemmas.Grind.{flat_map-append}
@@ -11,43 +11,17 @@ use Rattle.er_event.specs.declared.steps.Event.TheVariants.{Acquire, Release, Ac
 use Rattle.er_event.specs.declared.steps.Step.{Step}
 use Rattle.er_explain.specs.Racing.{places_below}
 use Rattle.er_model.specs.Explanations.{word_in, word_of}
-use Rattle.er_order.proofs.ReasonLemmas.{race-cases, with-use, with-earlier, with-word}
-use Rattle.er_order.proofs.ReasonsGrow.{unordered-stays}
-use Rattle.er_order.specs.Races.{order_answer}
-use Rattle.er_order.specs.Reasons.{unordered_with}
+use Rattle.er_order.specs.ByBytes.{Touched, unordered_by_bytes}
 use Rattle.er_report.proofs.NamedLemmas.{named_step}
 use Rattle.er_report.specs.Builder.{GoesOn}
 use Rattle.er_report.specs.Names.{HasReasonNames}
 use Rattle.er_report.specs.Reasons.{access_reason, step_reason}
-use Rattle.er_report.specs.Report.{RacesHaveLines, may_race, may_race_at}
 use Rattle.er_report.specs.declared.report.Because.{Because}
 use Rattle.er_report.specs.declared.report.Label.TheVariants as label
 use Rattle.er_trace.specs.Trace.{Recording, IsNamed}
+use Rattle.er_unordered.proofs.BytesLemmas.{is-earlier, unordered-stays}
 use Rattle.er_unordered.specs.Inner.Reasons.{line_reason, one_told, tag_at, told_at}
 use Rattle.er_unordered.specs.Reasons.{order_reasons, reasons_with}
-
--- only an access and a reuse are races
-has-word : (o : Option Step) (w : ℕ) → word_of o ≡ Some w → may_race_at o ≡ true
-has-word None w is = cc
-has-word (Some s) w is = by s.event is
-  where
-    by : (e : Event) → word_in e ≡ Some w → may_race e ≡ true
-    by (Access kind v site) is = refl
-    by (Acquire l m) is = cc
-    by (Release l m) is = cc
-    by (Reuse range) is = refl
-    by IgnoreOn is = cc
-    by IgnoreOff is = cc
-    by (Show v) is = cc
-    by (Level n) is = cc
-    by (Sync sync) is = cc
-
-pub races-told : (steps : List Step) → RacesHaveLines (order_answer steps) steps
-races-told steps k race none =
-    ⊎_elim
-    (λ told. let clash = sym (has-word (slice_get steps k) told.0 told.1) ∙ none in cc)
-    (λ reused. let clash = sym (ap may_race_at reused.3 ∙ ap may_race reused.4) ∙ none in cc)
-    (race-cases steps k race)
 
 -- an access is told on its line
 module _ (number : ℕ) where
@@ -67,23 +41,23 @@ module _ (number : ℕ) where
   step-told None w is = cc
   step-told (Some step) w is = event-told step.thread step.event w is
 
-module _ (r : Recording) (k : ℕ) where
+module _ (touched : Touched) (r : Recording) (k : ℕ) where
   told-by : (o : Option ℕ) → ((j : ℕ) → o ≡ Some j → (w : ℕ) × (word_of (slice_get r.steps j) ≡ Some w))
       → option_to_list (option_map (tag_at line_reason r) o) ≡ reasons_with r o
   unfolding tag_at
   told-by None known = refl
   told-by (Some j) known = let word = known j refl in sym (step-told (slice_index r.lines j) (slice_get r.steps j) word.0 word.1)
 
-  reason-told : option_to_list (option_map (tag_at line_reason r) (unordered_with r.steps k)) ≡ order_reasons r k
+  reason-told : option_to_list (option_map (tag_at line_reason r) (unordered_by_bytes touched r.steps k)) ≡ order_reasons touched r k
   unfolding order_reasons
   reason-told =
-      told-by (unordered_with r.steps k)
-      (λ j is. let found = with-use r.steps k j is in (found.0, with-word r.steps k j is found.0 found.1))
+      told-by (unordered_by_bytes touched r.steps k)
+      (λ j is. let found = is-earlier touched r.steps k j is in (found.0, found.1))
 
 -- what is told of the races is their reasons
-pub reasons-told : (r : Recording) (races : List ℕ) → told_at line_reason one_told r races ≡ map (order_reasons r) races
-reasons-told r [] = refl
-reasons-told r (k ∷ races) = ap₂ (λ (reasons : List Because) (rest : List (List Because)). reasons ∷ rest) (reason-told r k) (reasons-told r races)
+pub reasons-told : (touched : Touched) (r : Recording) (races : List ℕ) → told_at line_reason one_told touched r races ≡ map (order_reasons touched r) races
+reasons-told touched r [] = refl
+reasons-told touched r (k ∷ races) = ap₂ (λ (reasons : List Because) (rest : List (List Because)). reasons ∷ rest) (reason-told touched r k) (reasons-told touched r races)
 
 -- what is told of one position more
 pub told-next : (f : ℕ → List (List Because)) (test : ℕ → Bool) (k : ℕ) → flat_map f (places_below test (k + 1)) ≡ flat_map f (places_below test k) ++ cond (test k) (f k) []
@@ -111,7 +85,7 @@ places-told f g test (suc n) same =
     last false = refl
 
 -- more steps and names
-module _ (before after : Recording) (on : GoesOn before after) where
+module _ (touched : Touched) (before after : Recording) (on : GoesOn before after) where
   step-there : (k : ℕ) → k < length before.steps → slice_get after.steps k ≡ slice_get before.steps k
   step-there k below = ap (λ (steps : List Step). slice_get steps k) on.steps ∙ get_front before.steps on.more k below
 
@@ -120,8 +94,8 @@ module _ (before after : Recording) (on : GoesOn before after) where
       ap (λ (lines : List ℕ). slice_index lines k) on.lines
       ∙ get_or_append_left before.lines on.others 0 k (let even : length before.lines ≡ length before.steps = on.long in omega arith)
 
-  with-there : (k : ℕ) → k < length before.steps → unordered_with after.steps k ≡ unordered_with before.steps k
-  with-there k below = ap (λ (steps : List Step). unordered_with steps k) on.steps ∙ unordered-stays before.steps on.more k below
+  with-there : (k : ℕ) → k < length before.steps → unordered_by_bytes touched after.steps k ≡ unordered_by_bytes touched before.steps k
+  with-there k below = ap (λ (steps : List Step). unordered_by_bytes touched steps k) on.steps ∙ unordered-stays touched before.steps on.more k below
 
   module _ {A : Type 0} (tag_of : ℕ → Option Step → A) (told_of : Option A → List (List Because)) where
     pub tag-there : (k : ℕ) → k < length before.steps → tag_at tag_of after k ≡ tag_at tag_of before k
@@ -133,17 +107,17 @@ module _ (before after : Recording) (on : GoesOn before after) where
     found-there (Some j) below = ap Some (tag-there j (below j refl))
 
     told-there : (k : ℕ) → k < length before.steps
-        → told_of (option_map (tag_at tag_of before) (unordered_with before.steps k)) ≡ told_of (option_map (tag_at tag_of after) (unordered_with after.steps k))
+        → told_of (option_map (tag_at tag_of before) (unordered_by_bytes touched before.steps k)) ≡ told_of (option_map (tag_at tag_of after) (unordered_by_bytes touched after.steps k))
     told-there k below =
         ap told_of
-        (sym (found-there (unordered_with before.steps k) (λ j is. let earlier : j < k = with-earlier before.steps k j is in omega arith))
+        (sym (found-there (unordered_by_bytes touched before.steps k) (λ j is. let earlier : j < k = (is-earlier touched before.steps k j is).2 in omega arith))
         ∙ ap (option_map (tag_at tag_of after)) (sym (with-there k below)))
 
-    pub told-stays : (races : List ℕ) (test : ℕ → Bool) → races ≡ places_below test (length before.steps) → told_at tag_of told_of before races ≡ told_at tag_of told_of after races
+    pub told-stays : (races : List ℕ) (test : ℕ → Bool) → races ≡ places_below test (length before.steps) → told_at tag_of told_of touched before races ≡ told_at tag_of told_of touched after races
     told-stays races test is =
-        ap (told_at tag_of told_of before) is
-        ∙ places-told (λ k. told_of (option_map (tag_at tag_of before) (unordered_with before.steps k))) (λ k. told_of (option_map (tag_at tag_of after) (unordered_with after.steps k))) test (length before.steps) told-there
-        ∙ ap (told_at tag_of told_of after) (sym is)
+        ap (told_at tag_of told_of touched before) is
+        ∙ places-told (λ k. told_of (option_map (tag_at tag_of before) (unordered_by_bytes touched before.steps k))) (λ k. told_of (option_map (tag_at tag_of after) (unordered_by_bytes touched after.steps k))) test (length before.steps) told-there
+        ∙ ap (told_at tag_of told_of touched after) (sym is)
 
 -- each reason has its names
 module _ (r : Recording) (named : All (IsNamed r.names) r.steps) where
@@ -166,6 +140,6 @@ module _ (r : Recording) (named : All (IsNamed r.names) r.steps) where
   reasons-named-by None = All-nil (HasReasonNames r.names)
   reasons-named-by (Some j) = step-named (slice_index r.lines j) j (slice_get r.steps j) refl
 
-  pub reasons-named : (k : ℕ) → All (HasReasonNames r.names) (order_reasons r k)
+  pub reasons-named : (touched : Touched) (k : ℕ) → All (HasReasonNames r.names) (order_reasons touched r k)
   unfolding order_reasons
-  reasons-named k = reasons-named-by (unordered_with r.steps k)
+  reasons-named touched k = reasons-named-by (unordered_by_bytes touched r.steps k)

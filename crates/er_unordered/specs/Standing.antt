@@ -1,9 +1,8 @@
 -- The lists of steps that a machine stands for, and what one more step makes of it.
-use Rattle.std.specs.Prelude.{ℕ, suc, ◌≡◌, ◌&&◌, nat_lt, Bool, true, false, cond, List, [], ◌∷◌, ◌++◌, length, Option, Some, None}
+use Rattle.std.specs.Prelude.{ℕ, suc, ◌≡◌, ◌&&◌, nat_lt, Bool, true, false, cond, List, [], ◌∷◌, ◌++◌, length, is_some, Option, Some, None}
 use Rattle.er_event.specs.declared.addresses.PageRange.{PageRange}
 use Rattle.er_event.specs.declared.steps.Event.{Event}
 use Rattle.er_event.specs.declared.steps.Event.TheVariants.{Access, Reuse, Show, IgnoreOn, IgnoreOff, Level}
-use Rattle.er_event.specs.declared.steps.Kind.TheVariants.{Write as writing}
 use Rattle.er_event.specs.declared.steps.Reply.{Reply}
 use Rattle.er_event.specs.declared.steps.Reply.TheVariants.{Done, Quiet, Race, Ignored}
 use Rattle.er_event.specs.declared.steps.Step.{Step}
@@ -17,19 +16,19 @@ use Rattle.er_order.specs.Clocks.{OfThread, clocks_at}
 use Rattle.er_order.specs.Order.{acts_of}
 use Rattle.er_order.specs.Races.{reuse_reply}
 use Rattle.er_order.specs.Following.{act_by}
+use Rattle.er_order.specs.ByBytes.{Touched}
+use Rattle.er_order.specs.declared.bytes.Bytes.{Bytes}
 use Rattle.er_clock.specs.Crowding.{IsBeyond, crowds}
 use Rattle.er_clock.specs.Standing.{ClockMaps, counts, SameCounts, Moves, StandsForClocksOf}
 use Rattle.er_clock.specs.declared.clock.Limit.{Limit}
-use Rattle.er_epochs.specs.Epochs.{Stored, is_raced, tag_found}
-use Rattle.er_epochs.specs.Standing.{Follows, IsStoredMoved}
-use Rattle.er_epochs.specs.Words.{AllWords, stored_among}
+use Rattle.er_epochs.specs.Known.{AllBytes, Known, FollowsBytes, IsKnownMoved, finds, known_among, query_of, reuse_query}
 use Rattle.er_unordered.specs.declared.machine.OrderAnswer.{OrderAnswer}
 
 -- the threads that took something, with their holdings; the clocks; and what is kept of the words
 pub record Ordered (A : Type 0) : Type 0 where
   pub holders : List (ℕ × Holdings)
   pub clocks : ClockMaps
-  pub words : AllWords A
+  pub words : AllBytes A
 
 -- thread t's holdings
 abbrev pub holding : {A : Type 0} → Ordered A → ℕ → Holdings
@@ -39,16 +38,16 @@ holding machine t = holding_among machine.holders t
 abbrev pub clock_of : {A : Type 0} → Ordered A → ℕ → ℕ → ℕ
 clock_of machine t u = counts machine.clocks (OfThread t) u
 
--- what is stored of word w
-abbrev pub stored_of : {A : Type 0} → Ordered A → ℕ → Stored A
-stored_of machine w = stored_among machine.words w
+-- what is known of word w
+abbrev pub known_in : {A : Type 0} → Ordered A → ℕ → Known A
+known_in machine w = known_among machine.words w
 
--- its holdings and its clocks are those at the end of the list, and what it stores serves for what the list says, where these are the tags of
--- the positions
-pub record Stands {A : Type 0} (tags : ℕ → A) (machine : Ordered A) (steps : List Step) : Type 0 where
+-- its holdings and its clocks are those at the end of the list, and what it knows serves as what the list says, where these are the tags of
+-- the positions and the bytes that they touch
+pub record Stands {A : Type 0} (tags : ℕ → A) (touched : Touched) (machine : Ordered A) (steps : List Step) : Type 0 where
   pub held : (t : ℕ) → holding machine t ≡ holdings_at steps t (length steps)
   pub clocks : StandsForClocksOf machine.clocks steps
-  pub words : Follows tags machine.words steps
+  pub words : FollowsBytes tags touched machine.words steps
 
 -- the event finds room always: an access inside a bracket, a reuse, a show, and the end of a bracket
 abbrev pub wants_nothing : Holdings → Event → Bool
@@ -74,45 +73,45 @@ is_crowding machine step = crowds (act_by (holding machine step.thread) step)
 abbrev pub crowds_after : List Step → Step → Bool
 crowds_after steps step = crowds (acts_of (steps ++ step ∷ []) (length steps))
 
--- they are what the step, for which there is room, makes of those before, or what may be stored after it, where this is its tag
-pub record Changes {A : Type 0} (before : Ordered A) (step : Step) (tag : A) (after : Ordered A) : Type 0 where
+-- they are what the step, for which there is room, makes of those before, or what may be known after it, where these are its bytes and its tag
+pub record Changes {A : Type 0} (before : Ordered A) (step : Step) (bytes : Bytes) (tag : A) (after : Ordered A) : Type 0 where
   pub held : (t : ℕ) → holding after t ≡ after_step (holding before t) t step
   pub clocks : Moves before.clocks (act_by (holding before step.thread) step) after.clocks
   pub room : is_crowding before step ≡ false
-  pub words : (w : ℕ) → IsStoredMoved (clock_of before step.thread) tag (stored_of before w) w (marked (holding before step.thread) step.thread step.event) (stored_of after w)
+  pub words : (w : ℕ) → IsKnownMoved (clock_of before step.thread) tag bytes (known_in before w) w (marked (holding before step.thread) step.thread step.event) (known_in after w)
 
 -- they are the same
 pub record IsSame {A : Type 0} (before after : Ordered A) : Type 0 where
   pub held : (t : ℕ) → holding after t ≡ holding before t
   pub clocks : SameCounts before.clocks after.clocks
-  pub words : (w : ℕ) → stored_of after w ≡ stored_of before w
+  pub words : (w : ℕ) → known_in after w ≡ known_in before w
 
--- the lowest word of the range of which a write, by a thread whose clock this is, would be reported
-abbrev pub word_used : {A : Type 0} → (ℕ → ℕ) → (ℕ → Stored A) → PageRange → Option ℕ
-word_used clock stored range = least_below (suc range.hi) (λ w. is_within w range && is_raced clock (stored w) writing)
+-- the lowest word of the range that is in use, where a thread with this clock reuses it
+abbrev pub word_used : {A : Type 0} → (ℕ → ℕ) → (ℕ → Known A) → PageRange → Option ℕ
+word_used clock known range = least_below (suc range.hi) (λ w. is_within w range && is_some (finds clock (known w) reuse_query))
 
 -- what is found of that word
-abbrev pub use_found : {A : Type 0} → (ℕ → ℕ) → (ℕ → Stored A) → Option ℕ → Option A
-use_found clock stored None = None
-use_found clock stored (Some w) = tag_found clock (stored w) writing
+abbrev pub use_found : {A : Type 0} → (ℕ → ℕ) → (ℕ → Known A) → Option ℕ → Option A
+use_found clock known None = None
+use_found clock known (Some w) = finds clock (known w) reuse_query
 
--- the reply to an event that isn't refused, by these
-abbrev pub reply_by : {A : Type 0} → Holdings → (ℕ → ℕ) → (ℕ → Stored A) → Event → Reply
-reply_by h clock stored (Access kind w site) = cond (nat_lt 0 h.depth) Ignored (cond (is_raced clock (stored w) kind) Race Quiet)
-reply_by h clock stored (Reuse range) = cond (nat_lt 0 h.depth) Done (reuse_reply (word_used clock stored range))
-reply_by h clock stored _ = Done
+-- the reply to an event of these bytes that isn't refused, by these
+abbrev pub reply_by : {A : Type 0} → Holdings → (ℕ → ℕ) → (ℕ → Known A) → Bytes → Event → Reply
+reply_by h clock known bytes (Access kind w site) = cond (nat_lt 0 h.depth) Ignored (cond (is_some (finds clock (known w) (query_of kind bytes))) Race Quiet)
+reply_by h clock known bytes (Reuse range) = cond (nat_lt 0 h.depth) Done (reuse_reply (word_used clock known range))
+reply_by h clock known bytes _ = Done
 
 -- the tag of the access that a race names
-abbrev pub rival_by : {A : Type 0} → Holdings → (ℕ → ℕ) → (ℕ → Stored A) → Event → Option A
-rival_by h clock stored (Access kind w site) = cond (nat_lt 0 h.depth) None (tag_found clock (stored w) kind)
-rival_by h clock stored (Reuse range) = cond (nat_lt 0 h.depth) None (use_found clock stored (word_used clock stored range))
-rival_by h clock stored _ = None
+abbrev pub rival_by : {A : Type 0} → Holdings → (ℕ → ℕ) → (ℕ → Known A) → Bytes → Event → Option A
+rival_by h clock known bytes (Access kind w site) = cond (nat_lt 0 h.depth) None (finds clock (known w) (query_of kind bytes))
+rival_by h clock known bytes (Reuse range) = cond (nat_lt 0 h.depth) None (use_found clock known (word_used clock known range))
+rival_by h clock known bytes _ = None
 
 -- and the answer
-abbrev pub answered_by : {A : Type 0} → Ordered A → Step → OrderAnswer A
-answered_by machine step = record {
-  reply = answer_unless (refused_by (holding machine step.thread) step.event) (reply_by (holding machine step.thread) (clock_of machine step.thread) (stored_of machine) step.event);
-  rival = rival_by (holding machine step.thread) (clock_of machine step.thread) (stored_of machine) step.event;
+abbrev pub answered_by : {A : Type 0} → Ordered A → Step → Bytes → OrderAnswer A
+answered_by machine step bytes = record {
+  reply = answer_unless (refused_by (holding machine step.thread) step.event) (reply_by (holding machine step.thread) (clock_of machine step.thread) (known_in machine) bytes step.event);
+  rival = rival_by (holding machine step.thread) (clock_of machine step.thread) (known_in machine) bytes step.event;
 }
 
 -- the event changes what its thread holds, and nothing else

@@ -17,15 +17,21 @@
 //! let report = found.analyst.finish();
 //! ```
 //!
+//! What accesses touch is handed beside each batch, by the numbers of lines. Of a text nothing is said of it, and its report is that by words
+//! (`a_text_has_whole_words`).
+//!
 //! A refused step is in this report as in that of the lockset rule. A step that asks for a word's state is done and has no line: a state
 //! is the lockset rule's. If reasons are asked for, a line behind that of an unordered access names the last earlier access that it
 //! conflicts with and that doesn't come before it in order.
 #![tactic(auto)]
 
+pub use laws::a_text_has_whole_words;
 pub use machine::{OrderAnswer, OrderMachine};
 pub use ordering::OrderAnalyst;
 
 mod answering;
+mod laws;
 mod machine;
 mod ordering;
 mod reasons;
+mod touching;

@@ -7,15 +7,17 @@ ghost use Rattle.er_event.specs.declared.steps.Step.{Step as Steps};
 ghost use Rattle.er_held.specs.ThreadLocks.{changes_holdings, holding_among};
 ghost use Rattle.er_clock.specs.declared.clock.Limit.{Limit as Limits};
 ghost use Rattle.er_explain.specs.Racing.{is_race};
-ghost use Rattle.er_order.specs.Races.{order_answer, reuse_reply};
-ghost use Rattle.er_order.specs.Reasons.{unordered_with};
+ghost use Rattle.er_order.specs.ByBytes.{Touched, answer_by_bytes, unordered_by_bytes};
+ghost use Rattle.er_order.specs.Races.{reuse_reply};
+ghost use Rattle.er_order.specs.declared.bytes.Bytes.{Bytes as Touching};
 ghost use Rattle.er_replay.specs.Wants.{wants_memory};
 
 use er_clock::{Clocks, NoTick};
-use er_epochs::OrderWords;
+use er_epochs::OrderBytes;
 use er_event::{Event, Kind, LockId, Mode, PageRange, Refusal, Reply, Step, ThreadId, Word};
 use er_held::Held;
 use er_keys::HashKeys;
+use er_order::Bytes;
 use er_replay::Threads;
 use std::alloc::{AllocError, Global};
 use std::marker::Model;
@@ -29,7 +31,7 @@ const AHEAD: usize = 16;
 pub struct OrderMachine<A> {
     holders: Threads,
     clocks: Clocks,
-    words: OrderWords<A>,
+    words: OrderBytes<A>,
 }
 
 /// What a step is answered.
@@ -54,31 +56,34 @@ impl<A: Copy> OrderMachine<A> {
 
     /// A machine that has taken no step, and finds each word and each thread by these keys. Whoever knows them can make it slow.
     pub fn keyed(alloc: Global, keys: HashKeys) -> Self
-        ensures { (tags : ℕ → A) → Stands tags result [] }
+        ensures { (tags : ℕ → A) (touched : Touched) → Stands tags touched result [] }
     {
         OrderMachine {
             holders: Threads::new(alloc, keys),
             clocks: Clocks::keyed(alloc, keys),
-            words: OrderWords::keyed(alloc, keys),
+            words: OrderBytes::keyed(alloc, keys),
         }
     }
 
-    /// Takes one step and says what it is answered: a reply, or why it is refused. An access gets the tag.
+    /// Takes one step and says what it is answered: a reply, or why it is refused. An access touches these bytes of its word, of which the first
+    /// is no greater than the last, and gets the tag.
     ///
     /// # Errors
     /// `Beyond`: the step is beyond a limit of the clocks, as [`Clocks::follow`] says. `OutOfMemory`: memory was refused. The step may be tried
     /// again. A refused step has none of these, nor has an access inside a bracket, a reuse, a show or the end of a bracket.
-    pub fn step(&mut self, step: &Step, tag: A) -> Result<OrderAnswer<A>, NoTick>
-        ensures answer { (past : List Steps) (tags : ℕ → A) → Stands tags self.old past
-            → IfOk result (λ answer. answer.reply ≡ order_answer (past ++ step.now ∷ []) (length past)) }
-        ensures goes_on { (past : List Steps) (tags : ℕ → A) → Stands tags self.old past → tags (length past) ≡ tag → OnOk result (Stands tags self.new (past ++ step.now ∷ [])) }
-        ensures err { (past : List Steps) (tags : ℕ → A) → Stands tags self.old past → OnErr result (Stands tags self.new past) }
-        ensures limit { (past : List Steps) (tags : ℕ → A) → Stands tags self.old past → (limit : Limits) → IsErrOf result (NoTick.Beyond limit) → IsBeyondAfter past step.now limit }
-        ensures room { (past : List Steps) (tags : ℕ → A) → Stands tags self.old past → IsOk result → crowds_after past step.now ≡ false }
+    pub fn step(&mut self, step: &Step, bytes: Bytes, tag: A) -> Result<OrderAnswer<A>, NoTick>
+        ensures answer { (past : List Steps) (tags : ℕ → A) (touched : Touched) → Stands tags touched self.old past → touched (length past) ≡ bytes
+            → IfOk result (λ answer. answer.reply ≡ answer_by_bytes touched (past ++ step.now ∷ []) (length past)) }
+        ensures goes_on { (past : List Steps) (tags : ℕ → A) (touched : Touched) → Stands tags touched self.old past → tags (length past) ≡ tag → touched (length past) ≡ bytes
+            → OnOk result (Stands tags touched self.new (past ++ step.now ∷ [])) }
+        ensures err { (past : List Steps) (tags : ℕ → A) (touched : Touched) → Stands tags touched self.old past → OnErr result (Stands tags touched self.new past) }
+        ensures limit { (past : List Steps) (tags : ℕ → A) (touched : Touched) → Stands tags touched self.old past
+            → (limit : Limits) → IsErrOf result (NoTick.Beyond limit) → IsBeyondAfter past step.now limit }
+        ensures room { (past : List Steps) (tags : ℕ → A) (touched : Touched) → Stands tags touched self.old past → IsOk result → crowds_after past step.now ≡ false }
 
         // A race names the access that it is unordered with, and nothing else names one.
-        ensures named { (past : List Steps) (tags : ℕ → A) → Stands tags self.old past
-            → IfOk result (λ answer. answer.reply ≡ Ok Reply.Race → answer.rival ≡ option_map tags (unordered_with (past ++ step.now ∷ []) (length past))) }
+        ensures named { (past : List Steps) (tags : ℕ → A) (touched : Touched) → Stands tags touched self.old past → touched (length past) ≡ bytes
+            → IfOk result (λ answer. answer.reply ≡ Ok Reply.Race → answer.rival ≡ option_map tags (unordered_by_bytes touched (past ++ step.now ∷ []) (length past))) }
         ensures names { IfOk result (λ answer. is_some answer.rival ≡ is_race answer.reply) }
 
         // What the definitions refuse is answered so, whatever room there is.
@@ -86,12 +91,12 @@ impl<A: Copy> OrderMachine<A> {
         ensures free { IsTrue (wants_nothing (holding self.old step.now.thread) step.now.event) → IsOk result }
 
         // The same by the machine's own holdings, clocks and words.
-        ensures answered { IfOk result (λ answer. answer ≡ answered_by self.old step.now) }
-        ensures changes { OnOk result (Changes self.old step.now tag self.new) }
+        ensures answered { IfOk result (λ answer. answer ≡ answered_by self.old step.now bytes) }
+        ensures changes { OnOk result (Changes self.old step.now bytes tag self.new) }
         ensures same { OnErr result (IsSame self.old self.new) }
         ensures beyond { (limit : Limits) → IsErrOf result (NoTick.Beyond limit) → IsBeyondBy self.old step.now limit }
     {
-        self.take(step.thread, step.event, tag)
+        self.take(step.thread, step.event, bytes, tag)
     }
 
     /// Each few steps reads what is kept of the words that the next few access, so that it comes from memory side by side. `at` is the
@@ -118,22 +123,28 @@ impl<A: Copy> OrderMachine<A> {
 
     /// What a thread holds after the steps so far.
     pub fn held(&self, thread: ThreadId) -> &Held
-        ensures { (past : List Steps) (tags : ℕ → A) → Stands tags self.now past → result.now ≡ holdings_end past thread }
+        ensures { (past : List Steps) (tags : ℕ → A) (touched : Touched) → Stands tags touched self.now past → result.now ≡ holdings_end past thread }
     {
         self.holders.get(thread)
     }
 
     // An event of this thread. An access and a reuse are never refused.
-    fn take(&mut self, thread: ThreadId, event: Event, tag: A) -> Result<OrderAnswer<A>, NoTick>
-        ensures answered { IfOk result (λ answer. answer ≡ answered_by self.old (record { thread = thread; event = event })) }
-        ensures changes { OnOk result (Changes self.old (record { thread = thread; event = event }) tag self.new) }
+    fn take(
+        &mut self,
+        thread: ThreadId,
+        event: Event,
+        bytes: Bytes,
+        tag: A,
+    ) -> Result<OrderAnswer<A>, NoTick>
+        ensures answered { IfOk result (λ answer. answer ≡ answered_by self.old (record { thread = thread; event = event }) bytes) }
+        ensures changes { OnOk result (Changes self.old (record { thread = thread; event = event }) bytes tag self.new) }
         ensures same { OnErr result (IsSame self.old self.new) }
         ensures refused { (why : Refusal) → refused_by (holding self.old thread) event ≡ Some why → result ≡ Ok (record { reply = Err why; rival = None }) }
         ensures free { IsTrue (wants_nothing (holding self.old thread) event) → IsOk result }
         ensures limit { (limit : Limits) → IsErrOf result (NoTick.Beyond limit) → IsBeyondBy self.old (record { thread = thread; event = event }) limit }
     {
         match event {
-            Event::Access(kind, word, _) => self.access(thread, kind, word, tag),
+            Event::Access(kind, word, _) => self.access(thread, kind, word, bytes, tag),
             Event::Reuse(range) => Ok(self.reuse(thread, range)),
             _ => self.take_unless_refused(thread, event),
         }
@@ -146,8 +157,8 @@ impl<A: Copy> OrderMachine<A> {
         event: Event,
     ) -> Result<OrderAnswer<A>, NoTick>
         requires { names_none event ≡ true }
-        ensures answered { IfOk result (λ answer. answer ≡ answered_by self.old (record { thread = thread; event = event })) }
-        ensures changes { (tag : A) → OnOk result (Changes self.old (record { thread = thread; event = event }) tag self.new) }
+        ensures answered { (bytes : Touching) → IfOk result (λ answer. answer ≡ answered_by self.old (record { thread = thread; event = event }) bytes) }
+        ensures changes { (bytes : Touching) (tag : A) → OnOk result (Changes self.old (record { thread = thread; event = event }) bytes tag self.new) }
         ensures same { OnErr result (IsSame self.old self.new) }
         ensures refused { (why : Refusal) → refused_by (holding self.old thread) event ≡ Some why → result ≡ Ok (record { reply = Err why; rival = None }) }
         ensures free { IsTrue (wants_nothing (holding self.old thread) event) → IsOk result }
@@ -167,7 +178,7 @@ impl<A: Copy> OrderMachine<A> {
     fn accept(&mut self, thread: ThreadId, event: Event) -> Result<(), NoTick>
         requires accepted { refused_by (holding self.old thread) event ≡ None }
         requires names_none { names_none event ≡ true }
-        ensures changes { (tag : A) → OnOk result (Changes self.old (record { thread = thread; event = event }) tag self.new) }
+        ensures changes { (bytes : Touching) (tag : A) → OnOk result (Changes self.old (record { thread = thread; event = event }) bytes tag self.new) }
         ensures same { OnErr result (IsSame self.old self.new) }
         ensures free { IsTrue (wants_nothing (holding self.old thread) event) → IsOk result }
         ensures limit { (limit : Limits) → IsErrOf result (NoTick.Beyond limit) → IsBeyondBy self.old (record { thread = thread; event = event }) limit }
@@ -196,10 +207,11 @@ impl<A: Copy> OrderMachine<A> {
         thread: ThreadId,
         kind: Kind,
         word: Word,
+        bytes: Bytes,
         tag: A,
     ) -> Result<OrderAnswer<A>, NoTick>
-        ensures answered { IfOk result (λ answer. answer ≡ answered_by self.old (record { thread = thread; event = Event.Access kind word 0 })) }
-        ensures changes { OnOk result (Changes self.old (record { thread = thread; event = Event.Access kind word 0 }) tag self.new) }
+        ensures answered { IfOk result (λ answer. answer ≡ answered_by self.old (record { thread = thread; event = Event.Access kind word 0 }) bytes) }
+        ensures changes { OnOk result (Changes self.old (record { thread = thread; event = Event.Access kind word 0 }) bytes tag self.new) }
         ensures same { OnErr result (IsSame self.old self.new) }
         ensures free { 0 < (holding self.old thread).depth → IsOk result }
         ensures limit { (limit : Limits) → IsErrOf result (NoTick.Beyond limit) → ⊥ }
@@ -208,14 +220,14 @@ impl<A: Copy> OrderMachine<A> {
             return Ok(answer(None, Reply::Ignored));
         }
         let clock = self.clocks.clock(thread);
-        let found = self.words.access(word, &clock, kind, tag)?;
+        let found = self.words.access(word, bytes, &clock, kind, tag)?;
         Ok(answer(found, Reply::Quiet))
     }
 
     // The words of the range begin a new era. Outside a bracket that is a race if one of them is still in use.
     fn reuse(&mut self, thread: ThreadId, range: PageRange) -> OrderAnswer<A>
-        ensures answered { result ≡ answered_by self.old (record { thread = thread; event = Event.Reuse range }) }
-        ensures changes { (tag : A) → Changes self.old (record { thread = thread; event = Event.Reuse range }) tag self.new }
+        ensures answered { (bytes : Touching) → result ≡ answered_by self.old (record { thread = thread; event = Event.Reuse range }) bytes }
+        ensures changes { (bytes : Touching) (tag : A) → Changes self.old (record { thread = thread; event = Event.Reuse range }) bytes tag self.new }
     {
         let ignores = self.holders.get(thread).ignoring();
         let clock = self.clocks.clock(thread);
@@ -226,7 +238,7 @@ impl<A: Copy> OrderMachine<A> {
     // If the clocks lack room, the lock is given back.
     fn acquire(&mut self, thread: ThreadId, lock: LockId, mode: Mode) -> Result<(), NoTick>
         requires { refused_by (holding self.old thread) (Event.Acquire lock mode) ≡ None }
-        ensures changes { (tag : A) → OnOk result (Changes self.old (record { thread = thread; event = Event.Acquire lock mode }) tag self.new) }
+        ensures changes { (bytes : Touching) (tag : A) → OnOk result (Changes self.old (record { thread = thread; event = Event.Acquire lock mode }) bytes tag self.new) }
         ensures same { OnErr result (IsSame self.old self.new) }
         ensures limit { (limit : Limits) → IsErrOf result (NoTick.Beyond limit) → IsBeyondBy self.old (record { thread = thread; event = Event.Acquire lock mode }) limit }
     {
@@ -246,7 +258,7 @@ impl<A: Copy> OrderMachine<A> {
     // The clocks go first, since the lock is given up without memory.
     fn release(&mut self, thread: ThreadId, lock: LockId, mode: Mode) -> Result<(), NoTick>
         requires { refused_by (holding self.old thread) (Event.Release lock mode) ≡ None }
-        ensures changes { (tag : A) → OnOk result (Changes self.old (record { thread = thread; event = Event.Release lock mode }) tag self.new) }
+        ensures changes { (bytes : Touching) (tag : A) → OnOk result (Changes self.old (record { thread = thread; event = Event.Release lock mode }) bytes tag self.new) }
         ensures same { OnErr result (IsSame self.old self.new) }
         ensures limit { (limit : Limits) → IsErrOf result (NoTick.Beyond limit) → IsBeyondBy self.old (record { thread = thread; event = Event.Release lock mode }) limit }
     {

@@ -1,8 +1,8 @@
 //! Happens-before as an analyst.
-ghost use Rattle.std.specs.Prelude.{◌≡◌, ◌++◌, ◌||◌, [], ℕ, List, All, IfOk, IfErr, OnOk};
+ghost use Rattle.std.specs.Prelude.{◌≡◌, ◌++◌, ◌||◌, [], ℕ, List, All, IfOk, IfErr, IfSome, OnOk, length};
 ghost use Rattle.er_batch.specs.Analysts.{Asked};
 ghost use Rattle.er_event.specs.declared.steps.Step.{Step as Steps};
-ghost use Rattle.er_order.specs.Races.{order_answer};
+ghost use Rattle.er_order.specs.ByBytes.{Touched, answer_by_bytes};
 ghost use Rattle.er_report.specs.Builder.{Built, IsBuiltBy};
 ghost use Rattle.er_report.specs.Names.{HasNames};
 ghost use Rattle.er_report.specs.Report.{told as summary};
@@ -11,9 +11,9 @@ ghost use Rattle.er_text.specs.Batches.{joined};
 ghost use Rattle.er_text.specs.Named.{KeepsNames};
 ghost use Rattle.er_trace.specs.Names.{NameTable};
 ghost use Rattle.er_trace.specs.Trace.{Recording, no_steps};
-ghost use Rattle.er_unordered.specs.Inner.Passes.{HasGathered, recorded, tells};
+ghost use Rattle.er_unordered.specs.Inner.Passes.{HasGathered, TouchAs, recorded, tells};
 ghost use Rattle.er_unordered.specs.Ordered.{HasOrdered};
-ghost use Rattle.er_unordered.specs.Reports.{has_order, is_order, unordered_report};
+ghost use Rattle.er_unordered.specs.Reports.{has_order, is_order, touched_by, unordered_report};
 ghost use Rattle.er_unordered.specs.Stops.{IsStopIn};
 
 use crate::answering::answer_steps;
@@ -22,6 +22,7 @@ use crate::reasons::Told;
 use er_batch::{Analyst, Answered};
 use er_clock::NoTick;
 use er_event::{Event, Step};
+use er_lines::Touch;
 use er_report::{Because, Report, ReportBuilder};
 use er_rules::Suppressions;
 use er_trace::{NameKeys, Trace};
@@ -75,9 +76,9 @@ impl<'r> OrderAnalyst<'r> {
         self.has_order
     }
 
-    /// The report of the steps so far, or why they weren't all answered.
+    /// The report of the steps so far by the bytes that they touch, or why they weren't all answered.
     pub fn finish(self) -> Result<Report, NoTick>
-        ensures report { (asked : Asked) (r : Recording) → HasOrdered self.entry asked r → IfOk result (λ report. summary report ≡ unordered_report r asked.rules asked.explain) }
+        ensures report { (asked : Asked) (r : Recording) → HasOrdered self.entry asked r → IfOk result (λ report. IfSome asked.touches (λ all. summary report ≡ unordered_report r (touched_by all r.lines) asked.rules asked.explain)) }
         ensures named { (asked : Asked) (r : Recording) → HasOrdered self.entry asked r → IfOk result (λ report. All (HasNames r.names) report.lines.items) }
         ensures fault { (asked : Asked) (r : Recording) → HasOrdered self.entry asked r → IfErr result (λ why. IsStopIn r.steps why) }
     {
@@ -123,12 +124,20 @@ impl<'r> Analyst for OrderAnalyst<'r> {
         beside()
     }
 
-    fn answer<R: Threads + Wait + Sync>(&mut self, _rt: &R, trace: &Trace) -> Answered {
-        self.has_order = with_order(self.has_order, trace.steps());
+    fn answer<R: Threads + Wait + Sync>(
+        &mut self,
+        _rt: &R,
+        trace: &Trace,
+        touches: &[Touch],
+    ) -> Answered {
+        let steps = trace.steps();
+        prove!(steps.len() == trace.lines().len());
+        self.has_order = with_order(self.has_order, steps);
         if self.stop.is_some() {
             return Ok(());
         }
-        match self.machine.answer(trace, &mut self.report, &mut self.told) {
+        let (report, told) = (&mut self.report, &mut self.told);
+        match self.machine.answer(trace, touches, report, told) {
             Ok(()) => Ok(()),
             Err(NoTick::OutOfMemory) => Err(AllocError),
             Err(why) => {
@@ -156,7 +165,7 @@ impl Machines {
     // One that has taken no step. It finds each word by these keys.
     fn new(alloc: Global, explain: bool, keys: NameKeys) -> Machines
         ensures tells { tells result ≡ explain }
-        ensures start { (builder : Built) → IsBuiltBy (order_answer []) builder no_steps 0 → HasGathered result builder [] no_steps }
+        ensures start { (touched : Touched) (builder : Built) → IsBuiltBy (answer_by_bytes touched []) builder no_steps 0 → HasGathered touched result builder [] no_steps }
     {
         if explain {
             Machines::Telling(OrderMachine::keyed(alloc, keys))
@@ -169,26 +178,27 @@ impl Machines {
     fn answer(
         &mut self,
         trace: &Trace,
+        touches: &[Touch],
         builder: &mut ReportBuilder<'_>,
         told: &mut Told,
     ) -> Result<(), NoTick>
         ensures rules { OnOk result (builder.new.rules ≡ builder.old.rules) }
         ensures tells { tells self.new ≡ tells self.old }
-        ensures run { (past : List Steps) (lines sites : List ℕ) (names : NameTable) → KeepsNames names trace.now.names → HasGathered self.old builder.old told.old (recorded past lines sites names)
-            → OnOk result (HasGathered self.new builder.new told.new (joined past lines sites trace.now)) }
-        ensures full { (past : List Steps) (lines sites : List ℕ) (names : NameTable) → KeepsNames names trace.now.names → HasGathered self.old builder.old told.old (recorded past lines sites names)
-            → IfErr result (λ why. IsStopIn (past ++ trace.now.steps) why) }
+        ensures run { (touched : Touched) (past : List Steps) (lines sites : List ℕ) (names : NameTable) → KeepsNames names trace.now.names → HasGathered touched self.old builder.old told.old (recorded past lines sites names)
+            → TouchAs touched touches.now trace.now.lines (length past) → OnOk result (HasGathered touched self.new builder.new told.new (joined past lines sites trace.now)) }
+        ensures full { (touched : Touched) (past : List Steps) (lines sites : List ℕ) (names : NameTable) → KeepsNames names trace.now.names → HasGathered touched self.old builder.old told.old (recorded past lines sites names)
+            → TouchAs touched touches.now trace.now.lines (length past) → IfErr result (λ why. IsStopIn (past ++ trace.now.steps) why) }
     {
         match self {
-            Machines::Plain(machine) => answer_steps(machine, trace, builder, told),
-            Machines::Telling(machine) => answer_steps(machine, trace, builder, told),
+            Machines::Plain(machine) => answer_steps(machine, trace, touches, builder, told),
+            Machines::Telling(machine) => answer_steps(machine, trace, touches, builder, told),
         }
     }
 
     // The report of the steps that were answered and added to this one.
     fn finish(self, builder: ReportBuilder<'_>, told: Told) -> Report
-        ensures report { (r : Recording) → HasGathered self builder.entry told r → summary result ≡ unordered_report r builder.entry.rules (tells self) }
-        ensures named { (r : Recording) → HasGathered self builder.entry told r → All (HasNames r.names) result.lines.items }
+        ensures report { (touched : Touched) (r : Recording) → HasGathered touched self builder.entry told r → summary result ≡ unordered_report r touched builder.entry.rules (tells self) }
+        ensures named { (touched : Touched) (r : Recording) → HasGathered touched self builder.entry told r → All (HasNames r.names) result.lines.items }
     {
         match self {
             Machines::Plain(machine) => {

@@ -10,6 +10,7 @@ use Rattle.er_forms.specs.Forms.{IsForm}
 use Rattle.er_forms.specs.declared.excerpts.Excerpt.{Excerpt}
 use Rattle.er_parallel.specs.declared.config.ReplayFault.TheVariants as replaying
 use Rattle.er_places.specs.Places.{PlaceTable}
+use Rattle.er_lines.specs.declared.ready.Touch.{Touch}
 use Rattle.er_print.specs.Written.{WritesReport}
 use Rattle.er_print.specs.declared.report.WriteFault.{WriteFault}
 use Rattle.er_print.specs.declared.report.WriteFault.TheVariants as writing
@@ -36,9 +37,9 @@ use Rattle.eraser.specs.Replays.{AreShown, EndsAs, FailsAs, FailsBy, FailsFor, I
 use Rattle.eraser.specs.declared.replaying.Ended.{Ended}
 
 -- what is known of reports of a text without the races that rules take, and of those of them that are left
-pub record AreTriaged (replay : Replay) (text : List ℕ) (rules : List Target) (names : NameTable) (found left : Reports) : Type 0 where
+pub record AreTriaged (replay : Replay) (text : List ℕ) (touches : Option (List Touch)) (rules : List Target) (names : NameTable) (found left : Reports) : Type 0 where
   pub raced : Reports
-  pub reports : AreReportsOfText replay.part replay.analysis text replay.byte_limit rules replay.explain names raced
+  pub reports : AreReportsOfText replay.part replay.analysis text touches replay.byte_limit rules replay.explain names raced
   pub facts : MayLack replay rules raced found
   pub locks : is_some found.lockset ≡ asks_locks replay.analysis
   pub order : is_some found.unordered ≡ asks_order replay.analysis
@@ -56,22 +57,22 @@ still-asked replay rules raced found (inl same) = (sym (ap (λ (r : Reports). is
 still-asked replay rules raced found (inr (asks, again, (table, left))) =
     (left_some table rules raced.lockset found.lockset left.lockset, left_some table rules raced.unordered found.unordered left.unordered)
 
-abbrev output : {F : Type 0} (remaining : F → Option (List ℕ)) (replay : Replay) (text : List ℕ) (rules : List Target) (names : NameTable) (found left : Reports) (bytes : List ℕ)
-    → AreTriaged replay text rules names found left → AreShown remaining replay names rules left bytes → IsOutput remaining replay text rules bytes
-output remaining replay text rules names found left bytes triaged shown =
+abbrev output : {F : Type 0} (remaining : F → Option (List ℕ)) (replay : Replay) (text : List ℕ) (touches : Option (List Touch)) (rules : List Target) (names : NameTable) (found left : Reports) (bytes : List ℕ)
+    → AreTriaged replay text touches rules names found left → AreShown remaining replay names rules left bytes → IsOutput remaining replay text touches rules bytes
+output remaining replay text touches rules names found left bytes triaged shown =
     record { names = names; raced = triaged.raced; found = found; left = left; reports = triaged.reports; facts = triaged.facts; locks = triaged.locks; order = triaged.order; first = triaged.first; shown = shown }
 
 -- behind the whole output
-pub ends : {F : Type 0} (remaining : F → Option (List ℕ)) (replay : Replay) (text : List ℕ) (rules : List Target) (names : NameTable) (found left : Reports) (ending : Ending) (has_order : Bool) (old new : Option (List ℕ))
-    (notes : List ℕ) (count : ℕ) (result : Result Ended Fault) → AreTriaged replay text rules names found left → ((bytes : List ℕ) × AreShown remaining replay names rules left bytes × Appends old new bytes)
+pub ends : {F : Type 0} (remaining : F → Option (List ℕ)) (replay : Replay) (text : List ℕ) (touches : Option (List Touch)) (rules : List Target) (names : NameTable) (found left : Reports) (ending : Ending) (has_order : Bool) (old new : Option (List ℕ))
+    (notes : List ℕ) (count : ℕ) (result : Result Ended Fault) → AreTriaged replay text touches rules names found left → ((bytes : List ℕ) × AreShown remaining replay names rules left bytes × Appends old new bytes)
     → notes ≡ notes_text replay.unused_rules found rules (length (lines_of found) - length (lines_of left)) → count ≡ unordered_of has_order found
     → IfOk result (λ ended. ended.status ≡ verdict_status (is_verdict_of left)) → IfOk result (λ ended. ended.notes.items ≡ notes)
     → IfOk result (λ ended. (ended.ending ≡ ending) × (ended.unordered ≡ count)) → IsEndingOf text ending → IsOrderOfText replay.part replay.analysis text replay.byte_limit has_order
-    → IfOk result (EndsAs remaining replay text rules old new)
-ends remaining replay text rules names found left ending has_order old new notes count (Err why) triaged written noted counted status same_notes same is order = tt
-ends remaining replay text rules names found left ending has_order old new notes count (Ok ended) triaged (bytes, shown, appended) noted counted status same_notes (same, same_count) is order = record {
+    → IfOk result (EndsAs remaining replay text touches rules old new)
+ends remaining replay text touches rules names found left ending has_order old new notes count (Err why) triaged written noted counted status same_notes same is order = tt
+ends remaining replay text touches rules names found left ending has_order old new notes count (Ok ended) triaged (bytes, shown, appended) noted counted status same_notes (same, same_count) is order = record {
   bytes = bytes;
-  output = output remaining replay text rules names found left bytes triaged shown;
+  output = output remaining replay text touches rules names found left bytes triaged shown;
   written = appended;
   status = status;
   ending = subst (λ (e : Ending). IsEndingOf text e) (sym same) is;
@@ -80,19 +81,19 @@ ends remaining replay text rules names found left ending has_order old new notes
 }
 
 -- without the file of rules
-pub lacks-rules : {F : Type 0} (remaining : F → Option (List ℕ)) (replay : Replay) (text : List ℕ) (rules : List Target) (names : NameTable) (found left : Reports) (old new : Option (List ℕ))
-    (result : Result Ended Fault) → AreTriaged replay text rules names found left → ((bytes : List ℕ) × AreShown remaining replay names rules left bytes × Appends old new bytes)
-    → IfErr result (λ why. (why ≡ fault.WriteRules) × IsSome replay.write_rules) → IfErr result (FailsAs remaining replay text rules old new)
-lacks-rules remaining replay text rules names found left old new (Ok ended) triaged written is = tt
-lacks-rules remaining replay text rules names found left old new (Err why) triaged (bytes, shown, appended) (is, some) =
-    subst (λ (w : Fault). FailsAs remaining replay text rules old new w) (sym is) (some, (bytes, output remaining replay text rules names found left bytes triaged shown, appended))
+pub lacks-rules : {F : Type 0} (remaining : F → Option (List ℕ)) (replay : Replay) (text : List ℕ) (touches : Option (List Touch)) (rules : List Target) (names : NameTable) (found left : Reports) (old new : Option (List ℕ))
+    (result : Result Ended Fault) → AreTriaged replay text touches rules names found left → ((bytes : List ℕ) × AreShown remaining replay names rules left bytes × Appends old new bytes)
+    → IfErr result (λ why. (why ≡ fault.WriteRules) × IsSome replay.write_rules) → IfErr result (FailsAs remaining replay text touches rules old new)
+lacks-rules remaining replay text touches rules names found left old new (Ok ended) triaged written is = tt
+lacks-rules remaining replay text touches rules names found left old new (Err why) triaged (bytes, shown, appended) (is, some) =
+    subst (λ (w : Fault). FailsAs remaining replay text touches rules old new w) (sym is) (some, (bytes, output remaining replay text touches rules names found left bytes triaged shown, appended))
 
 -- behind a write that failed, or a want of memory
-pub breaks-off : {F : Type 0} (remaining : F → Option (List ℕ)) (replay : Replay) (text : List ℕ) (rules : List Target) (names : NameTable) (found left : Reports) (old new : Option (List ℕ)) (why : Fault)
-    → AreTriaged replay text rules names found left → WritesSome {X = Unit {0}} (AreShown remaining replay names rules left) old new (Err why) → FailsAs remaining replay text rules old new why
-breaks-off remaining replay text rules names found left old new fault.Write triaged (bytes, shown, begun) = (bytes, output remaining replay text rules names found left bytes triaged shown, begun)
-breaks-off remaining replay text rules names found left old new fault.Memory triaged keeps = keeps
-breaks-off remaining replay text rules names found left old new _ triaged none = absurd none
+pub breaks-off : {F : Type 0} (remaining : F → Option (List ℕ)) (replay : Replay) (text : List ℕ) (touches : Option (List Touch)) (rules : List Target) (names : NameTable) (found left : Reports) (old new : Option (List ℕ)) (why : Fault)
+    → AreTriaged replay text touches rules names found left → WritesSome {X = Unit {0}} (AreShown remaining replay names rules left) old new (Err why) → FailsAs remaining replay text touches rules old new why
+breaks-off remaining replay text touches rules names found left old new fault.Write triaged (bytes, shown, begun) = (bytes, output remaining replay text touches rules names found left bytes triaged shown, begun)
+breaks-off remaining replay text touches rules names found left old new fault.Memory triaged keeps = keeps
+breaks-off remaining replay text touches rules names found left old new _ triaged none = absurd none
 
 -- a fault of writing as one of the program
 abbrev pub as_fault : {X : Type 0} → Result X WriteFault → Result X Fault

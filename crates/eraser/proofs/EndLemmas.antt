@@ -26,6 +26,7 @@ use Rattle.er_run.specs.declared.fault.RunFault.{RunFault}
 use Rattle.er_run.specs.declared.fault.RunFault.TheVariants as running
 use Rattle.er_text.specs.Ending.{IsEndingOf, lost_told}
 use Rattle.er_lines.specs.declared.faults.ReadFault.TheVariants as reading
+use Rattle.er_lines.specs.declared.ready.Touch.{Touch}
 use Rattle.er_trace.specs.Names.{NameTable}
 use Rattle.er_trace.specs.Trace.{Recording}
 use Rattle.er_triage.specs.First.{KeepFirst}
@@ -78,16 +79,16 @@ nothing_lacks : (replay : Replay) (raced found : Reports) → MayLack replay [] 
 nothing_lacks replay raced found (inl same) = same
 nothing_lacks replay raced found (inr (asks, again, left)) = absurd (cc)
 
-alone : {F : Type 0} (remaining : F → Option (List ℕ)) (replay : Replay) (text bytes : List ℕ) (output : IsOutput remaining replay text [] bytes) → IsUsual replay → IsAlone text output.found output.left bytes
-alone remaining replay text bytes output usual = with_report (there output.found.lockset (output.locks ∙ ap asks_locks usual.analysis))
+alone : {F : Type 0} (remaining : F → Option (List ℕ)) (replay : Replay) (text bytes : List ℕ) (touches : Option (List Touch)) (output : IsOutput remaining replay text touches [] bytes) → IsUsual replay → IsAlone text output.found output.left bytes
+alone remaining replay text bytes touches output usual = with_report (there output.found.lockset (output.locks ∙ ap asks_locks usual.analysis))
   where
-    reports : AreReportsOfText None Lockset text usual_limit [] false output.names output.found
+    reports : AreReportsOfText None Lockset text touches usual_limit [] false output.names output.found
     reports =
-        subst (λ (r : Reports). AreReportsOfText None Lockset text usual_limit [] false output.names r) (nothing_lacks replay output.raced output.found output.facts)
-        (subst (λ (a : Analysis). AreReportsOfText None a text usual_limit [] false output.names output.raced) usual.analysis
-        (subst (λ (limit : ℕ). AreReportsOfText None replay.analysis text limit [] false output.names output.raced) usual.limit
-        (subst (λ (explain : Bool). AreReportsOfText None replay.analysis text replay.byte_limit [] explain output.names output.raced) usual.explain
-        (subst (λ (part : Option PartView). AreReportsOfText part replay.analysis text replay.byte_limit [] replay.explain output.names output.raced) usual.part output.reports))))
+        subst (λ (r : Reports). AreReportsOfText None Lockset text touches usual_limit [] false output.names r) (nothing_lacks replay output.raced output.found output.facts)
+        (subst (λ (a : Analysis). AreReportsOfText None a text touches usual_limit [] false output.names output.raced) usual.analysis
+        (subst (λ (limit : ℕ). AreReportsOfText None replay.analysis text touches limit [] false output.names output.raced) usual.limit
+        (subst (λ (explain : Bool). AreReportsOfText None replay.analysis text touches replay.byte_limit [] explain output.names output.raced) usual.explain
+        (subst (λ (part : Option PartView). AreReportsOfText part replay.analysis text touches replay.byte_limit [] replay.explain output.names output.raced) usual.part output.reports))))
 
     first : KeepFirst None output.found output.left
     first = subst (λ (m : Option ℕ). KeepFirst m output.found output.left) usual.max_races output.first
@@ -119,10 +120,10 @@ alone remaining replay text bytes output usual = with_report (there output.found
     with_report : (report : Report) × (output.found.lockset ≡ Some report) → IsAlone text output.found output.left bytes
     with_report (report, one) = with_run report one (subst (λ (o : Option Report). IfSome o (λ r. IsReportOfRun None false (lost_told text) reports.recording [] false r)) one reports.lockset)
 
-pub usual-ends : {F : Type 0} (remaining : F → Option (List ℕ)) (replay : Replay) (text : List ℕ) (old new : Option (List ℕ)) (ended : Ended) → IsUsual replay → EndsAs remaining replay text [] old new ended
+pub usual-ends : {F : Type 0} {touches : Option (List Touch)} (remaining : F → Option (List ℕ)) (replay : Replay) (text : List ℕ) (old new : Option (List ℕ)) (ended : Ended) → IsUsual replay → EndsAs remaining replay text touches [] old new ended
     → ReplaysTo text old new ended.status × (IsEndingOf text ended.ending × (ended.unordered ≡ 0))
 usual-ends remaining replay text old new ended usual ends =
-    let left : IsAlone text ends.output.found ends.output.left ends.bytes = alone remaining replay text ends.bytes ends.output usual in (
+    let left : IsAlone text ends.output.found ends.output.left ends.bytes = alone remaining replay text ends.bytes _ ends.output usual in (
       (
         is_verdict_of ends.output.left,
         record {
@@ -161,18 +162,18 @@ no_file : {A B : Type 0} (path : Option A) → path ≡ None → IsSome path →
 no_file None none some = cc
 no_file (Some file) none some = cc
 
-pub usual-fails : {F : Type 0} (remaining : F → Option (List ℕ)) (replay : Replay) (text : List ℕ) (old new : Option (List ℕ)) (why : Fault) → IsUsual replay → FailsAs remaining replay text [] old new why → IsUsualFault text why × LeavesUsually text old new why
-usual-fails remaining replay text old new why usual fails = by_case why fails
+pub usual-fails : {F : Type 0} (remaining : F → Option (List ℕ)) (replay : Replay) (text : List ℕ) (touches : Option (List Touch)) (old new : Option (List ℕ)) (why : Fault) → IsUsual replay → FailsAs remaining replay text touches [] old new why → IsUsualFault text why × LeavesUsually text old new why
+usual-fails remaining replay text touches old new why usual fails = by_case why fails
   where
     other : (why : Fault) → IsFoundFault replay text why × Keeps old new → IsUsualFault text why × Keeps old new
     other why (is, keeps) = (subst (λ (w : Fault). IsUsualFault text w) (sym is.says) (found_usually replay text is.found usual is.cause (is.alone usual.workers usual.part usual.analysis) is.lenient), keeps)
 
-    begun : (bytes : List ℕ) × IsOutput remaining replay text [] bytes × ((n : ℕ) × Appends old new (take n bytes)) → IsBegun None text usual_limit [] false old new
+    begun : (bytes : List ℕ) × IsOutput remaining replay text touches [] bytes × ((n : ℕ) × Appends old new (take n bytes)) → IsBegun None text usual_limit [] false old new
     begun (bytes, output, (n, appended)) =
-        let left : IsAlone text output.found output.left bytes = alone remaining replay text bytes output usual in
+        let left : IsAlone text output.found output.left bytes = alone remaining replay text bytes _ output usual in
         record { recording = left.recording; stop = left.stop; count = n; run = left.run; written = subst (λ (b : List ℕ). Appends old new (take n b)) left.bytes_are appended }
 
-    by_case : (why : Fault) → FailsAs remaining replay text [] old new why → IsUsualFault text why × LeavesUsually text old new why
+    by_case : (why : Fault) → FailsAs remaining replay text touches [] old new why → IsUsualFault text why × LeavesUsually text old new why
     by_case fault.Write fails = (tt, begun fails)
     by_case fault.WriteRules (some, rest) = no_file replay.write_rules usual.write_rules some
     by_case fault.Memory keeps = (tt, keeps)
@@ -202,26 +203,26 @@ for-text None f is = tt
 for-text (Some text) f is = f text is
 
 -- before its notes or its fault are written
-pub usually : {F : Type 0} (remaining : F → Option (List ℕ)) (replay : Replay) (told old new : Option (List ℕ)) (read written : Bool) (rules : List Target) (result : Result Ended Cut) → IsUsual replay → rules ≡ []
-    → IfOk result (λ ended. IfSome told (λ text. EndsAs remaining replay text rules old new ended))
-    → IfErr result (λ cut. IfSome told (λ text. FailsAs remaining replay text rules old new cut.fault))
+pub usually : {F : Type 0} {touches others : Option (List Touch)} (remaining : F → Option (List ℕ)) (replay : Replay) (told old new : Option (List ℕ)) (read written : Bool) (rules : List Target) (result : Result Ended Cut) → IsUsual replay → rules ≡ []
+    → IfOk result (λ ended. IfSome told (λ text. EndsAs remaining replay text touches rules old new ended))
+    → IfErr result (λ cut. IfSome told (λ text. FailsAs remaining replay text others rules old new cut.fault))
     → IfOk result (IsEndOf replay) → IfErr result (λ cut. (cut.notes.items ≡ []) × (cut.damage ≡ None))
     → IfOk result (λ ended. (read ≡ false) × (written ≡ false)) → IfErr result (λ cut. FailsFor read written cut.fault)
     → IfSome told (λ text. EndsUsually text read written old new result)
 usually remaining replay None old new read written rules result usual none ends fails end whole unfailed failed = tt
 usually remaining replay (Some text) old new read written rules (Ok ended) usual none ends fails end whole unfailed failed =
-    all (usual-ends remaining replay text old new ended usual (subst (λ (r : List Target). EndsAs remaining replay text r old new ended) none ends))
+    all (usual-ends remaining replay text old new ended usual (subst (λ (r : List Target). EndsAs remaining replay text _ r old new ended) none ends))
   where
     all : ReplaysTo text old new ended.status × (IsEndingOf text ended.ending × (ended.unordered ≡ 0)) → EndsUsually text read written old new (Ok ended)
     all (replays, (ending, count)) = (unfailed, (replays, (ending, (count, end.silent usual.unused_rules usual.max_races))))
 usually remaining replay (Some text) old new read written rules (Err cut) usual none ends fails end whole unfailed failed =
-    all (usual-fails remaining replay text old new cut.fault usual (subst (λ (r : List Target). FailsAs remaining replay text r old new cut.fault) none fails))
+    all (usual-fails remaining replay text _ old new cut.fault usual (subst (λ (r : List Target). FailsAs remaining replay text _ r old new cut.fault) none fails))
   where
     all : IsUsualFault text cut.fault × LeavesUsually text old new cut.fault → EndsUsually text read written old new (Err cut)
     all (cause, leaves) = (failed, (cause, (leaves, whole)))
 
 -- without files of rules there are none
-pub without-rules : {F : Type 0} (remaining : F → Option (List ℕ)) (replay : Replay) (told old new : Option (List ℕ)) (rules : List Target) (result : Result Ended Cut) → rules ≡ []
-    → IfErr result (λ cut. IfSome told (λ text. FailsAs remaining replay text rules old new cut.fault)) → IfErr result (λ cut. IfSome told (λ text. FailsAs remaining replay text [] old new cut.fault))
+pub without-rules : {F : Type 0} {touches : Option (List Touch)} (remaining : F → Option (List ℕ)) (replay : Replay) (told old new : Option (List ℕ)) (rules : List Target) (result : Result Ended Cut) → rules ≡ []
+    → IfErr result (λ cut. IfSome told (λ text. FailsAs remaining replay text touches rules old new cut.fault)) → IfErr result (λ cut. IfSome told (λ text. FailsAs remaining replay text touches [] old new cut.fault))
 without-rules remaining replay told old new rules result none fails =
-    subst (λ (r : List Target). IfErr result (λ cut. IfSome told (λ text. FailsAs remaining replay text r old new cut.fault))) none fails
+    subst (λ (r : List Target). IfErr result (λ cut. IfSome told (λ text. FailsAs remaining replay text _ r old new cut.fault))) none fails

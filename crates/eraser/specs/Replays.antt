@@ -14,6 +14,7 @@ use Rattle.er_exit.specs.declared.faults.Fault.{Fault}
 use Rattle.er_exit.specs.declared.faults.Fault.TheVariants as fault
 use Rattle.er_forms.specs.Forms.{IsForm}
 use Rattle.er_forms.specs.declared.excerpts.Excerpt.{Excerpt}
+use Rattle.er_lines.specs.declared.ready.Touch.{Touch}
 use Rattle.er_places.specs.Places.{ArePlaces, PlaceTable, place_at}
 use Rattle.er_places.specs.Wanted.{are_asked}
 use Rattle.er_report.specs.declared.report.Report.{Report}
@@ -94,19 +95,23 @@ pub record AreShown {F : Type 0} (remaining : F → Option (List ℕ)) (replay :
   pub form : IsForm replay.form names table rules excerpts reports body
   pub says : bytes ≡ heading ++ body
 
--- the text is a trace, and these bytes are the form of its reports, or of those of the part that is replayed, by the analysis that is asked for, under these rules, also those by what the trace says
--- of the program, and with the lines of the first races alone if their number is limited
-pub record IsOutput {F : Type 0} (remaining : F → Option (List ℕ)) (replay : Replay) (text : List ℕ) (rules : List Target) (bytes : List ℕ) : Type 0 where
+-- the text is a trace, and these bytes are the form of its reports, or of those of the part that is replayed, by the analysis that is asked for, by what its accesses touch, if that is known,
+-- under these rules, also those by what the trace says of the program, and with the lines of the first races alone if their number is limited
+pub record IsOutput {F : Type 0} (remaining : F → Option (List ℕ)) (replay : Replay) (text : List ℕ) (touches : Option (List Touch)) (rules : List Target) (bytes : List ℕ) : Type 0 where
   pub names : NameTable
   pub raced : Reports
   pub found : Reports
   pub left : Reports
-  pub reports : AreReportsOfText replay.part replay.analysis text replay.byte_limit rules replay.explain names raced
+  pub reports : AreReportsOfText replay.part replay.analysis text touches replay.byte_limit rules replay.explain names raced
   pub facts : MayLack replay rules raced found
   pub locks : is_some found.lockset ≡ asks_locks replay.analysis
   pub order : is_some found.unordered ≡ asks_order replay.analysis
   pub first : KeepFirst replay.max_races found left
   pub shown : AreShown remaining replay names rules left bytes
+
+-- what the accesses of a trace touch in a replay: of one that is kept for a second look, whole words
+abbrev pub touches_in : Replay → Option (List Touch) → Option (List Touch)
+touches_in replay touches = cond replay.until_fault (Some []) touches
 
 -- how many accesses and reuses a report by happens-before has
 abbrev pub races_in : Option Report → ℕ
@@ -118,9 +123,9 @@ abbrev pub unordered_of : Bool → Reports → ℕ
 unordered_of has_order reports = cond has_order 0 (races_in reports.unordered)
 
 -- what a replay leaves that ends so: the whole output, the status of its verdict, and what is noted
-pub record EndsAs {F : Type 0} (remaining : F → Option (List ℕ)) (replay : Replay) (text : List ℕ) (rules : List Target) (old new : Option (List ℕ)) (ended : Ended) : Type 0 where
+pub record EndsAs {F : Type 0} (remaining : F → Option (List ℕ)) (replay : Replay) (text : List ℕ) (touches : Option (List Touch)) (rules : List Target) (old new : Option (List ℕ)) (ended : Ended) : Type 0 where
   pub bytes : List ℕ
-  pub output : IsOutput remaining replay text rules bytes
+  pub output : IsOutput remaining replay text touches rules bytes
   pub written : Appends old new bytes
   pub status : ended.status ≡ verdict_status (is_verdict_of output.left)
   pub ending : IsEndingOf text ended.ending
@@ -145,12 +150,12 @@ pub record IsFoundFault (replay : Replay) (text : List ℕ) (why : Fault) : Type
 
 -- why a replay has not all that was asked for, and what it leaves: a beginning of the output if a write failed, all of it if only the file of rules
 -- is missing, and else nothing. A part of the standard input can't be replayed
-abbrev pub FailsAs : {F : Type 0} → (F → Option (List ℕ)) → Replay → List ℕ → List Target → Option (List ℕ) → Option (List ℕ) → Fault → Type 0
-FailsAs remaining replay text rules old new fault.Write = (bytes : List ℕ) × IsOutput remaining replay text rules bytes × ((n : ℕ) × Appends old new (take n bytes))
-FailsAs remaining replay text rules old new fault.WriteRules = IsSome replay.write_rules × ((bytes : List ℕ) × IsOutput remaining replay text rules bytes × Appends old new bytes)
-FailsAs remaining replay text rules old new fault.Memory = Keeps old new
-FailsAs remaining replay text rules old new fault.NoFile = IsSome replay.part × Keeps old new
-FailsAs remaining replay text rules old new other = IsFoundFault replay text other × Keeps old new
+abbrev pub FailsAs : {F : Type 0} → (F → Option (List ℕ)) → Replay → List ℕ → Option (List Touch) → List Target → Option (List ℕ) → Option (List ℕ) → Fault → Type 0
+FailsAs remaining replay text touches rules old new fault.Write = (bytes : List ℕ) × IsOutput remaining replay text touches rules bytes × ((n : ℕ) × Appends old new (take n bytes))
+FailsAs remaining replay text touches rules old new fault.WriteRules = IsSome replay.write_rules × ((bytes : List ℕ) × IsOutput remaining replay text touches rules bytes × Appends old new bytes)
+FailsAs remaining replay text touches rules old new fault.Memory = Keeps old new
+FailsAs remaining replay text touches rules old new fault.NoFile = IsSome replay.part × Keeps old new
+FailsAs remaining replay text touches rules old new other = IsFoundFault replay text other × Keeps old new
 
 -- the reader has failed exactly if this is a failed read, and the output exactly if it is a failed write
 abbrev pub FailsFor : Bool → Bool → Fault → Type 0

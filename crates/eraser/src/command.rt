@@ -13,12 +13,12 @@ ghost use Rattle.er_text.specs.Ending.{IsEndingOf};
 ghost use Rattle.er_triage.specs.Notes.{AreNotes};
 ghost use Rattle.eraser.specs.Notes.{AddsNotesOn, GetsNotes, GetsTextNotes};
 ghost use Rattle.eraser.specs.Printing.{PrintsTo};
-ghost use Rattle.eraser.specs.Replays.{AreOptionsOf, ComesTo, EndsAs, EndsUsually, FailsAs, IsEndOf};
+ghost use Rattle.eraser.specs.Replays.{AreOptionsOf, ComesTo, EndsAs, EndsUsually, FailsAs, IsEndOf, touches_in};
 
 use crate::merging::merge_files;
 use crate::meter::Meter;
 use crate::replaying::{Ended, Job, notes_of};
-use crate::traces::{Directly, explain_step, print_trace, text_size};
+use crate::traces::{Directly, explain_step, note_touches, print_trace, text_size};
 use crate::until::{Cut, cut_by, replay_trace, report_cut, trace_path};
 use clap::error::ErrorKind;
 use er_binary::Decoded;
@@ -84,6 +84,9 @@ where
 {
     match read_request(rt.alloc(), words, on_terminal) {
         Ok(Request::Replay(asked)) => {
+            if !asked.until_fault {
+                note_touches(input, asked.analysis);
+            }
             let replayed = run_replay(rt, &asked, input, &Directly, output, progress, on_terminal);
             let status = end_replay(rt, &asked, replayed, errors);
             drop(asked);
@@ -133,8 +136,8 @@ where
     ensures end { IfOk result (IsEndOf replay.now) }
     ensures usual { IsUsual replay.now → IfSome (I.remaining (inner_of input.old)) (λ text. EndsUsually text (has_failed input.new) (has_failed output.new) (O.contents (inner_of output.old)) (O.contents (inner_of output.new)) result) }
     ensures text { replay.now.trace.now ≡ codes "-" → IfOk result (λ ended. IfSome (I.remaining (inner_of input.old)) (λ text. IsEndingOf text ended.ending)) }
-    ensures ends { replay.now.trace.now ≡ codes "-" → replay.now.suppressions.items ≡ [] → IfOk result (λ ended. IfSome (I.remaining (inner_of input.old)) (λ text. EndsAs R.File.remaining replay.now text [] (O.contents (inner_of output.old)) (O.contents (inner_of output.new)) ended)) }
-    ensures fails { replay.now.trace.now ≡ codes "-" → replay.now.suppressions.items ≡ [] → replay.now.until_fault ≡ false → IfErr result (λ cut. IfSome (I.remaining (inner_of input.old)) (λ text. FailsAs R.File.remaining replay.now text [] (O.contents (inner_of output.old)) (O.contents (inner_of output.new)) cut.fault)) }
+    ensures ends { replay.now.trace.now ≡ codes "-" → replay.now.suppressions.items ≡ [] → IfOk result (λ ended. IfSome (I.remaining (inner_of input.old)) (λ text. EndsAs R.File.remaining replay.now text (touches_in replay.now (S.touches (inner_of input.old))) [] (O.contents (inner_of output.old)) (O.contents (inner_of output.new)) ended)) }
+    ensures fails { replay.now.trace.now ≡ codes "-" → replay.now.suppressions.items ≡ [] → replay.now.until_fault ≡ false → IfErr result (λ cut. IfSome (I.remaining (inner_of input.old)) (λ text. FailsAs R.File.remaining replay.now text (S.touches (inner_of input.old)) [] (O.contents (inner_of output.old)) (O.contents (inner_of output.new)) cut.fault)) }
     ensures nothing { replay.now.until_fault ≡ false → IfErr result (λ cut. LeavesOutput (O.contents (inner_of output.old)) (O.contents (inner_of output.new)) cut.fault) }
     ensures unwatched { replay.now.progress ≡ false → Keeps (P.contents (inner_of progress.old)) (P.contents (inner_of progress.new)) }
 {

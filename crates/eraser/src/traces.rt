@@ -1,5 +1,6 @@
 //! Traces that are opened by their path, and what is written of one that is not replayed: its text, or the story of one step.
-ghost use Rattle.std.specs.Prelude.{◌≡◌, false, codes, IfErr, IfOk, IfSome, OnOk};
+ghost use Rattle.std.specs.Prelude.{◌≡◌, ℕ, List, false, codes, IfErr, IfOk, IfSome, OnOk};
+ghost use Rattle.er_binary.specs.Decoded.{source_of, to_come};
 ghost use Rattle.er_device.specs.Device.{inner_of, has_failed};
 ghost use Rattle.er_exit.specs.declared.faults.Fault.TheVariants.{OpenTrace};
 ghost use Rattle.er_exit.specs.Statuses.{fault_status};
@@ -13,6 +14,7 @@ pub(crate) use er_binary::Directly;
 use er_device::Device;
 use er_exit::{Fault, open_ordinary, size_of};
 use er_print::WriteFault;
+use er_report::Analysis;
 use er_request::Explain;
 use er_story::{tell_line, write_story};
 use er_text::read_trace_keyed;
@@ -34,6 +36,17 @@ pub(crate) fn open_trace<R: Files + AllocGlobal>(
 {
     let file = File::open(rt, path).map_err(|_| Fault::OpenTrace)?;
     Ok(Decoded::new(rt.alloc(), file))
+}
+
+/// Has what accesses touch noted, if the analysis asks for it. Whoever reads then has it handed out now and then.
+pub(crate) fn note_touches<D>(source: &mut Device<Decoded<D>>, analysis: Analysis)
+    ensures text { (bytes : List ℕ) → to_come (inner_of source.new) bytes ≡ to_come (inner_of source.old) bytes }
+    ensures source { source_of (inner_of source.new) ≡ source_of (inner_of source.old) }
+    ensures failed { has_failed source.new ≡ has_failed source.old }
+{
+    if analysis.asks_order() {
+        source.inner_mut().note_touches();
+    }
 }
 
 /// How many bytes the text of a trace has. None if that isn't known before all of it is read.

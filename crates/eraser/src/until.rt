@@ -2,17 +2,17 @@
 //!
 //! It has two passes. The first replays the text as ever. If it ends in a fault of the text, the lines before that one are read again by a
 //! reader that ends there, and are replayed as any other text.
-ghost use Rattle.std.specs.Prelude.{◌≡◌, ◌≤◌, [], false, None, codes, IfOk, IfErr, IfSome};
+ghost use Rattle.std.specs.Prelude.{◌≡◌, ◌≤◌, [], false, None, Some, codes, IfOk, IfErr, IfSome};
 ghost use Rattle.er_device.specs.Device.{inner_of, has_failed};
 ghost use Rattle.er_exit.specs.Statuses.{fault_status};
 ghost use Rattle.er_exit.specs.Lines.{fault_line};
 ghost use Rattle.er_exit.specs.Writes.{GetsLine, LeavesOutput};
 ghost use Rattle.er_rules.specs.Rules.{targets_of};
 ghost use Rattle.er_text.specs.Ending.{IsEndingOf};
-ghost use Rattle.eraser.specs.Replays.{EndsAs, FailsAs, FailsFor, IsEndOf, IsRunAs};
+ghost use Rattle.eraser.specs.Replays.{EndsAs, FailsAs, FailsFor, IsEndOf, IsRunAs, touches_in};
 
 use crate::replaying::{Ended, Job, notes_of, replay_from};
-use crate::traces::{Directly, open_trace};
+use crate::traces::{Directly, note_touches, open_trace};
 use er_damage::Damage;
 use er_device::{Device, Keeping, Prefix};
 use er_exit::{Fault, Trouble, advise, is_ordinary, put, report_fault};
@@ -103,8 +103,8 @@ where
     requires output { has_failed output.old ≡ false }
     ensures end { IfOk result (IsEndOf job.entry.replay.now) }
     ensures text { job.entry.replay.now.trace.now ≡ codes "-" → IfOk result (λ ended. IfSome (I.remaining (inner_of input.old)) (λ text. IsEndingOf text ended.ending)) }
-    ensures ends { job.entry.replay.now.trace.now ≡ codes "-" → IsRunAs job.entry.replay.now job.entry.options.now job.entry.heading.now → IfOk result (λ ended. IfSome (I.remaining (inner_of input.old)) (λ text. EndsAs R.File.remaining job.entry.replay.now text (targets_of job.entry.suppressions.now) (O.contents (inner_of output.old)) (O.contents (inner_of output.new)) ended)) }
-    ensures fails { job.entry.replay.now.trace.now ≡ codes "-" → job.entry.replay.now.until_fault ≡ false → IsRunAs job.entry.replay.now job.entry.options.now job.entry.heading.now → IfErr result (λ cut. IfSome (I.remaining (inner_of input.old)) (λ text. FailsAs R.File.remaining job.entry.replay.now text (targets_of job.entry.suppressions.now) (O.contents (inner_of output.old)) (O.contents (inner_of output.new)) cut.fault)) }
+    ensures ends { job.entry.replay.now.trace.now ≡ codes "-" → IsRunAs job.entry.replay.now job.entry.options.now job.entry.heading.now → IfOk result (λ ended. IfSome (I.remaining (inner_of input.old)) (λ text. EndsAs R.File.remaining job.entry.replay.now text (touches_in job.entry.replay.now (S.touches (inner_of input.old))) (targets_of job.entry.suppressions.now) (O.contents (inner_of output.old)) (O.contents (inner_of output.new)) ended)) }
+    ensures fails { job.entry.replay.now.trace.now ≡ codes "-" → job.entry.replay.now.until_fault ≡ false → IsRunAs job.entry.replay.now job.entry.options.now job.entry.heading.now → IfErr result (λ cut. IfSome (I.remaining (inner_of input.old)) (λ text. FailsAs R.File.remaining job.entry.replay.now text (S.touches (inner_of input.old)) (targets_of job.entry.suppressions.now) (O.contents (inner_of output.old)) (O.contents (inner_of output.new)) cut.fault)) }
     ensures unfailed { job.entry.replay.now.trace.now ≡ codes "-" → job.entry.replay.now.until_fault ≡ false → IfOk result (λ ended. (has_failed input.new ≡ false) × (has_failed output.new ≡ false)) }
     ensures failed { job.entry.replay.now.trace.now ≡ codes "-" → job.entry.replay.now.until_fault ≡ false → IfErr result (λ cut. FailsFor (has_failed input.new) (has_failed output.new) cut.fault) }
     ensures alone { job.entry.replay.now.until_fault ≡ false → IfErr result (λ cut. (cut.notes.items ≡ []) × (cut.damage ≡ None)) }
@@ -129,6 +129,7 @@ where
         drop(source);
         return replayed;
     }
+    note_touches(&mut source, replay.analysis);
     let replayed = replay_from(rt, job, &mut source, &Directly, output, watcher);
     drop(source);
     match replayed {
@@ -154,7 +155,7 @@ fn replay_keeping<R: Files + AllocGlobal + Threads + Wait + Sync, D: Read, O: Wr
     requires output { has_failed output.old ≡ false }
     ensures end { IfOk result (IsEndOf job.entry.replay.now) }
     ensures text { IfOk result (λ ended. IfSome (D.remaining (inner_of source.old)) (λ text. IsEndingOf text ended.ending)) }
-    ensures ends { IsRunAs job.entry.replay.now job.entry.options.now job.entry.heading.now → IfOk result (λ ended. IfSome (D.remaining (inner_of source.old)) (λ text. EndsAs R.File.remaining job.entry.replay.now text (targets_of job.entry.suppressions.now) (O.contents (inner_of output.old)) (O.contents (inner_of output.new)) ended)) }
+    ensures ends { IsRunAs job.entry.replay.now job.entry.options.now job.entry.heading.now → IfOk result (λ ended. IfSome (D.remaining (inner_of source.old)) (λ text. EndsAs R.File.remaining job.entry.replay.now text (Some []) (targets_of job.entry.suppressions.now) (O.contents (inner_of output.old)) (O.contents (inner_of output.new)) ended)) }
 {
     let mut keeping = Device::new(Keeping::new(rt.alloc(), source));
     let first = replay_from(rt, job, &mut keeping, &ByText, output, watcher);

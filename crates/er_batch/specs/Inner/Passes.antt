@@ -1,9 +1,11 @@
 -- How far a pass has come that forgets its steps batch by batch.
-use Rattle.std.specs.Prelude.{◌≡◌, ◌++◌, ℕ, List, [], length, Option, IfSome}
+use Rattle.std.specs.Prelude.{◌≡◌, ◌<◌, ◌≤◌, ◌++◌, ℕ, All, List, [], length, Option, Some, IfSome}
 use Rattle.er_batch.specs.Analysts.{HasCounted}
 use Rattle.er_batch.specs.Runs.{recorded}
+use Rattle.er_batch.specs.Touching.{touch_on}
 use Rattle.er_event.specs.declared.steps.Step.{Step}
 use Rattle.er_parts.specs.Parts.{PartView, kept}
+use Rattle.er_lines.specs.declared.ready.Touch.{Touch}
 use Rattle.er_text.specs.Batches.{HasRead}
 use Rattle.er_text.specs.Places.{Reached}
 use Rattle.er_text.specs.Trace.{IsTrace}
@@ -34,3 +36,15 @@ pub record StandsFor (part : Option PartView) (Stands : Recording → Type 0) (s
   pub counted : HasCounted part steps (kept part r).steps
   pub long : length r.lines ≡ length r.steps
   pub one_each : length r.sites ≡ length r.steps
+
+-- of the lines from this one on, what was handed out of touches and what is left of them say together what all say; and what is left is of the next line or of
+-- lines behind it
+pub record Tells (all touches : List Touch) (left : Option (List Touch)) (from next : ℕ) : Type 0 where
+  pub more : List Touch
+  pub known : left ≡ Some more
+  pub says : (line : ℕ) → from ≤ line → touch_on (touches ++ more) line ≡ touch_on all line
+  pub later : All (λ touch. next ≤ touch.line) more
+
+-- of the lines from this one to the next one, these say what all say
+abbrev pub TellsBetween : List Touch → List Touch → ℕ → ℕ → Type 0
+TellsBetween all touches from next = (line : ℕ) → from ≤ line → line < next → touch_on touches line ≡ touch_on all line

@@ -1,41 +1,51 @@
--- What a decoder still gives.
-use Rattle.std.specs.Prelude.{ℕ, ◌+◌, ◌-◌, ◌≤◌, List, [], ◌++◌, drop, take, length, vec_items, vec_len}
+-- What a decoder still gives, and what is still to be noted of it.
+use Rattle.std.specs.Prelude.{◌≡◌, ℕ, ◌+◌, ◌-◌, ◌≤◌, true, List, ◌++◌, drop, take, length, vec_items, vec_len}
 use Rattle.er_binary.specs.Numbers.{plus}
 use Rattle.er_binary.specs.Inner.Words.{AreTaken, words_text}
-use Rattle.er_binary.specs.Meaning.{blocks, content, records}
+use Rattle.er_binary.specs.Meaning.{Making, as_text, as_touches, blocks, content, records}
 use Rattle.er_binary.specs.declared.decoder.Spot.{Spot}
 use Rattle.er_binary.specs.declared.decoder.Decoder.{Decoder}
 use Rattle.er_binary.specs.declared.decoder.Phase.{Phase}
 use Rattle.er_binary.specs.declared.decoder.Phase.TheVariants as phase
 use Rattle.er_binary.specs.declared.state.State.{State}
+use Rattle.er_lines.specs.declared.ready.Touch.{Touch}
 
 -- all blocks that are left
-unfoldable pub all_blocks : ℕ → ℕ → State → List ℕ → List ℕ
-all_blocks block start s bytes = blocks (length bytes + 1) block start s bytes
+unfoldable pub all_blocks : {M : Type 0} → Making M → ℕ → ℕ → State → List ℕ → M
+all_blocks made block start s bytes = blocks made (length bytes + 1) block start s bytes
 
 -- what is left of a block behind its first 16 bytes, and the blocks behind it
-unfoldable pub all_content : Spot → ℕ → State → List ℕ → List ℕ
-all_content p len s bytes = content (all_blocks (plus p.block 1) (plus p.start (16 + len))) p len s bytes
+unfoldable pub all_content : {M : Type 0} → Making M → Spot → ℕ → State → List ℕ → M
+all_content made p len s bytes = content made (all_blocks made (plus p.block 1) (plus p.start (16 + len))) p len s bytes
 
 -- all records that are left of a block, and the blocks behind it, which begin at a byte
-unfoldable pub all_records : ℕ → Spot → State → List ℕ → List ℕ → List ℕ
-all_records end p s bytes rest = records (length bytes + 1) (λ t. all_blocks (plus p.block 1) end t rest) p s bytes
+unfoldable pub all_records : {M : Type 0} → Making M → ℕ → Spot → State → List ℕ → List ℕ → M
+all_records made end p s bytes rest = records made (length bytes + 1) (λ t. all_blocks made (plus p.block 1) end t rest) p s bytes
 
--- the text of what is not decoded yet: the block's first bytes so far, how many bytes its records have, these so far, and those that are left
-abbrev pub by_phase : Phase → State → Spot → List ℕ → ℕ → List ℕ → List ℕ → List ℕ → List ℕ
-by_phase phase.Header s p header len held more rest = all_blocks p.block p.start s (header ++ rest)
-by_phase phase.Content s p header len held more rest = all_content p len s (held ++ rest)
-by_phase phase.Record s p header len held more rest = all_records (plus p.start (16 + len)) p s more rest
-by_phase phase.Nothing s p header len held more rest = []
+-- what is made of what is not decoded yet: the block's first bytes so far, how many bytes its records have, these so far, and those that are left
+abbrev pub by_phase : {M : Type 0} → Making M → Phase → State → Spot → List ℕ → ℕ → List ℕ → List ℕ → List ℕ → M
+by_phase made phase.Header s p header len held more rest = all_blocks made p.block p.start s (header ++ rest)
+by_phase made phase.Content s p header len held more rest = all_content made p len s (held ++ rest)
+by_phase made phase.Record s p header len held more rest = all_records made (plus p.start (16 + len)) p s more rest
+by_phase made phase.Nothing s p header len held more rest = made.of_end
 
 -- the same of a decoder
-abbrev pub undecoded : Phase → Decoder → List ℕ → List ℕ
-undecoded q d rest =
-    by_phase q d.state d.spot (take d.header_held d.header) (vec_len d.bytes) (take d.held (vec_items d.bytes)) (drop d.next (vec_items d.bytes)) rest
+abbrev pub undecoded : {M : Type 0} → Making M → Phase → Decoder → List ℕ → M
+undecoded made q d rest =
+    by_phase made q d.state d.spot (take d.header_held d.header) (vec_len d.bytes) (take d.held (vec_items d.bytes)) (drop d.next (vec_items d.bytes)) rest
 
 -- the text that is still to be given
 unfoldable pub still : Decoder → List ℕ → List ℕ
-still d rest = drop d.given (vec_items d.text) ++ (words_text d.state d.words ++ undecoded d.phase d rest)
+still d rest = drop d.given (vec_items d.text) ++ (words_text d.state d.words ++ undecoded as_text d.phase d rest)
+
+-- what accesses touch that was noted and not handed out, and what is still to be noted
+unfoldable pub to_note : Decoder → List ℕ → List Touch
+to_note d rest = vec_items d.notes.touches ++ undecoded as_touches d.phase d rest d.notes.line
+
+-- what accesses touch is noted by both or by none, and what is noted and to be noted stays the same
+pub record NotesOn (old new : Decoder) : Type 0 where
+  pub on : new.notes.is_on ≡ old.notes.is_on
+  pub same : old.notes.is_on ≡ true → (rest : List ℕ) → to_note old rest ≡ to_note new rest
 
 -- the text that was made is given
 abbrev pub HasGiven : Decoder → Type 0

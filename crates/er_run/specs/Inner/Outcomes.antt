@@ -5,6 +5,7 @@ use Rattle.er_batch.specs.Limits.{bytes_past_limit}
 use Rattle.er_batch.specs.declared.options.Options.{Options}
 use Rattle.er_damage.specs.Damaged.{IsDamageOf, no_damage}
 use Rattle.er_damage.specs.Standing.{Inspected}
+use Rattle.er_lines.specs.declared.ready.Touch.{Touch}
 use Rattle.er_parts.specs.Given.{is_refusal}
 use Rattle.er_parts.specs.Parts.{PartView}
 use Rattle.er_report.specs.Lines.{line_view}
@@ -25,7 +26,7 @@ use Rattle.er_run.specs.declared.outcome.ReplayedTrace.{ReplayedTrace}
 use Rattle.er_text.specs.Ending.{IsEndingOf}
 use Rattle.er_trace.specs.Trace.{Recording}
 use Rattle.er_unordered.specs.Ordered.{HasOrdered, OrderRan}
-use Rattle.er_unordered.specs.Reports.{has_order, unordered_report}
+use Rattle.er_unordered.specs.Reports.{has_order, touched_by, unordered_report}
 
 -- each analyst that is asked for stands for the recording, and no other is there
 abbrev pub AllStand : Option Ran → Option OrderRan → Option Inspected → Asked → Recording → Type 0
@@ -46,7 +47,7 @@ pub record IsRunBuilt (part : Option PartView) (asked : Asked) (r : Recording) (
 -- their report by happens-before, if it is asked for, and whether one of them is an order event
 pub record IsOrderBuilt (asked : Asked) (r : Recording) (report : Option Report) (has : Bool) : Type 0 where
   pub there : is_some report ≡ asks_order asked.analysis
-  pub says : IfSome report (λ one. summary one ≡ unordered_report r asked.rules asked.explain)
+  pub says : IfSome report (λ one. IfSome asked.touches (λ all. summary one ≡ unordered_report r (touched_by all r.lines) asked.rules asked.explain))
   pub names : IfSome report (λ one. All (HasNames r.names) one.lines.items)
   pub order : has ≡ (asks_order asked.analysis && has_order r.steps)
 
@@ -83,7 +84,7 @@ IsGivenIf later of_pages lost old new = ⊥
 
 -- what a replay of this text, or of a part of it, that is asked this may come to, before a byte is written: the text's reports and how the text ends, or a fault
 pub record IsOutcomeOf (part : Option PartView) (told : Option (List ℕ)) (limit : ℕ) (asked : Asked) (result : Result ReplayedTrace RunFault) : Type 0 where
-  pub reports : IfOk result (λ found. IfSome told (λ text. AreReportsOfText part asked.analysis text limit asked.rules asked.explain found.trace.names found.reports))
+  pub reports : IfOk result (λ found. IfSome told (λ text. AreReportsOfText part asked.analysis text asked.touches limit asked.rules asked.explain found.trace.names found.reports))
   pub there : IfOk result (λ found. (is_some found.reports.lockset ≡ asks_locks asked.analysis) × (is_some found.reports.unordered ≡ asks_order asked.analysis))
   pub named : IfOk result (λ found. HaveNames found.trace.names found.reports)
   pub whole : is_unstopped part asked.analysis ≡ true → IfOk result (λ found. IfSome found.reports.lockset (λ report. report.stop ≡ None))
@@ -93,13 +94,13 @@ pub record IsOutcomeOf (part : Option PartView) (told : Option (List ℕ)) (limi
   pub undamaged : IsTrue asked.strict → OnOk result (IfSome told (λ text. IsDamageOf text limit no_damage))
   pub lenient : IsFalse asked.strict → IfErr result IsNoDamage
 
--- what a replay by these options and rules asks for
-abbrev pub asked_by : Options → List Target → Analysis → Asked
-asked_by options rules analysis = record { analysis = analysis; rules = rules; explain = options.explain; strict = looks_for_damage options }
+-- what a replay by these options and rules asks for, of a text with these touches
+abbrev pub asked_by : Options → List Target → Analysis → Option (List Touch) → Asked
+asked_by options rules analysis touches = record { analysis = analysis; rules = rules; explain = options.explain; strict = looks_for_damage options; touches = touches }
 
--- what a replay of this text by these options and rules may come to; its reader had given so many bytes before, and has given so many now, and it has
+-- what a replay of this text, with these touches, by these options and rules may come to; its reader had given so many bytes before, and has given so many now, and it has
 -- failed or not
-pub record IsReplayOf (told : Option (List ℕ)) (options : Options) (rules : List Target) (analysis : Analysis) (before after : ℕ) (unread : Bool) (result : Result ReplayedTrace RunFault) : Type 0 where
-  pub outcome : IsOutcomeOf options.part told options.byte_limit (asked_by options rules analysis) result
+pub record IsReplayOf (told : Option (List ℕ)) (touches : Option (List Touch)) (options : Options) (rules : List Target) (analysis : Analysis) (before after : ℕ) (unread : Bool) (result : Result ReplayedTrace RunFault) : Type 0 where
+  pub outcome : IsOutcomeOf options.part told options.byte_limit (asked_by options rules analysis touches) result
   pub failed : FailsBy unread false result
   pub taken : after ≤ before + options.byte_limit + bytes_past_limit

@@ -4,7 +4,7 @@ use Rattle.std.specs.Option.{option_map, option_to_list}
 use Rattle.er_event.specs.declared.steps.Kind.TheVariants.{Read}
 use Rattle.er_event.specs.declared.steps.Step.{Step}
 use Rattle.er_explain.specs.Book.{event_kind}
-use Rattle.er_order.specs.Reasons.{unordered_with}
+use Rattle.er_order.specs.ByBytes.{Touched, unordered_by_bytes}
 use Rattle.er_report.specs.declared.report.Because.{Because}
 use Rattle.er_report.specs.declared.report.Label.TheVariants as label
 use Rattle.er_trace.specs.Trace.{Recording}
@@ -30,5 +30,5 @@ unfoldable pub tag_at : {A : Type 0} → (ℕ → Option Step → A) → Recordi
 tag_at tag_of r i = tag_of (slice_index r.lines i) (slice_get r.steps i)
 
 -- what is told of the races at these positions
-abbrev pub told_at : {A : Type 0} → (ℕ → Option Step → A) → (Option A → List (List Because)) → Recording → List ℕ → List (List Because)
-told_at tag_of told_of r places = flat_map (λ k. told_of (option_map (tag_at tag_of r) (unordered_with r.steps k))) places
+abbrev pub told_at : {A : Type 0} → (ℕ → Option Step → A) → (Option A → List (List Because)) → Touched → Recording → List ℕ → List (List Because)
+told_at tag_of told_of touched r places = flat_map (λ k. told_of (option_map (tag_at tag_of r) (unordered_by_bytes touched r.steps k))) places

@@ -12,12 +12,12 @@ use Rattle.er_run.proofs.passes.reports_by_one.Goals as goal
 pub returns-in-Ok : goal.returns-in-Ok
 returns-in-Ok g c =
     let told : Option (List ℕ) = g.D.Read.remaining (inner_of c.args.reader.now) in
-    let asked : Asked = asked_by c.args.options.now (targets_of c.args.suppressions.now) c.args.analysis in
+    let asked : Asked = asked_by c.args.options.now (targets_of c.args.suppressions.now) c.args.analysis (g.S.Shortcut.touches (inner_of c.args.reader.now)) in
     let stands = c.in_ok-all.ensures.stands asked refl refl refl refl in
-    let all = c.in-Ok.ensures.answered asked stands in
+    let all = c.in-Ok.ensures.answered asked refl stands in
     record {
       replay = record {
-        outcome = c.end.ensures.outcome asked told c.args.options.now.byte_limit (only-whole c.args.options.now) all (c.in-Ok.ensures.ending asked stands);
+        outcome = c.end.ensures.outcome asked told c.args.options.now.byte_limit (only-whole c.args.options.now) all (c.in-Ok.ensures.ending asked refl stands);
         failed = search rules;
         taken = search rules;
       };
@@ -28,11 +28,11 @@ returns-in-Ok g c =
 pub returns-in-Err : goal.returns-in-Err
 returns-in-Err g c =
     let told : Option (List ℕ) = g.D.Read.remaining (inner_of c.args.reader.now) in
-    let asked : Asked = asked_by c.args.options.now (targets_of c.args.suppressions.now) c.args.analysis in
+    let asked : Asked = asked_by c.args.options.now (targets_of c.args.suppressions.now) c.args.analysis (g.S.Shortcut.touches (inner_of c.args.reader.now)) in
     let stands = c.in_ok-all.ensures.stands asked refl refl refl refl in
     record {
       replay = record {
-        outcome = failed-outcome c.args.options.now.part told c.args.options.now.byte_limit asked (Read c.in-Err.why) (of-reading c.args.options.now.part asked.analysis told c.args.options.now.byte_limit c.in-Err.why (c.in-Err.ensures.fault asked stands)) (λ lenient. tt);
+        outcome = failed-outcome c.args.options.now.part told c.args.options.now.byte_limit asked (Read c.in-Err.why) (of-reading c.args.options.now.part asked.analysis told c.args.options.now.byte_limit c.in-Err.why (c.in-Err.ensures.fault asked refl stands)) (λ lenient. tt);
         failed = search rules;
         taken = search rules;
       };

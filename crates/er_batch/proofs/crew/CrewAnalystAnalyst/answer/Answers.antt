@@ -9,7 +9,7 @@ use Rattle.er_batch.proofs.crew.CrewAnalystAnalyst.answer.Goals as goal
 
 pub returns-in_default : goal.returns-in_default
 returns-in_default g c = record {
-  goes_on = λ asked past lines sites names kept ran.
+  goes_on = λ asked past lines sites names kept ran agree.
       let trace : Recording = c.args.trace.now in
       let fits : IsWellFormed trace = record { named = c.steps-steps.ensures.named; long = c.lines.ensures.one_per_step; known = c.sites.ensures.named; one_each = c.sites.ensures.one_per_step } in
       let inside : CrewRan = record { crew = c.self.inside.crew; items = c.self.inside.items.items; builder = c.self.inside.builder } in
@@ -19,7 +19,7 @@ returns-in_default g c = record {
 
 pub returns : goal.returns
 returns g c = record {
-  goes_on = λ asked past lines sites names kept ran.
+  goes_on = λ asked past lines sites names kept ran agree.
       let trace : Recording = c.args.trace.now in
       let fits : IsWellFormed trace = record { named = c.steps-steps.ensures.named; long = c.lines.ensures.one_per_step; known = c.sites.ensures.named; one_each = c.sites.ensures.one_per_step } in
       let inside : CrewRan = record { crew = c.self.inside.crew; items = c.self.inside.items.items; builder = c.self.inside.builder } in

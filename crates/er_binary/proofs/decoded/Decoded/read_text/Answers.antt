@@ -2,10 +2,11 @@
 use Rattle.std.proofs.Common.{◌<◌, ◌≤◌, ◌++◌, List, ℕ, length, take, drop, sym, ap, ◌∙◌, arith, rules, length-drop}
 use Rattle.std.proofs.KnownBytes.{Keeps-refl}
 use Rattle.std.proofs.lemmas.List.{length-take-le}
-use Rattle.er_binary.specs.Decoded.{to_come}
-use Rattle.er_binary.proofs.DecodedLaws.{read_through, text_is, text_read}
+use Rattle.er_binary.specs.Decoded.{to_come, to_touch}
+use Rattle.er_binary.proofs.DecodedLaws.{read_through, text_is, text_read, stays_none, text_touch}
 use Rattle.er_binary.proofs.DecoderLaws.{gives_by, piece_given}
 use Rattle.er_binary.proofs.decoded.Decoded.read_text.Goals as goal
+use Rattle.er_binary.proofs.NotesLaws.{stays_same}
 
 pub returns-then-self-clause-bytes : goal.returns-then-self-clause-bytes
 returns-then-self-clause-bytes g c =
@@ -26,3 +27,11 @@ returns-clause-bytes g c =
           (λ rest. text_is d rest c.requires ∙ piece_given text to rest d.given n copied ∙ ap (λ (t : List ℕ). take n to ++ t) (sym (text_is _ rest c.requires))),
       λ none room. absurd (omega (arith, none, room, some, c.copy_front-count.ensures.count, ap length c.split_at.ensures.back)),
     )
+
+pub returns-then-self-clause-touches : goal.returns-then-self-clause-touches
+returns-then-self-clause-touches g c = λ on.
+    stays_none (to_touch c.args.self.now) (to_touch _) _ _ _ _ (λ rest. text_touch c.args.self.now rest c.requires) (λ rest. text_touch _ rest c.requires) c.read.ensures.bytes
+
+pub returns-clause-touches : goal.returns-clause-touches
+returns-clause-touches g c = λ on.
+    stays_same (to_touch c.args.self.now) (to_touch _) _ (λ rest. text_touch c.args.self.now rest c.requires ∙ sym (text_touch _ rest c.requires))

@@ -4,6 +4,7 @@ use borrow.Rule.Slice.PartMut.{post_of, put_mid}
 use Rattle.er_binary.specs.Inner.Decoders.{still}
 use Rattle.er_binary.proofs.FillLemmas.{filled}
 use Rattle.er_binary.proofs.decoder.Decoder.give_all.Goals as goal
+use Rattle.er_binary.proofs.NotesLaws.{notes_trans}
 
 pub loop-count-preserved : goal.loop-count-preserved
 loop-count-preserved g c =
@@ -21,4 +22,14 @@ loop-count-preserved g c =
           ∙ ap (λ (t : List ℕ). t ++ still c.give.new.self rest) (sym (filled buffer buf tail count n c.loop-count.invariant.within c.give.ensures.bound));
       taken = search rules;
       given = λ less. c.give.ensures.given (omega arith);
+      noted = notes_trans _ _ _ c.loop-count.invariant.noted (notes_trans _ _ _ c.next_record.ensures.noted c.give.ensures.noted);
     }
+
+pub loop-count-init : goal.loop-count-init
+loop-count-init g c = record {
+  within = c.give-count.ensures.bound;
+  gives = λ rest. c.put_rest.ensures.same rest ∙ c.give-count.ensures.gives rest;
+  given = λ less. c.give-count.ensures.given less;
+  taken = search rules;
+  noted = notes_trans _ _ _ c.put_rest.ensures.noted c.give-count.ensures.noted;
+}

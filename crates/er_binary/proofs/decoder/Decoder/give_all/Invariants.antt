@@ -1,6 +1,6 @@
 -- What was given, and what is still to be given, are what was to be given.
 use Rattle.std.proofs.Common.{◌≡◌, ◌<◌, ◌≤◌, ◌++◌, ℕ, List, length, take}
-use Rattle.er_binary.specs.Inner.Decoders.{HasGiven, left, still}
+use Rattle.er_binary.specs.Inner.Decoders.{HasGiven, NotesOn, left, still}
 use Rattle.er_binary.specs.Inner.Words.{AreTaken}
 use Rattle.er_binary.proofs.decoder.Decoder.give_all.Given as goal
 
@@ -10,6 +10,7 @@ invariant-loop-count g l = record {
   gives : (rest : List ℕ) → still l.fn.self rest ≡ take l.count l.buffer ++ still l.self rest;
   given : l.count < length l.buffer → HasGiven l.self;
   taken : AreTaken l.self.words;
+  noted : NotesOn l.fn.self l.self;
 }
 
 abbrev pub decreases-loop-count : goal.decreases-loop-count

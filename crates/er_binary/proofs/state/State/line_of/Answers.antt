@@ -1,8 +1,5 @@
 -- The line of the first word.
-use Rattle.std.proofs.Common.{◌≡◌, ◌<◌, ◌^◌, ◌*◌, ◌/◌, true, arith}
-use Rattle.er_lines.specs.Ready.{is_ready, name_by}
-use Rattle.er_binary.specs.Inner.Words.{verb_for}
-use Rattle.er_binary.specs.Numbers.{name_at}
+use Rattle.std.proofs.Common.{◌<◌, ◌^◌, ◌*◌, ◌/◌, arith}
 use Rattle.er_binary.proofs.WordsLaws.{access_right, first_line, line_right, named_site}
 use Rattle.er_binary.proofs.state.State.line_of.Goals as goal
 

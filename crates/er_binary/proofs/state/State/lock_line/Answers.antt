@@ -1,7 +1,5 @@
 -- The line of a lock event.
-use Rattle.std.proofs.Common.{◌≡◌, ◌<◌, length, true, arith}
-use Rattle.er_lines.specs.Ready.{is_ready}
-use Rattle.er_binary.specs.Numbers.{name_at}
+use Rattle.std.proofs.Common.{◌<◌, length, arith}
 use Rattle.er_binary.proofs.WordsLaws.{lock_line_right, lock_right, lock_taken}
 use Rattle.er_binary.proofs.state.State.lock_line.Goals as goal
 

@@ -24,6 +24,7 @@ loop-init g c =
       working = c.requires.open;
       right = c.requires.right;
       taken = omega arith;
+      touches = λ xs is. is;
       passed = omega arith;
     }
 
@@ -55,5 +56,6 @@ loop-preserved g c =
       working = step.failed;
       right = step.right;
       taken = omega (arith, old.taken, step.taken);
+      touches = λ xs is. step.touches xs (old.touches xs is);
       passed = omega (arith, old.passed, passed);
     }

@@ -5,6 +5,7 @@ use Rattle.er_text.specs.Named.{Grows}
 use Rattle.er_text.specs.Inner.Endings.{KeepsTail}
 use Rattle.er_lines.specs.Lending.{taken_by, lines_left}
 use Rattle.er_lines.specs.Reading.{Continues}
+use Rattle.er_lines.specs.Touches.{StaysKnown}
 use Rattle.er_text.specs.Inner.Numbers.{AreRight}
 use Rattle.er_text.specs.Inner.Traces.{progress, read_content}
 use Rattle.er_text.proofs.reading.TraceReader.read_batch.Given as goal
@@ -21,5 +22,6 @@ invariant-loop g l = record {
   most : taken_by l.self.place ≤ l.self.place.limit + 1025;
   working : has_failed l.reader ≡ false;
   taken : taken_of l.reader + taken_by l.fn.self.place ≤ taken_of l.fn.reader + taken_by l.self.place;
+  touches : StaysKnown (g.S.Shortcut.touches (inner_of l.fn.reader)) (g.S.Shortcut.touches (inner_of l.reader));
   passed : l.fn.self.place.start + l.counter ≤ l.self.place.start;
 }

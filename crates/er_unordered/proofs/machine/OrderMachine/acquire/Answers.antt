@@ -19,11 +19,11 @@ change-requires-in-Err-clause-accepted g c =
     may_give_back c.self.inside.holders c.change.new.holders c.args.thread c.args.lock c.args.mode c.in_ok-change.ensures.ok (held_within c.get-held.ensures.found c.get-held.ensures.within) accepted
 
 pub returns-in-Ok-clause-changes : goal.returns-in-Ok-clause-changes
-returns-in-Ok-clause-changes g c tag =
+returns-in-Ok-clause-changes g c bytes tag =
     let before : Ordered g.row.A.Denot = record { holders = c.self.inside.holders; clocks = c.self.inside.clocks; words = c.self.inside.words } in
     let accepted : refused_by (holding before c.args.thread) (Acquire c.args.lock c.args.mode) ≡ None = rw (← c.self.view_is) at c.requires in
     rw (← c.self.view_is)
-    (changes before (record { holders = c.change.new.holders; clocks = c.follow.new.self; words = c.self.inside.words }) tag c.args.thread (Acquire c.args.lock c.args.mode) accepted
+    (changes before (record { holders = c.change.new.holders; clocks = c.follow.new.self; words = c.self.inside.words }) bytes tag c.args.thread (Acquire c.args.lock c.args.mode) accepted
     c.in_ok-change.ensures.ok c.in-Ok.ensures.moves (has_room _ _ c.in-Ok.ensures.crowded) (λ v. refl))
 
 pub returns-in-Err-clause-same : goal.returns-in-Err-clause-same

@@ -6,4 +6,7 @@ returns-in-Access-clause-changes g c =
     rw c.in-Access.is (on_ok c.access.result _ _ c.access.ensures.changes (λ changed. record { held = changed.held; clocks = changed.clocks; room = changed.room; words = changed.words }))
 
 pub returns-in-Reuse-clause-changes : goal.returns-in-Reuse-clause-changes
-returns-in-Reuse-clause-changes g c = rw c.in-Reuse.is (c.reuse.ensures.changes c.args.tag)
+returns-in-Reuse-clause-changes g c = rw c.in-Reuse.is (c.reuse.ensures.changes c.args.bytes c.args.tag)
+
+pub returns-in-Reuse-clause-answered : goal.returns-in-Reuse-clause-answered
+returns-in-Reuse-clause-answered g c = rw c.in-Reuse.is (c.reuse.ensures.answered c.args.bytes)

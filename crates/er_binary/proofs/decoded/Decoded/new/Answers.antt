@@ -1,7 +1,0 @@
-use Rattle.std.proofs.Common.{refl}
-use Rattle.er_binary.specs.Decoded.{to_come}
-use Rattle.er_binary.proofs.decoded.Decoded.new.Goals as goal
-
-pub returns-clause-fresh : goal.returns-clause-fresh
-unfolding to_come
-returns-clause-fresh g c = λ bytes. refl

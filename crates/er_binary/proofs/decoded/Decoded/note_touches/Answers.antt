@@ -1,0 +1,12 @@
+-- Neither what is given nor what is to be noted goes by whether it notes.
+use Rattle.std.proofs.Common.{refl}
+use Rattle.er_binary.specs.Decoded.{to_come, to_touch}
+use Rattle.er_binary.proofs.decoded.Decoded.note_touches.Goals as goal
+
+pub returns-clause-text : goal.returns-clause-text
+unfolding to_come
+returns-clause-text g c = λ bytes. refl
+
+pub returns-clause-touches : goal.returns-clause-touches
+unfolding to_touch
+returns-clause-touches g c = λ bytes. refl
