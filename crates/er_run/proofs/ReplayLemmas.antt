@@ -78,7 +78,7 @@ module _ (part : Option PartView) (limit : ℕ) (rules : List Target) (explain :
     written = written-of (λ (bytes : List ℕ). take written.0 bytes) report is written.1;
   }
 
-module _ {touches : Option (List Touch)} (part : Option PartView) (told : Option (List ℕ)) (limit : ℕ) (rules : List Target) (explain : Bool) (old new : Option (List ℕ)) (names : NameTable) (reports : Reports) (one : is_some reports.lockset ≡ true)
+module _ (touches : Option (List Touch)) (part : Option PartView) (told : Option (List ℕ)) (limit : ℕ) (rules : List Target) (explain : Bool) (old new : Option (List ℕ)) (names : NameTable) (reports : Reports) (one : is_some reports.lockset ≡ true)
     (are : IfSome told (λ text. AreReportsOfText part Lockset text touches limit rules explain names reports)) where
   whole-by : (o : Option (List ℕ)) (verdict : Verdict) → is_some reports.unordered ≡ false → IfSome o (λ text. AreReportsOfText part Lockset text touches limit rules explain names reports)
       → verdict ≡ is_verdict_of reports → IfSome reports.lockset (λ report. Appends old new (report_text names (summary report))) → IfSome o (λ text. IsReplayed part text limit rules explain old new verdict)

@@ -84,9 +84,7 @@ where
 {
     match read_request(rt.alloc(), words, on_terminal) {
         Ok(Request::Replay(asked)) => {
-            if !asked.until_fault {
-                note_touches(input, asked.analysis);
-            }
+            note_touches(input, asked.analysis.asks_order() && !asked.until_fault);
             let replayed = run_replay(rt, &asked, input, &Directly, output, progress, on_terminal);
             let status = end_replay(rt, &asked, replayed, errors);
             drop(asked);

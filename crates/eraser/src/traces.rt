@@ -14,7 +14,6 @@ pub(crate) use er_binary::Directly;
 use er_device::Device;
 use er_exit::{Fault, open_ordinary, size_of};
 use er_print::WriteFault;
-use er_report::Analysis;
 use er_request::Explain;
 use er_story::{tell_line, write_story};
 use er_text::read_trace_keyed;
@@ -38,13 +37,13 @@ pub(crate) fn open_trace<R: Files + AllocGlobal>(
     Ok(Decoded::new(rt.alloc(), file))
 }
 
-/// Has what accesses touch noted, if the analysis asks for it. Whoever reads then has it handed out now and then.
-pub(crate) fn note_touches<D>(source: &mut Device<Decoded<D>>, analysis: Analysis)
+/// Has what accesses touch noted, if that is asked for. Whoever reads then has it handed out now and then.
+pub(crate) fn note_touches<D>(source: &mut Device<Decoded<D>>, asks: bool)
     ensures text { (bytes : List ℕ) → to_come (inner_of source.new) bytes ≡ to_come (inner_of source.old) bytes }
     ensures source { source_of (inner_of source.new) ≡ source_of (inner_of source.old) }
     ensures failed { has_failed source.new ≡ has_failed source.old }
 {
-    if analysis.asks_order() {
+    if asks {
         source.inner_mut().note_touches();
     }
 }

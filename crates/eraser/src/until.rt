@@ -129,7 +129,7 @@ where
         drop(source);
         return replayed;
     }
-    note_touches(&mut source, replay.analysis);
+    note_touches(&mut source, replay.analysis.asks_order());
     let replayed = replay_from(rt, job, &mut source, &Directly, output, watcher);
     drop(source);
     match replayed {

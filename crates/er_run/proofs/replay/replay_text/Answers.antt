@@ -12,12 +12,12 @@ use Rattle.er_run.proofs.replay.replay_text.Goals as goal
 
 pub returns-in-Ok-clause-report : goal.returns-in-Ok-clause-report
 returns-in-Ok-clause-report g c =
-    whole-of c.args.options.now.part (g.D.Read.remaining (inner_of c.args.reader.now)) c.args.options.now.byte_limit (targets_of c.args.suppressions.now) c.args.options.now.explain _ _ c.in-Ok.found.trace.names c.in-Ok.found.reports
+    whole-of _ c.args.options.now.part (g.D.Read.remaining (inner_of c.args.reader.now)) c.args.options.now.byte_limit (targets_of c.args.suppressions.now) c.args.options.now.explain _ _ c.in-Ok.found.trace.names c.in-Ok.found.reports
     c.in-Ok.ensures.asked.0 c.in-Ok.ensures.reports c.write_found-verdict.result c.in-Ok.ensures.asked.1 c.write_found-verdict.ensures.verdict c.write_found-verdict.ensures.bytes
 
 pub returns-in-Ok-clause-fault : goal.returns-in-Ok-clause-fault
 returns-in-Ok-clause-fault g c =
-    failed-of c.args.options.now.part (g.D.Read.remaining (inner_of c.args.reader.now)) c.args.options.now.byte_limit (targets_of c.args.suppressions.now) c.args.options.now.explain _ _ c.in-Ok.found.trace.names c.in-Ok.found.reports
+    failed-of _ c.args.options.now.part (g.D.Read.remaining (inner_of c.args.reader.now)) c.args.options.now.byte_limit (targets_of c.args.suppressions.now) c.args.options.now.explain _ _ c.in-Ok.found.trace.names c.in-Ok.found.reports
     c.in-Ok.ensures.asked.0 c.in-Ok.ensures.reports c.write_found-verdict.result c.write_found-verdict.ensures.bytes
 
 pub returns-in-Ok-clause-nothing : goal.returns-in-Ok-clause-nothing
