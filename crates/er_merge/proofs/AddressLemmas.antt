@@ -1,5 +1,5 @@
 -- The address of a race is read back from what is printed for it, so addresses of races are in the order of their words.
-use Rattle.std.proofs.Common.{◌≡◌, ℕ, ◌+◌, ◌*◌, ◌^◌, ◌<◌, ◌≤◌, inl, inr, Bool, true, false, not, List, [], ◌∷◌, ◌++◌, Option, Some, length, filter, unwrap_or, nat_lt, nat_le, codes, decimal, refl, sym, ap, ◌∙◌, subst, append_assoc, arith}
+use Rattle.std.proofs.Common.{◌≡◌, ℕ, ◌+◌, ◌-◌, ◌*◌, ◌^◌, ◌<◌, ◌≤◌, inl, inr, Bool, true, false, not, List, [], ◌∷◌, ◌++◌, Option, Some, length, length-append, filter, take, unwrap_or, nat_lt, nat_le, codes, decimal, refl, sym, ap, ◌∙◌, subst, append_assoc, arith}
 use Rattle.std.specs.Char.{is_digit}
 use Rattle.std.specs.List.{All, list_all, slice_split}
 use Rattle.std.specs.Str.Parse.{digits_value}
@@ -10,25 +10,26 @@ use Rattle.std.proofs.lemmas.List.Folds.{list_all-append}
 use Rattle.std.proofs.lemmas.List.Splits.{slice_split-cons_no, slice_split-cons_yes}
 use Rattle.er_event.specs.declared.steps.Kind.{Kind}
 use Rattle.er_event.specs.declared.steps.Kind.TheVariants as kind
+use Rattle.er_event.specs.declared.steps.WordState.{WordState}
 use Rattle.er_lines.specs.Lines.{has_bytes, is_gap, words}
-use Rattle.er_lines.specs.Number.{hex_digits, number_at, number_of}
+use Rattle.er_lines.specs.Number.{hex_digits, number_of}
 use Rattle.er_lines.proofs.ReadyLaws.{hex_is}
 use Rattle.er_parts.specs.Merged.{deed_word, line_word}
-use Rattle.er_print.specs.Printed.{address_text, bytes_between, kind_text, locks_text, name_at, place_text, site_text}
+use Rattle.er_print.specs.Printed.{address_text, bytes_between, kind_text, locks_text, name_at, place_text, site_text, state_text}
 use Rattle.er_print.specs.Styles.{named_site}
 use Rattle.er_print.specs.declared.styles.Style.TheVariants as style
 use Rattle.er_report.specs.Lines.{LineView, RaceView, RacedView, RefusedView, ShownView}
 use Rattle.er_report.specs.declared.report.Deed.{Deed}
 use Rattle.er_report.specs.declared.report.Deed.TheVariants as deed
 use Rattle.er_trace.specs.Names.{NameTable}
-use Rattle.er_merge.specs.Lines.{address_in}
+use Rattle.er_merge.specs.Lines.{address_in, address_word}
 use Rattle.er_merge.specs.Texts.{AddressesFollow, HasPlainNames, IsRaceOfWord, LineFits, RacesAloneShare, address_of}
 use Rattle.er_merge.proofs.NumberLemmas.{digits_pass}
 use Rattle.er_merge.proofs.PlainLemmas.{printable}
 use Rattle.er_merge.proofs.ReadLemmas.{first_is, joined}
 use Rattle.er_merge.proofs.WholeLemmas.{deed_pieces}
 
-abbrev no_gap : ℕ → Bool
+abbrev pub no_gap : ℕ → Bool
 no_gap byte = not (is_gap byte)
 
 abbrev onto : ℕ → List (List ℕ) → List (List ℕ)
@@ -100,9 +101,9 @@ place_words n rest small =
     ∙ ap (λ (t : List ℕ). codes "line" ∷ words t) (append_assoc (decimal n) (codes ": ") rest ∙ sym (append_assoc (decimal n) (58 ∷ []) (32 ∷ rest)))
     ∙ ap (λ (ws : List (List ℕ)). codes "line" ∷ ws) (first_word (decimal n ++ 58 ∷ []) rest (colon_some (decimal n)) colon)
 
--- what the sixth word says
-sixth : (a b c d e f : List ℕ) (rest : List (List ℕ)) → number_at 5 (a ∷ b ∷ c ∷ d ∷ e ∷ f ∷ rest) ≡ unwrap_or (number_of f) 0
-sixth a b c d e f rest = refl
+-- what the word of the address says
+abbrev address_at : List (List ℕ) → ℕ
+address_at ws = unwrap_or (number_of (address_word ws)) 0
 
 deed_words : (names : NameTable) (race : RaceView) (d : Deed) → has_bytes (name_at names.threads race.thread) ≡ true → list_all no_gap (name_at names.threads race.thread) ≡ true → deed_word d < 2 ^ 46
     → (verb : List ℕ) × (rest : List ℕ) × (words (joined (deed_pieces names race d)) ≡ name_at names.threads race.thread ∷ verb ∷ address_text (deed_word d) ∷ words rest)
@@ -133,13 +134,47 @@ race_address names race plain fit some gap small =
     let all = place_words race.line (codes "race: " ++ deed) fit.0
     ∙ ap (λ (ws : List (List ℕ)). codes "line" ∷ (decimal race.line ++ 58 ∷ []) ∷ ws) (first_word (codes "race:") deed refl refl ∙ ap (λ (ws : List (List ℕ)). codes "race:" ∷ ws) found.2) in
     ap address_in (first_is names (RacedView race) (printable names (RacedView race) plain fit))
-    ∙ ap (number_at 5) all
+    ∙ ap address_at all
     ∙ ap (λ (n : Option ℕ). unwrap_or n 0) (address_value (deed_word race.deed) small)
 
-line_address : (names : NameTable) (line : LineView) → HasPlainNames names → LineFits line → IsRaceOfWord names line → address_of names line ≡ 4 * line_word line
+take_front : (xs ys : List ℕ) → take (length xs) (xs ++ ys) ≡ xs
+take_front [] ys = refl
+take_front (x ∷ xs) ys = ap (λ (zs : List ℕ). x ∷ zs) (take_front xs ys)
+
+without_colon : (xs : List ℕ) → take (length (xs ++ 58 ∷ []) - 1) (xs ++ 58 ∷ []) ≡ xs
+without_colon xs =
+    let long : length (xs ++ 58 ∷ []) - 1 ≡ length xs = omega (arith, length-append xs (58 ∷ [])) in
+    ap (λ (n : ℕ). take n (xs ++ 58 ∷ [])) long ∙ take_front xs (58 ∷ [])
+
+shown_address : (names : NameTable) (number word : ℕ) (state : WordState) → HasPlainNames names → LineFits (ShownView number word state) → word < 2 ^ 46
+    → address_of names (ShownView number word state) ≡ 4 * word
+shown_address names number word state plain fit small =
+    let rest : List ℕ = state_text names state ++ [] in
+    let colon : list_all no_gap (address_text word ++ 58 ∷ []) ≡ true = list_all-append no_gap (address_text word) (58 ∷ []) ∙ (rw (address_plain word small) refl) in
+    let all = place_words number (codes "state " ++ (address_text word ++ (codes ": " ++ rest))) fit.0
+    ∙ ap (λ (ws : List (List ℕ)). codes "line" ∷ (decimal number ++ 58 ∷ []) ∷ ws) (first_word (codes "state") (address_text word ++ (codes ": " ++ rest)) refl refl
+    ∙ ap (λ (t : List ℕ). codes "state" ∷ words t) (sym (append_assoc (address_text word) (58 ∷ []) (32 ∷ rest)))
+    ∙ ap (λ (ws : List (List ℕ)). codes "state" ∷ ws) (first_word (address_text word ++ 58 ∷ []) rest refl colon)) in
+    ap address_in (first_is names (ShownView number word state) (printable names (ShownView number word state) plain fit))
+    ∙ ap address_at all
+    ∙ ap (λ (w : List ℕ). unwrap_or (number_of w) 0) (without_colon (address_text word))
+    ∙ ap (λ (n : Option ℕ). unwrap_or n 0) (address_value word small)
+
+-- a line of a word that has an address
+abbrev pub IsOfWord : NameTable → LineView → Type 0
+IsOfWord names (RacedView race) = IsRaceOfWord names (RacedView race)
+IsOfWord names (RefusedView number step refusal) = ⊥
+IsOfWord names (ShownView number word state) = word < 2 ^ 46
+
+race_is : (names : NameTable) (line : LineView) → IsRaceOfWord names line → IsOfWord names line
+race_is names (RacedView race) is = is
+race_is names (RefusedView number step refusal) is = is
+race_is names (ShownView number word state) is = absurd is
+
+pub line_address : (names : NameTable) (line : LineView) → HasPlainNames names → LineFits line → IsOfWord names line → address_of names line ≡ 4 * line_word line
 line_address names (RacedView race) plain fit is = race_address names race plain fit is.0 is.1 is.2
 line_address names (RefusedView number step refusal) plain fit is = absurd is
-line_address names (ShownView number word state) plain fit is = absurd is
+line_address names (ShownView number word state) plain fit is = shown_address names number word state plain fit is
 
 four_times : (a b x y : ℕ) → a ≡ 4 * x → b ≡ 4 * y → nat_le a b ≡ nat_le x y
 four_times a b x y first second = grind (arith, nat_tests, first, second)
@@ -149,6 +184,7 @@ pub races_follow : (names : NameTable) (lines : List LineView) → HasPlainNames
 races_follow names lines plain fit races a b first second same =
     elim (races a b first second same) [
       | inl both ↦ four_times (address_of names a) (address_of names b) (line_word a) (line_word b)
-          (line_address names a plain (All-contains LineFits lines a fit first) both.0) (line_address names b plain (All-contains LineFits lines b fit second) both.1)
+          (line_address names a plain (All-contains LineFits lines a fit first) (race_is names a both.0))
+          (line_address names b plain (All-contains LineFits lines b fit second) (race_is names b both.1))
       | inr is ↦ subst (λ (c : LineView). nat_le (address_of names a) (address_of names c) ≡ nat_le (line_word a) (line_word c)) is (grind (arith, nat_tests))
     ]

@@ -24,6 +24,7 @@ pub mod TraceFaults
 pub mod TraceLines
 pub mod TraceMerged
 pub mod TraceNames
+pub mod TracePages
 pub mod TraceSteps
 pub mod WholeLemmas
 pub mod WrittenLemmas

@@ -13,7 +13,7 @@ use Rattle.er_lines.specs.Lines.{Placed, before_space, behind_space, has_bytes, 
 use Rattle.er_lines.specs.Number.{value_in}
 use Rattle.er_model.specs.Answers.{answer}
 use Rattle.er_parts.specs.Given.{is_refusal, part_report}
-use Rattle.er_parts.specs.Parts.{PartView, is_of_page, kept, takes}
+use Rattle.er_parts.specs.Parts.{PartView, is_of_page, kept, part_at, takes}
 use Rattle.er_parts.proofs.PartReport.{part-races, part-refused, part-rule_counts, part-steps, part-suppressed}
 use Rattle.er_report.specs.Report.{Summary, count_below, is_rule, matching_rule_at, report_of, rule_count}
 use Rattle.er_report.proofs.LawLemmas.{counts-sum}
@@ -148,4 +148,4 @@ module _ (r : Recording) (rules : List Target) (explain : Bool) (part : PartView
       in_sum (x ∷ xs) (suc j) = let more = in_sum xs j in omega (arith, more, sum_by-cons (λ n. n) x xs)
 
 pub part_counts_fit : (d : Divided) (i : ℕ) → IsCounted d → CountsFit (report_of_part d i)
-part_counts_fit d i counted = counts_fit d.trace d.rules d.explain (record { index = i; count = d.count }) (lost_told d.text) counted.steps counted.rules (lost_small d.text)
+part_counts_fit d i counted = counts_fit d.trace d.rules d.explain (part_at d.count i) (lost_told d.text) counted.steps counted.rules (lost_small d.text)

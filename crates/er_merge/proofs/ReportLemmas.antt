@@ -97,7 +97,7 @@ map_same : (f g : ℕ → ℕ) (xs : List ℕ) → ((x : ℕ) → f x ≡ g x) �
 map_same f g [] same = refl
 map_same f g (x ∷ xs) same = ap (λ (y : ℕ). y ∷ map f xs) (same x) ∙ ap (λ (ys : List ℕ). g x ∷ ys) (map_same f g xs same)
 
-counts_say : (names : NameTable) (reports : List Summary) (parts : List PartReport) → Say names reports parts → map (rule_sum parts) (range_with_len 0 (rules_in parts)) ≡ (merged reports).rule_counts
+pub counts_say : (names : NameTable) (reports : List Summary) (parts : List PartReport) → Say names reports parts → map (rule_sum parts) (range_with_len 0 (rules_in parts)) ≡ (merged reports).rule_counts
 counts_say names reports parts say =
     ap (λ (n : ℕ). map (rule_sum parts) (range_with_len 0 n)) (rules_say names reports parts say)
     ∙ map_same (rule_sum parts) (λ i. sum (map (λ (report : Summary). slice_index report.rule_counts i) reports)) (range_with_len 0 (rules_of reports))
@@ -126,19 +126,23 @@ report_is : (names : NameTable) (s : Summary) → report_text names s ≡ flat_m
 unfolding text_of_report
 report_is names s = refl
 
+pub merged_views : (names : NameTable) (reports : List Summary) (texts : List (List ℕ)) (m : Merged) → HasPlainNames names → ArePartTexts names reports texts → AddressesFollow names (all_lines reports)
+    → (made : Merges texts (Ok m)) → map entry_view made.2.entries ≡ flat_map (entries_of names) (in_order (all_lines reports))
+merged_views names reports texts m plain are follow made =
+    entries_in_order names (all_lines reports) (flat_map entries_in made.0) made.2.entries (entries_say names reports made.0 (all_say names reports texts made.0 plain are made.1)) made.2.order follow
+
 pub merged_text : (names : NameTable) (reports : List Summary) (texts : List (List ℕ)) (m : Merged) → HasPlainNames names → ArePartTexts names reports texts → AddressesFollow names (all_lines reports)
     → Merges texts (Ok m) → m.text.items ≡ report_text names (merged reports)
 merged_text names reports texts m plain are follow made =
     let parts = made.0 in
     let is = made.2 in
     let say = all_say names reports texts parts plain are made.1 in
-    let views = entries_in_order names (all_lines reports) (flat_map entries_in parts) is.entries (entries_say names reports parts say) is.order follow in
-    let lines = entries_again names (in_order (all_lines reports)) is.entries views in
+    let lines = entries_again names (in_order (all_lines reports)) is.entries (merged_views names reports texts m plain are follow made) in
     is.text ∙ ap (λ (t : List ℕ). t ++ end_text (kind_of parts) (sums_of parts)) lines
     ∙ ap (λ (of : ReportKind). flat_map (line_text Lockset names) (in_order (all_lines reports)) ++ end_text of (sums_of parts)) (kind_say names reports parts say)
     ∙ ap (λ (t : List ℕ). flat_map (line_text Lockset names) (in_order (all_lines reports)) ++ t) (end_say names reports parts say)
     ∙ sym (report_is names (merged reports))
 
-pub merged_races : (names : NameTable) (reports : List Summary) (texts : List (List ℕ)) (m : Merged) → HasPlainNames names → ArePartTexts names reports texts → Merges texts (Ok m) → m.races ≡ (merged reports).races
+pub merged_races : (names : NameTable) (reports : List Summary) (texts : List (List ℕ)) (m : Merged) → HasPlainNames names → ArePartTexts names reports texts → Merges texts (Ok m) → m.counts.races ≡ (merged reports).races
 merged_races names reports texts m plain are made =
-    made.2.races ∙ sums_say names (λ (c : ContentView). c.totals.races) Races (λ (s : Summary). s.races) (λ part. refl) (λ s. refl) reports made.0 (all_say names reports texts made.0 plain are made.1)
+    ap (λ (s : Summary). s.races) made.2.counts ∙ sums_say names (λ (c : ContentView). c.totals.races) Races (λ (s : Summary). s.races) (λ part. refl) (λ s. refl) reports made.0 (all_say names reports texts made.0 plain are made.1)

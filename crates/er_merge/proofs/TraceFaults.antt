@@ -7,6 +7,7 @@ use Rattle.std.proofs.lemmas.Bool.Decides.{nat_tests}
 use Rattle.std.proofs.lemmas.List.Elements.{All-head, All-tail}
 use Rattle.std.proofs.lemmas.List.Sums.{sum_by-cons}
 use Rattle.er_parts.specs.Merged.{HasEachPart, merged}
+use Rattle.er_parts.specs.Parts.{part_at}
 use Rattle.er_report.specs.Lines.{LineView}
 use Rattle.er_report.specs.Report.{Summary, count_below}
 use Rattle.er_merge.specs.Merging.{AreParts, IsGap, Merges, gap_from, is_like, number_of_parts, other_from, other_in, places_of, sum_in}
@@ -48,7 +49,7 @@ view_of d about i = record { heading = record { part = i; parts = d.count; about
 views_like : (d : Divided) (about : List ℕ) (i j : ℕ) → like_of (view_of d about i) (view_of d about j) ≡ true
 views_like d about i j =
     let rules : length (report_of_part d i).rule_counts ≡ length (report_of_part d j).rule_counts =
-    rules_are d.trace d.rules d.explain (record { index = i; count = d.count }) ∙ sym (rules_are d.trace d.rules d.explain (record { index = j; count = d.count })) in
+    rules_are d.trace d.rules d.explain (part_at d.count i) ∙ sym (rules_are d.trace d.rules d.explain (part_at d.count j)) in
     rw (same_number d.count d.count refl, same_bytes about, same_number _ _ rules) (same_number (view_of d about i).content.totals.lost (view_of d about j).content.totals.lost refl)
 
 -- each report is that of its part
@@ -163,7 +164,7 @@ module _ (d : Divided) (parts : List ℕ) (about : List ℕ) (texts : ℕ → Li
   figure_fits found (Rule j) same =
       let sums = sums_say d.trace.names (λ (c : ContentView). slice_index c.counts j) (Rule j) (λ (s : Summary). slice_index s.rule_counts j) (λ part. refl) (λ s. refl) (map (report_of_part d) parts) found (say found same) in
       let less = sum_le (λ (s : Summary). slice_index s.rule_counts j) (λ (s : Summary). s.suppressed) (report_of_part d) parts
-      (λ i. rule_below d.trace d.rules d.explain (record { index = i; count = d.count }) j) in
+      (λ i. rule_below d.trace d.rules d.explain (part_at d.count i) j) in
       let all = few _ (sum (map (λ (s : Summary). s.suppressed) (map (report_of_part d) parts))) (ap (λ (s : Summary). s.suppressed) whole_is) in
       omega (arith, sums, less, all)
 

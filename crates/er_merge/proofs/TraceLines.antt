@@ -16,8 +16,9 @@ use Rattle.er_model.specs.Answers.{answer, answer_to, answer_unless, reading_of,
 use Rattle.er_model.specs.Explanations.{first_uncovered, first_write, word_of}
 use Rattle.er_model.specs.Threads.{accepted, held, refusal}
 use Rattle.er_model.specs.Words.{Reading, cover_of, first, join}
-use Rattle.er_parts.specs.Merged.{line_number, line_word}
-use Rattle.er_report.specs.Lines.{LineView}
+use Rattle.er_parts.specs.Merged.{deed_word, line_number, line_word}
+use Rattle.er_parts.specs.Ordered.{event_word}
+use Rattle.er_report.specs.Lines.{LineView, RacedView, RefusedView, ShownView}
 use Rattle.er_report.specs.Reasons.{access_reason, reason_at, reasons_by, reasons_of, step_reason}
 use Rattle.er_report.specs.Report.{answer_line, line_at, line_of, lines_by, matching_rule_by, reasons_if, reply_line}
 use Rattle.er_report.specs.declared.report.Because.{Because}
@@ -31,11 +32,17 @@ use Rattle.er_merge.specs.Texts.{AddressesFollow, EventFits, Fits, LabelFits, Li
 use Rattle.er_merge.proofs.LockFits.{accepted_fits, cover_fits, held_fits, state_fits}
 use Rattle.er_merge.proofs.TraceSteps.{IsReuse, StepFits, line_fits, step_fits, steps_alone}
 
+-- the line tells what this thread did
+abbrev pub Tells : ℕ → Event → LineView → Type 0
+Tells t e (RacedView race) = (race.thread ≡ t) × (deed_word race.deed ≡ event_word e)
+Tells t e (RefusedView number step refusal) = Unit {0}
+Tells t e (ShownView number word state) = word ≡ event_word e
+
 -- a step's line: it has at most one, which fits; a reuse has none
-abbrev Given : ℕ → Event → List LineView → Type 0
-Given n e [] = Unit {0}
-Given n e (line ∷ []) = (line_number line ≡ n) × LineFits line × (IsReuse e → ⊥)
-Given n e (line ∷ other ∷ lines) = ⊥
+abbrev Given : ℕ → ℕ → Event → List LineView → Type 0
+Given n t e [] = Unit {0}
+Given n t e (line ∷ []) = (line_number line ≡ n) × LineFits line × (IsReuse e → ⊥) × Tells t e line
+Given n t e (line ∷ other ∷ lines) = ⊥
 
 event_fits : (e : Event) → StepFits e → EventFits e
 event_fits (Acquire l m) fit = fit
@@ -54,23 +61,23 @@ record AnswersSo (shown : ℕ → WordState) (e : Event) (a : Result Reply Refus
   show : (w : ℕ) → e ≡ Show w → a ≡ Ok (State (shown w))
 
 given_reply : (n ls t : ℕ) (locks : List ℕ) (reasons : List Because) (shown : ℕ → WordState) (e : Event) (reply : Reply) → Fits n → All Fits locks → All ReasonFits reasons → ((w : ℕ) → StateFits (shown w))
-    → AnswersSo shown e (Ok reply) → Given n e (reply_line n ls locks reasons t e reply)
-given_reply n ls t locks reasons shown (Access kind w site) Race fit held because states so = (refl, (fit, tt, held, because), λ is. let clash = is.1 in cc)
+    → AnswersSo shown e (Ok reply) → Given n t e (reply_line n ls locks reasons t e reply)
+given_reply n ls t locks reasons shown (Access kind w site) Race fit held because states so = (refl, (fit, tt, held, because), (λ is. let clash = is.1 in cc), (refl, refl))
 given_reply n ls t locks reasons shown (Reuse range) Race fit held because states so = absurd (let clash = so.reuse (range, refl) in cc)
 given_reply n ls t locks reasons shown (Show w) (State state) fit held because states so =
     let is = so.show w refl in
     let same : shown w ≡ state = cc in
-    (refl, (fit, subst StateFits same (states w)), λ is. let clash = is.1 in cc)
+    (refl, (fit, subst StateFits same (states w)), (λ is. let clash = is.1 in cc), refl)
 given_reply n ls t locks reasons shown e reply fit held because states so = tt
 
 given_answer : (n ls : ℕ) (locks : List ℕ) (reasons : List Because) (shown : ℕ → WordState) (step : Step) (a : Result Reply Refusal) → Fits n → All Fits locks → All ReasonFits reasons → ((w : ℕ) → StateFits (shown w))
-    → StepFits step.event → AnswersSo shown step.event a → Given n step.event (answer_line n ls locks reasons step a)
+    → StepFits step.event → AnswersSo shown step.event a → Given n step.thread step.event (answer_line n ls locks reasons step a)
 given_answer n ls locks reasons shown step (Ok reply) fit held because states good so = given_reply n ls step.thread locks reasons shown step.event reply fit held because states so
-given_answer n ls locks reasons shown step (Err why) fit held because states good so = (refl, (fit, event_fits step.event good), λ is. let clash = so.reuse is in cc)
+given_answer n ls locks reasons shown step (Err why) fit held because states good so = (refl, (fit, event_fits step.event good), (λ is. let clash = so.reuse is in cc), tt)
 
-given_unless : (n : ℕ) (e : Event) (b : Bool) (lines : List LineView) → Given n e lines → Given n e (cond b [] lines)
-given_unless n e true lines given = tt
-given_unless n e false lines given = given
+given_unless : (n t : ℕ) (e : Event) (b : Bool) (lines : List LineView) → Given n t e lines → Given n t e (cond b [] lines)
+given_unless n t e true lines given = tt
+given_unless n t e false lines given = given
 
 -- the answer to a step, by what it is
 answer_is : (steps : List Step) (k : ℕ) (step : Step) → slice_get steps k ≡ Some step
@@ -139,7 +146,7 @@ module _ (text : List ℕ) (limit : ℕ) (t : Recording) (is : IsTrace text limi
     abbrev pub piece : ℕ → List LineView
     piece k = cond (is_some (matching_rule_by (answer t.steps) t rules k)) [] (line_at (answer t.steps) (reasons_if explain t) t k)
 
-    piece_of : (k : ℕ) (step : Step) → slice_get t.steps k ≡ Some step → Given (slice_index t.lines k) step.event (line_of (answer t.steps) (reasons_if explain t) t k (Some step))
+    piece_of : (k : ℕ) (step : Step) → slice_get t.steps k ≡ Some step → Given (slice_index t.lines k) step.thread step.event (line_of (answer t.steps) (reasons_if explain t) t k (Some step))
     piece_of k step there =
         given_answer (slice_index t.lines k) (slice_index t.sites k) (held (accepted t.steps k) step.thread) (reasons_if explain t k) (λ w. state_at t.steps w k) step (answer t.steps k)
         (line_fits text limit t is short k step there) (held_fits (accepted t.steps k) step.thread (accepted_fits t.steps good k)) (reasons_fit explain k)
@@ -147,18 +154,19 @@ module _ (text : List ℕ) (limit : ℕ) (t : Recording) (is : IsTrace text limi
 
     -- a line of the report, with the step that it tells of
     pub record IsLine (line : LineView) : Type 0 where
-      at : ℕ
-      step : Step
-      there : slice_get t.steps at ≡ Some step
-      alone : piece at ≡ line ∷ []
-      number : line_number line ≡ slice_index t.lines at
-      fits : LineFits line
-      no_reuse : IsReuse step.event → ⊥
+      pub at : ℕ
+      pub step : Step
+      pub there : slice_get t.steps at ≡ Some step
+      pub alone : piece at ≡ line ∷ []
+      pub number : line_number line ≡ slice_index t.lines at
+      pub fits : LineFits line
+      pub no_reuse : IsReuse step.event → ⊥
+      pub tells : Tells step.thread step.event line
 
-    lines_given : (k : ℕ) (step : Step) (lines : List LineView) → slice_get t.steps k ≡ Some step → piece k ≡ lines → Given (slice_index t.lines k) step.event lines → All IsLine lines
+    lines_given : (k : ℕ) (step : Step) (lines : List LineView) → slice_get t.steps k ≡ Some step → piece k ≡ lines → Given (slice_index t.lines k) step.thread step.event lines → All IsLine lines
     lines_given k step [] there same given = All-nil IsLine
     lines_given k step (line ∷ []) there same given =
-        All-cons IsLine line [] (record { at = k; step = step; there = there; alone = same; number = given.0; fits = given.1; no_reuse = given.2 }) (All-nil IsLine)
+        All-cons IsLine line [] (record { at = k; step = step; there = there; alone = same; number = given.0; fits = given.1; no_reuse = given.2; tells = given.3 }) (All-nil IsLine)
     lines_given k step (line ∷ other ∷ lines) there same given = absurd given
 
     piece_by : (k : ℕ) (o : Option Step) → slice_get t.steps k ≡ o → All IsLine (piece k)
@@ -170,9 +178,9 @@ module _ (text : List ℕ) (limit : ℕ) (t : Recording) (is : IsTrace text limi
         no_lines true = All-nil IsLine
         no_lines false = All-nil IsLine
     piece_by k (Some step) there =
-        let given : Given (slice_index t.lines k) step.event (piece k) =
-        subst (λ (o : Option Step). Given (slice_index t.lines k) step.event (cond (is_some (matching_rule_by (answer t.steps) t rules k)) [] (line_of (answer t.steps) (reasons_if explain t) t k o))) (sym there)
-        (given_unless (slice_index t.lines k) step.event (is_some (matching_rule_by (answer t.steps) t rules k)) (line_of (answer t.steps) (reasons_if explain t) t k (Some step)) (piece_of k step there)) in
+        let given : Given (slice_index t.lines k) step.thread step.event (piece k) =
+        subst (λ (o : Option Step). Given (slice_index t.lines k) step.thread step.event (cond (is_some (matching_rule_by (answer t.steps) t rules k)) [] (line_of (answer t.steps) (reasons_if explain t) t k o))) (sym there)
+        (given_unless (slice_index t.lines k) step.thread step.event (is_some (matching_rule_by (answer t.steps) t rules k)) (line_of (answer t.steps) (reasons_if explain t) t k (Some step)) (piece_of k step there)) in
         lines_given k step (piece k) there refl given
 
     pub all_lines_given : (n : ℕ) → All IsLine (lines_by (answer t.steps) (reasons_if explain t) t rules n)

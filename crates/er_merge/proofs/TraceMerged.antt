@@ -6,7 +6,8 @@ use Rattle.er_parts.specs.Given.{part_report}
 use Rattle.er_parts.specs.Merged.{HasEachPart, in_order, may_precede, merged, put}
 use Rattle.er_parts.proofs.Reasons.{same-reasons}
 use Rattle.er_parts.proofs.TextOrder.{trace-ordered}
-use Rattle.er_parts.proofs.Whole.{merged-is, part_at}
+use Rattle.er_parts.proofs.Whole.{merged-is}
+use Rattle.er_parts.specs.Parts.{part_at}
 use Rattle.er_print.specs.Printed.{report_text}
 use Rattle.er_report.specs.Lines.{LineView}
 use Rattle.er_report.specs.Report.{Summary, answered_steps}
@@ -58,7 +59,7 @@ merged_told lost s reports =
 
 -- the report of a part, but for the lost events
 abbrev plain_report : Divided → ℕ → Summary
-plain_report d i = part_report (Some (record { index = i; count = d.count })) d.trace d.rules d.explain
+plain_report d i = part_report (Some (part_at d.count i)) d.trace d.rules d.explain
 
 told_reports : (d : Divided) (lost : Option ℕ) (parts : List ℕ) → map (λ i. told_by lost (plain_report d i)) parts ≡ map (told_by lost) (map (plain_report d) parts)
 told_reports d lost [] = refl
@@ -99,7 +100,7 @@ module _ (d : Divided) (parts : List ℕ) (about texts : ℕ → List ℕ) (are 
       ap merged (told_reports d (whole_report d).lost parts) ∙ told_all d (whole_report d).lost parts are.each are.some
       ∙ ap (told_by (whole_report d).lost) (merged-is d.trace d.rules d.explain d.count parts are.each are.some (trace-ordered d.text are.limit d.trace are.trace) (λ i. same-reasons (part_at d.count i) d.trace d.rules d.explain))
 
-  whole_lines : All IsOne (whole_report d).lines
+  pub whole_lines : All IsOne (whole_report d).lines
   whole_lines = all_lines_given d.text are.limit d.trace are.trace are.counted.bytes d.rules d.explain (length (answered_steps d.trace.steps None))
 
   pub lines_are : All IsOne (all_lines (map (report_of_part d) parts))
@@ -127,7 +128,7 @@ module _ (d : Divided) (parts : List ℕ) (about texts : ℕ → List ℕ) (are 
   pub texts_are : ArePartTexts d.trace.names (map (report_of_part d) parts) (map texts parts)
   texts_are = texts_by parts are.printed lines_are
 
-  pub trace_merged : (made : Merged) → Merges (map texts parts) (Ok made) → (made.text.items ≡ report_text d.trace.names (whole_report d)) × (made.races ≡ (whole_report d).races)
+  pub trace_merged : (made : Merged) → Merges (map texts parts) (Ok made) → (made.text.items ≡ report_text d.trace.names (whole_report d)) × (made.counts.races ≡ (whole_report d).races)
   trace_merged made merges =
       let follow = lines_follow d.text are.limit d.trace are.trace are.counted.bytes d.rules d.explain d.trace.names (all_lines (map (report_of_part d) parts)) lines_are in (
         merged_text d.trace.names (map (report_of_part d) parts) (map texts parts) made plain texts_are follow merges ∙ ap (report_text d.trace.names) whole,

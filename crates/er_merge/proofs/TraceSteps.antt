@@ -1,5 +1,5 @@
 -- The steps of a trace, by its lines: which numbers they have, and which steps are of one line.
-use Rattle.std.proofs.Common.{◌≡◌, ◌⊎◌, ℕ, zero, suc, ◌+◌, ◌-◌, ◌<◌, ◌≤◌, Bool, true, false, cond, List, [], ◌∷◌, ◌++◌, filter, length, length-append, get_or, slice_get, slice_index, Some, Ok, refl, sym, ap, subst, ◌∙◌, inl, inr, ⊎_elim, arith}
+use Rattle.std.proofs.Common.{◌≡◌, ◌⊎◌, ℕ, zero, suc, ◌+◌, ◌-◌, ◌*◌, ◌/◌, ◌^◌, ◌<◌, ◌≤◌, Bool, true, false, cond, List, [], ◌∷◌, ◌++◌, filter, length, length-append, get_or, slice_get, slice_index, Some, Ok, refl, sym, ap, subst, ◌∙◌, inl, inr, ⊎_elim, arith}
 use Rattle.std.specs.List.{All, Contains}
 use Rattle.std.proofs.lemmas.List.Elements.{All-contains, All-filter, All-tail}
 use Rattle.std.proofs.lemmas.List.{get_or_append_left}
@@ -102,7 +102,7 @@ pub record IsTold (v : Version) (events : List Placed) (names : NameTable) (step
   there : Contains events at
   number : line ≡ at.number
   site : ℕ
-  told : IsToldBy v names step site at
+  pub told : IsToldBy v names step site at
 
 told_at : (v : Version) (events : List Placed) (names : NameTable) (steps : List Step) (lines sites : List ℕ) (k : ℕ) (step : Step) → AreNamed v events names steps lines sites → slice_get steps k ≡ Some step
     → IsTold v events names step (slice_index lines k)
@@ -119,22 +119,25 @@ told_at v events names (s ∷ steps) (line ∷ lines) (site ∷ sites) (suc k) s
 abbrev pub StepFits : Event → Type 0
 StepFits (event.Acquire lock m) = Fits lock
 StepFits (event.Release lock m) = Fits lock
-StepFits (event.Access k w site) = Unit {0}
+StepFits (event.Access k w site) = w < 2 ^ 46
 StepFits (event.Reuse range) = Unit {0}
 StepFits event.IgnoreOn = Unit {0}
 StepFits event.IgnoreOff = Unit {0}
-StepFits (event.Show w) = Unit {0}
+StepFits (event.Show w) = w < 2 ^ 46
 StepFits (event.Level n) = n ≤ 31
 StepFits (event.Sync sync) = Unit {0}
+
+word_fits : (w n : ℕ) → n < 2 ^ 48 → w ≡ n / 4 → w < 2 ^ 46
+word_fits w n small is = let four : 2 ^ 48 ≡ 2 ^ 46 * 4 = refl in omega (arith, small, is, four)
 
 done_fits : (v : Version) (names : NameTable) (ws : List (List ℕ)) (thread : List ℕ) (op : Operation) (e : Event) → Fits (length names.locks) → IsOperation v ws thread op → Does names op e → StepFits e
 done_fits v names ws thread (Acquires lock m) e few says does = subst StepFits (sym does.1) (let within = slice_get_within names.locks does.0 lock does.2 in omega (arith, few, within))
 done_fits v names ws thread (Releases lock m) e few says does = subst StepFits (sym does.1) (let within = slice_get_within names.locks does.0 lock does.2 in omega (arith, few, within))
-done_fits v names ws thread (Accesses k w site) e few says does = subst StepFits (sym does.1) tt
+done_fits v names ws thread (Accesses k w site) e few says does = subst StepFits (sym does.1) (word_fits w says.1 says.5 says.6)
 done_fits v names ws thread (Reuses run site) e few says does = subst StepFits (sym does.1) tt
 done_fits v names ws thread IgnoresOn e few says does = subst StepFits (sym does) tt
 done_fits v names ws thread IgnoresOff e few says does = subst StepFits (sym does) tt
-done_fits v names ws thread (Shows w) e few says does = subst StepFits (sym does) tt
+done_fits v names ws thread (Shows w) e few says does = subst StepFits (sym does) (word_fits w says.1 says.4 says.5)
 done_fits v names ws thread (Levels n) e few says does = subst StepFits (sym does) says.3
 done_fits v names ws thread (Starts other) e few says does = subst StepFits (sym does.1) tt
 done_fits v names ws thread (Joins other) e few says does = subst StepFits (sym does.1) tt
@@ -171,7 +174,7 @@ same_said v p q s r same first second =
     let both : Ok s ≡ Ok r = sym first ∙ ap (λ (x : Placed). parsed_of v (words x.line.bytes)) same ∙ second in cc
 
 module _ (text : List ℕ) (limit : ℕ) (t : Recording) (is : IsTrace text limit t) where
-  told : (k : ℕ) (step : Step) → slice_get t.steps k ≡ Some step → IsTold is.version is.events t.names step (slice_index t.lines k)
+  pub told : (k : ℕ) (step : Step) → slice_get t.steps k ≡ Some step → IsTold is.version is.events t.names step (slice_index t.lines k)
   told k step there = told_at is.version is.events t.names t.steps t.lines t.sites k step (trace_named text limit t is) there
 
   pub step_fits : Fits (length text) → (k : ℕ) (step : Step) → slice_get t.steps k ≡ Some step → StepFits step.event

@@ -47,6 +47,6 @@ module _ (d : Divided) (limit : ℕ) (heading : PartHeading) (parts : List ℕ) 
   }
 
   pub written_merged : (result : Result Merged MergeFault) → Merges (map (written_part d heading) parts) result
-      → MatchResult result (λ made. (made.text.items ≡ report_text d.trace.names (whole_report d)) × (made.races ≡ (whole_report d).races)) (λ fault. fault ≡ Memory)
+      → MatchResult result (λ made. (made.text.items ≡ report_text d.trace.names (whole_report d)) × (made.counts.races ≡ (whole_report d).races)) (λ fault. fault ≡ Memory)
   written_merged (Ok made) merges = trace_merged d parts (λ (i : ℕ). about_text heading) (written_part d heading) texts_so made merges
   written_merged (Err fault) merges = memory_alone d parts (about_text heading) (written_part d heading) texts_so fault merges

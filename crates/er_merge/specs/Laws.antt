@@ -1,5 +1,5 @@
 -- The laws that tie merged texts to merged reports, and these to the report of a trace.
-use Rattle.std.specs.Prelude.{◌≡◌, ℕ, ◌*◌, ◌≤◌, All, List, Result, Ok, Err, MatchResult, length, map}
+use Rattle.std.specs.Prelude.{◌≡◌, ℕ, ◌*◌, ◌≤◌, All, Bool, List, Some, Result, Ok, Err, MatchResult, length, map}
 use Rattle.std.specs.List.{range_with_len}
 use Rattle.std.specs.List.Sorted.{IsPermutation}
 use Rattle.er_merge.specs.Headings.{about_text}
@@ -12,10 +12,12 @@ use Rattle.er_merge.specs.declared.faults.MergeFault.{MergeFault}
 use Rattle.er_merge.specs.declared.faults.MergeFault.TheVariants.{Line, Memory}
 use Rattle.er_merge.specs.declared.headings.PartHeading.{PartHeading}
 use Rattle.er_merge.specs.declared.merging.Merged.{Merged}
+use Rattle.er_parts.specs.Given.{counted_as, part_report}
 use Rattle.er_parts.specs.Merged.{merged}
 use Rattle.er_print.specs.Printed.{report_text}
 use Rattle.er_report.specs.Lines.{LineView}
-use Rattle.er_report.specs.Report.{Summary}
+use Rattle.er_report.specs.Report.{Summary, told}
+use Rattle.er_text.specs.Ending.{lost_told}
 use Rattle.er_text.specs.Trace.{IsTrace}
 use Rattle.er_trace.specs.Names.{NameTable}
 use Rattle.er_trace.specs.Trace.{Recording}
@@ -34,7 +36,7 @@ TextsHaveNoFault = (names : NameTable) (reports : List Summary) (texts : List (L
 abbrev pub TextsMergeAsReports : Type 0
 TextsMergeAsReports = (names : NameTable) (reports : List Summary) (texts : List (List ℕ)) (made : Merged) → HasPlainNames names
     → ArePartTexts names reports texts → AddressesFollow names (all_lines reports) → Merges texts (Ok made)
-    → (made.text.items ≡ report_text names (merged reports)) × (made.races ≡ (merged reports).races)
+    → (made.text.items ≡ report_text names (merged reports)) × (made.counts.races ≡ (merged reports).races)
 
 -- it is enough that races alone have one number together
 abbrev pub AddressesFollowWords : Type 0
@@ -43,7 +45,13 @@ AddressesFollowWords = (names : NameTable) (lines : List LineView) → HasPlainN
 -- what is merged of the texts of all parts of a trace is what is printed for the report of the trace, with its number of races
 abbrev pub PartsMakeTheText : Type 0
 PartsMakeTheText = (d : Divided) (parts : List ℕ) (about texts : ℕ → List ℕ) (made : Merged) → AreTextsOfParts d parts about texts → Merges (map texts parts) (Ok made)
-    → (made.text.items ≡ report_text d.trace.names (whole_report d)) × (made.races ≡ (whole_report d).races)
+    → (made.text.items ≡ report_text d.trace.names (whole_report d)) × (made.counts.races ≡ (whole_report d).races)
+
+-- and the part that has the pages of the lines of that text reports of the trace what it has as a whole, with reasons or without, but for the counts, which
+-- the text has
+abbrev pub PagesMakeTheReport : Type 0
+PagesMakeTheReport = (d : Divided) (parts : List ℕ) (about texts : ℕ → List ℕ) (made : Merged) (explain : Bool) → AreTextsOfParts d parts about texts → Merges (map texts parts) (Ok made)
+    → (made.pages.index ≡ 1) × (counted_as (told made.counts) (record (part_report (Some made.pages) d.trace d.rules explain) { lost = lost_told d.text }) ≡ whole_report (record d { explain = explain }))
 
 -- and if all say the same of the trace, nothing but memory can be wanting
 abbrev pub PartsAreMerged : Type 0
@@ -59,7 +67,7 @@ PartsAreWrittenSo = (d : Divided) (heading : PartHeading) (i : ℕ) → IsHeadin
 abbrev pub WrittenPartsAreMerged : Type 0
 WrittenPartsAreMerged = (d : Divided) (limit : ℕ) (heading : PartHeading) (parts : List ℕ) (result : Result Merged MergeFault) → IsTrace d.text limit d.trace → IsCounted d
     → IsHeadingOf d heading → 1 ≤ d.count → IsPermutation (range_with_len 1 d.count) parts → Merges (map (written_part d heading) parts) result
-    → MatchResult result (λ made. (made.text.items ≡ report_text d.trace.names (whole_report d)) × (made.races ≡ (whole_report d).races)) (λ fault. fault ≡ Memory)
+    → MatchResult result (λ made. (made.text.items ≡ report_text d.trace.names (whole_report d)) × (made.counts.races ≡ (whole_report d).races)) (λ fault. fault ≡ Memory)
 
 -- numbers of 64 bits count the steps of each trace whose text has fewer than 2 ^ 53 bytes
 abbrev pub TracesHaveFewSteps : Type 0

@@ -1,10 +1,11 @@
 -- What a line of a report is, by its bytes.
-use Rattle.std.specs.Prelude.{ℕ, ◌||◌, ◌&&◌, Bool, true, false, not, List, [], ◌∷◌, Option, Some, None, length, take, drop, codes, nat_eq, nat_le, option_map, if◌then◌else◌}
+use Rattle.std.specs.Prelude.{ℕ, ◌-◌, ◌||◌, ◌&&◌, Bool, true, false, not, List, [], ◌∷◌, Option, Some, None, length, take, drop, codes, nat_eq, nat_le, option_map, unwrap_or, if◌then◌else◌}
 use Rattle.std.specs.List.{position_or_len, starts_with}
 use Rattle.std.specs.Option.{option_and_then}
 use denote.Ref.{Bor}
-use Rattle.er_lines.specs.Lines.{words}
-use Rattle.er_lines.specs.Number.{number_at, value_in}
+use Rattle.std.specs.Str.{bytes_eq}
+use Rattle.er_lines.specs.Lines.{word_at, words}
+use Rattle.er_lines.specs.Number.{number_of, value_in}
 use Rattle.er_merge.specs.declared.lines.ReportLine.{ReportLine}
 use Rattle.er_merge.specs.declared.lines.ReportLine.TheVariants as is
 use Rattle.er_merge.specs.declared.lines.Totals.{Totals}
@@ -36,9 +37,13 @@ is_step rest =
     starts_with nat_eq rest (codes ": race: ") || starts_with nat_eq rest (codes ": unordered: ")
     || starts_with nat_eq rest (codes ": refused: ") || starts_with nat_eq rest (codes ": state ")
 
--- the address of the word of a race, which is the sixth word of its line
+-- the word that is an address: the sixth of the line of a race, and the fourth of that of a state, without its colon
+abbrev pub address_word : List (List ℕ) → List ℕ
+address_word words = if bytes_eq (word_at 2 words) (codes "state") then take (length (word_at 3 words) - 1) (word_at 3 words) else word_at 5 words
+
+-- the address, or 0
 abbrev pub address_in : List ℕ → ℕ
-address_in text = number_at 5 (words text)
+address_in text = unwrap_or (number_of (address_word (words text))) 0
 
 -- a line that names this line of the trace, and what follows the name
 abbrev pub step_line : ℕ → List ℕ → List ℕ → ReportLine

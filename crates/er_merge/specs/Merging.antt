@@ -1,5 +1,5 @@
 -- The one report of a trace, by the reports of its parts.
-use Rattle.std.specs.Prelude.{◌≡◌, ℕ, ◌+◌, ◌-◌, ◌^◌, ◌<◌, ◌≤◌, ◌&&◌, Bool, true, false, List, [], ◌∷◌, ◌++◌, Option, Some, None, Result, Ok, Err, length, map, take, flat_map, nat_eq, nat_lt, nat_le, slice_index, slice_index_or, if◌then◌else◌}
+use Rattle.std.specs.Prelude.{◌≡◌, ℕ, ◌+◌, ◌-◌, ◌/◌, ◌^◌, ◌<◌, ◌≤◌, ◌&&◌, All, Bool, true, false, List, [], ◌∷◌, ◌++◌, Option, Some, None, Result, Ok, Err, length, map, take, flat_map, nat_eq, nat_lt, nat_le, slice_index, slice_index_or, if◌then◌else◌}
 use Rattle.std.specs.Bool.{beq}
 use Rattle.std.specs.List.{range_with_len, sum_by}
 use Rattle.std.specs.List.Sorted.{IsNonDecreasing, IsPermutation, IsSorted, IsStable}
@@ -7,6 +7,7 @@ use Rattle.std.specs.Ordering.{nat_cmp, ordering_then}
 use Rattle.std.specs.Str.{bytes_eq}
 use Rattle.std.specs.declared.cmp.Ordering.{Ordering}
 use Rattle.std.specs.declared.vec.Vec.{Vec}
+use Rattle.er_parts.specs.Parts.{PartView, has_page}
 use Rattle.er_print.specs.Printed.{end_text}
 use Rattle.er_print.specs.declared.lines.ReportKind.{ReportKind}
 use Rattle.er_print.specs.declared.lines.ReportKind.TheVariants.{Lockset, Unordered}
@@ -176,20 +177,31 @@ pub record IsInOrder (old new : List Entry) : Type 0 where
 abbrev pub text_of_entries : List Entry → ReportKind → Report → List ℕ
 text_of_entries entries of end = flat_map entry_text entries ++ end_text of (told end)
 
--- the text of the reports' lines in their order, and then of this end
-pub record GivesText (parts : List PartReport) (end : Report) (text : List ℕ) : Type 0 where
+-- the page of the word of a line
+abbrev pub page_at : Entry → ℕ
+page_at entry = entry.place.address / 4096
+
+-- the part has the pages of these lines, and the events that are of no page
+abbrev pub HasPagesOf : List Entry → PartView → Type 0
+HasPagesOf entries part = (part.index ≡ 1) × All (λ page. has_page part page ≡ true) (map page_at entries)
+
+-- the text of the reports' lines in their order, and then of this end, and the part that has their pages
+pub record GivesText (parts : List PartReport) (end : Report) (text : List ℕ) (part : PartView) : Type 0 where
   pub entries : List Entry
   pub order : IsInOrder (flat_map entries_in parts) entries
   pub is : text ≡ text_of_entries entries (kind_of parts) end
+  pub pages : HasPagesOf entries part
 
--- each part is there once, all are of one trace, and this is the text of their lines in their order, and then of their sums
+-- each part is there once, all are of one trace, and this is the text of their lines in their order, and then of their sums; and these sums and the part
+-- that has the lines' pages are told
 pub record IsMerged (parts : List PartReport) (merged : Merged) : Type 0 where
   pub like : other_in parts ≡ None
   pub each : IsGap (number_of_parts parts) (places_of parts) None
   pub entries : List Entry
   pub order : IsInOrder (flat_map entries_in parts) entries
   pub text : merged.text.items ≡ flat_map entry_text entries ++ end_text (kind_of parts) (sums_of parts)
-  pub races : merged.races ≡ sum_in parts Races
+  pub counts : told merged.counts ≡ sums_of parts
+  pub pages : HasPagesOf entries merged.pages
 
 -- why these reports make no one report
 abbrev pub Refuses : List PartReport → MergeFault → Type 0

@@ -7,6 +7,7 @@ use Rattle.er_merge.specs.Parts.{heading_in}
 use Rattle.er_merge.specs.declared.headings.PartHeading.{PartHeading}
 use Rattle.er_parts.specs.Given.{part_report}
 use Rattle.er_parts.specs.Merged.{HasEachPart}
+use Rattle.er_parts.specs.Parts.{part_at}
 use Rattle.er_print.specs.Printed.{report_text}
 use Rattle.er_report.specs.Report.{Summary, report_of}
 use Rattle.er_rules.specs.Rules.{Target}
@@ -28,7 +29,7 @@ whole_report d = record (report_of d.trace d.rules d.explain None) { lost = lost
 
 -- and that of the part of this number
 abbrev pub report_of_part : Divided → ℕ → Summary
-report_of_part d i = record (part_report (Some (record { index = i; count = d.count })) d.trace d.rules d.explain) { lost = lost_told d.text }
+report_of_part d i = record (part_report (Some (part_at d.count i)) d.trace d.rules d.explain) { lost = lost_told d.text }
 
 -- a first line that names the part and says this of the trace, and then what is printed for the report of the part
 pub record IsTextOfPart (d : Divided) (i : ℕ) (about : List ℕ) (text : List ℕ) : Type 0 where

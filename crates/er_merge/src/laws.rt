@@ -1,5 +1,5 @@
 //! The laws of merged reports: each function does nothing, and its contract is proved of the definitions.
-ghost use Rattle.er_merge.specs.Laws.{AddressesFollowWords, PartsAreMerged, PartsAreWrittenSo, PartsMakeTheText, ReportsAreReadBack, TextsHaveNoFault, TextsMergeAsReports, TracesHaveFewSteps, WrittenPartsAreMerged};
+ghost use Rattle.er_merge.specs.Laws.{AddressesFollowWords, PagesMakeTheReport, PartsAreMerged, PartsAreWrittenSo, PartsMakeTheText, ReportsAreReadBack, TextsHaveNoFault, TextsMergeAsReports, TracesHaveFewSteps, WrittenPartsAreMerged};
 
 /// What is printed for a part's report, behind a first line, is read back as the report.
 pub fn a_report_is_read_back()
@@ -26,6 +26,12 @@ pub fn addresses_follow_words()
 pub fn parts_of_a_trace_make_its_report()
     ensures text { PartsMakeTheText }
     ensures merged { PartsAreMerged }
+{}
+
+/// A replay of the trace that keeps the pages of the merged text's lines alone, with the counts of that text, makes the report of the whole trace: with
+/// reasons or without, whatever the texts of the parts have.
+pub fn pages_of_the_lines_make_its_report()
+    ensures { PagesMakeTheReport }
 {}
 
 /// The first line of each part, as `put_heading` writes it, and then the report of the part are such a text, and all of them say the same of the trace.

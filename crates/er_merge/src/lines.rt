@@ -1,13 +1,13 @@
 //! What a line of a report is.
 ghost use Rattle.std.specs.Prelude.{◌≡◌, ◌≤◌, length};
 ghost use Rattle.std.specs.List.{position_or_len};
+ghost use Rattle.er_lines.specs.Lines.{words};
 ghost use Rattle.er_lines.specs.Words.{seen_name};
-ghost use Rattle.er_merge.specs.Lines.{address_in, behind, count_line, is_no_digit, is_step, lost_in, number_behind, number_in_front, races_label, report_line, seen_number, step_line, totals_in, totals_line};
+ghost use Rattle.er_merge.specs.Lines.{address_in, address_word, behind, count_line, is_no_digit, is_step, lost_in, number_behind, number_in_front, races_label, report_line, seen_number, step_line, totals_in, totals_line};
 
 use er_lines::{number_of, split_words, value_in};
 
-/// Where a line belongs among those of the whole report: the line of the trace that it names, and the address of its word. An address is asked for only
-/// if several lines name one line of the trace.
+/// Where a line belongs among those of the whole report: the line of the trace that it names, and the address of its word.
 #[derive(Clone, Copy, Drop)]
 pub struct Place {
     /// The line of the trace, from 1.
@@ -93,7 +93,17 @@ fn is_step(rest: &[u8]) -> bool
 fn address_in(text: &[u8]) -> u64
     ensures { result ≡ address_in text.now }
 {
-    number_of(split_words(text).sixth).unwrap_or(0)
+    number_of(address_word(text)).unwrap_or(0)
+}
+
+fn address_word(text: &[u8]) -> &[u8]
+    ensures { result.now ≡ address_word (words text.now) }
+{
+    let words = split_words(text);
+    if words.third == b"state".as_slice() {
+        return &words.fourth[..words.fourth.len().saturating_sub(1)];
+    }
+    words.sixth
 }
 
 fn count_line(number: u64, rest: &[u8]) -> ReportLine

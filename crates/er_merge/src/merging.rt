@@ -1,24 +1,30 @@
 //! The one report of a trace, of the reports of its parts.
 ghost use Rattle.std.specs.Prelude.{◌≡◌, [], ◌∷◌, ◌++◌, None, IfOk, OnOk, flat_map, map, vec_items};
 ghost use Rattle.std.specs.List.{range_with_len};
-ghost use Rattle.er_merge.specs.Merging.{Sums, GivesSums, EndsAs, GivesText, IsInOrder, IsGap, Merges, MergesParts, ReadsAll, entries_in, entry_text, figure_of, gap_from, is_like, kind_of, lost_of, number_of_parts, other_in, place_order, places_of, rule_sum, rules_in, sums_of, text_of_entries};
+ghost use Rattle.er_merge.specs.Merging.{Sums, GivesSums, EndsAs, GivesText, HasPagesOf, IsInOrder, IsGap, Merges, MergesParts, ReadsAll, entries_in, entry_text, figure_of, gap_from, is_like, kind_of, lost_of, number_of_parts, other_in, place_order, places_of, rule_sum, rules_in, sums_of, text_of_entries};
 ghost use Rattle.er_report.specs.Report.{told};
 ghost use Rattle.er_merge.specs.declared.faults.MergeFault.TheVariants.{Memory};
 
 use crate::faults::MergeFault;
 use crate::parts::{Entry, PartReport, read_part};
+use er_parts::Part;
 use er_print::{ReportKind, put_end};
 use er_report::Report;
 use std::alloc::{AllocError, Global};
 use std::cmp::Ordering;
+
+// How many bytes a page has.
+const PAGE: u64 = 4096;
 
 /// The one report.
 #[derive(Drop)]
 pub struct Merged {
     /// Its text.
     pub text: Vec<u8>,
-    /// How many races it has.
-    pub races: u64,
+    /// What it counts, without its lines.
+    pub counts: Report,
+    /// The part of the trace that has the pages of its lines.
+    pub pages: Part,
 }
 
 impl From<AllocError> for MergeFault {
@@ -90,12 +96,16 @@ fn merge_with(alloc: Global, parts: &[PartReport<'_>], end: Report) -> Result<Me
     requires end { told end ≡ sums_of parts.now }
     ensures { MergesParts parts.now result }
 {
-    let text = text_of(alloc, parts, &end);
-    let races = end.races;
-    drop(end);
-    match text {
-        Ok(text) => Ok(Merged { text, races }),
-        Err(_) => Err(MergeFault::Memory),
+    match text_of(alloc, parts, &end) {
+        Ok((text, pages)) => Ok(Merged {
+            text,
+            counts: end,
+            pages,
+        }),
+        Err(_) => {
+            drop(end);
+            Err(MergeFault::Memory)
+        }
     }
 }
 
@@ -275,14 +285,31 @@ fn kind_of(parts: &[PartReport<'_>]) -> ReportKind
     }
 }
 
-// The text of the lines of all, and of this end.
-fn text_of(alloc: Global, parts: &[PartReport<'_>], end: &Report) -> Result<Vec<u8>, AllocError>
-    ensures { IfOk result (λ text. GivesText parts.now end.now text.items) }
+// The text of the lines of all, and of this end, and the part that has their pages.
+fn text_of(
+    alloc: Global,
+    parts: &[PartReport<'_>],
+    end: &Report,
+) -> Result<(Vec<u8>, Part), AllocError>
+    ensures { IfOk result (λ made. GivesText parts.now end.now made.0.items made.1) }
 {
     let entries = entries_of(alloc, parts)?;
+    let pages = pages_of(alloc, &entries)?;
     let text = text_with(alloc, &entries, kind_of(parts), end);
     drop(entries);
-    text
+    Ok((text?, pages))
+}
+
+fn pages_of(alloc: Global, entries: &[Entry<'_>]) -> Result<Part, AllocError>
+    ensures { IfOk result (HasPagesOf entries.now) }
+{
+    let pages: Vec<u64> = entries
+        .iter()
+        .map(|entry| entry.place.address / PAGE)
+        .collect(alloc)?;
+    let part = Part::of_pages(&pages);
+    drop(pages);
+    Ok(part)
 }
 
 fn text_with(

@@ -1,6 +1,7 @@
 pub mod KeepLemmas
 pub mod LocalLemmas
 pub mod Merging
+pub mod Pages
 pub mod PartReport
 pub mod Places
 pub mod Reasons

@@ -196,7 +196,7 @@ paged-by steps k t (Show w) past page is = refl
 paged-by steps k t (Level n) past page is = cc
 paged-by steps k t (Sync sync) past page is = cc
 
-paged-answer : (steps : List Step) (k : ℕ) (s : Step) (page : ℕ) → slice_get steps k ≡ Some s → page_in s.event ≡ Some page
+pub paged-answer : (steps : List Step) (k : ℕ) (s : Step) (page : ℕ) → slice_get steps k ≡ Some s → page_in s.event ≡ Some page
     → answer steps k ≡ Ok (reply steps k s.thread s.event)
 unfolding answer
 paged-answer steps k s page is on = rw is (paged-by steps k s.thread s.event (accepted steps k) page on)
@@ -431,6 +431,10 @@ so-rule_counts : (b : Bool) (steps : List Step) (report : Summary) → (given_so
 so-rule_counts true steps report = refl
 so-rule_counts false steps report = refl
 
+so-stop : (b : Bool) (steps : List Step) (report : Summary) → (given_so b steps report).stop ≡ report.stop
+so-stop true steps report = refl
+so-stop false steps report = refl
+
 so-lost : (b : Bool) (steps : List Step) (report : Summary) → (given_so b steps report).lost ≡ report.lost
 so-lost true steps report = refl
 so-lost false steps report = refl
@@ -499,6 +503,9 @@ module _ (part : PartView) (r : Recording) (rules : List Target) (explain : Bool
   pub part-rule_counts : (part_report (Some part) r rules explain).rule_counts
       ≡ map (rule_count (answer its_steps) (kept (Some part) r) rules (length its_steps)) (range_with_len 0 (length rules))
   part-rule_counts = so-rule_counts (part.index == 1) its_steps its_report
+
+  pub part-stop : (part_report (Some part) r rules explain).stop ≡ None
+  part-stop = so-stop (part.index == 1) its_steps its_report
 
   pub part-lost : (part_report (Some part) r rules explain).lost ≡ None
   part-lost = so-lost (part.index == 1) its_steps its_report

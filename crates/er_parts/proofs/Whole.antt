@@ -20,7 +20,7 @@ use Rattle.er_trace.specs.Trace.{Recording}
 use Rattle.er_parts.specs.Given.{part_report}
 use Rattle.er_parts.specs.Merged.{HasEachPart, in_order, line_number, line_word, lost_in, may_precede, merged, rules_in}
 use Rattle.er_parts.specs.Ordered.{IsOrdered, event_word}
-use Rattle.er_parts.specs.Parts.{PartView, page_in}
+use Rattle.er_parts.specs.Parts.{page_in, part_at}
 use Rattle.er_parts.proofs.Merging.{Behind, behind-append, dealt-count, dealt-order, flat-none, flat-same, once-in, sum-same, undealt}
 use Rattle.er_parts.proofs.PartReport.{SameReasons, belongs, count-all, item, line-is, owned, owns, paged-line-is, part-lines, part-lost, part-races, part-refused, part-rule, part-rule_counts, part-steps, part-suppressed, pieces}
 
@@ -32,9 +32,6 @@ eq-swap a b = by (a == b) refl
     by true is = sym (eq-eqb b a (sym (eqb-true a b is)))
     by false is = sym (ne_eqb b a (λ same. eqb-false a b is (sym same)))
 
-abbrev pub part_at : ℕ → ℕ → PartView
-part_at n i = record { index = i; count = n }
-
 owned-once : (n : ℕ) (parts : List ℕ) (o : Option ℕ) → HasEachPart n parts → 1 ≤ n → count_by (λ i. owns (part_at n i) o) parts ≡ 1
 unfolding owns
 owned-once n parts None each some =
@@ -43,7 +40,7 @@ owned-once n parts (Some page) each some =
     let below : page % n < n = mod-lt page (omega (arith, some)) in
     each (page % n + 1) (omega arith) (omega (arith, below))
 
-within : (steps : List Step) (k : ℕ) → k < length steps → slice_get steps k ≡ None → ⊥
+pub within : (steps : List Step) (k : ℕ) → k < length steps → slice_get steps k ≡ None → ⊥
 within [] k below none = absurd (omega (arith, below))
 within (s ∷ steps) zero below none = cc
 within (s ∷ steps) (suc k) below none = within steps k (omega (arith, below)) none
@@ -208,7 +205,7 @@ module _ (r : Recording) (rules : List Target) (explain : Bool) where
       (rw (line-is r rules explain k s is)
       (short-line (slice_index r.lines k) (slice_index r.sites k) (held (accepted r.steps k) s.thread) (reasons_if explain r k) s (answer r.steps k)))
 
-  item-pieces : (n : ℕ) → lines_by (answer r.steps) (reasons_if explain r) r rules n ≡ pieces (item r rules explain) n
+  pub item-pieces : (n : ℕ) → lines_by (answer r.steps) (reasons_if explain r) r rules n ≡ pieces (item r rules explain) n
   unfolding lines_by pieces
   item-pieces zero = refl
   item-pieces (suc n) = ap (λ lines. lines ++ item r rules explain n) (item-pieces n)
@@ -365,7 +362,7 @@ module _ (r : Recording) (rules : List Target) (explain : Bool) (n : ℕ) (parts
   refused-add = counts-add (λ report. report.refused) (λ k. is_refused (answer r.steps k)) (λ i. part-refused (part_at n i) r rules explain)
 
   pub merged-is : IsOrdered r → ((i : ℕ) → SameReasons (part_at n i) r rules explain)
-      → merged (map (λ i. part_report (Some (record { index = i; count = n })) r rules explain) parts) ≡ report_of r rules explain None
+      → merged (map (λ i. part_report (Some (part_at n i)) r rules explain) parts) ≡ report_of r rules explain None
   merged-is ordered why =
       ap (λ lines. told_so lines (map (λ j. sum (map (λ report. slice_index report.rule_counts j) (map reports parts)))
       (range_with_len 0 (rules_in (map reports parts)))) (sum (map (λ report. report.steps) (map reports parts)))

@@ -1,20 +1,30 @@
 -- Parts of a recording. Pages are dealt out to so many parts, and each part answers the accesses, reuses and shows of its own pages. Every part
--- follows the other events; the first part answers these too.
-use Rattle.std.specs.Prelude.{ℕ, ◌+◌, ◌%◌, ◌==◌, Bool, true, cond, List, [], ◌∷◌, filter, Option, Some, None, is_some}
+-- follows the other events; the first part answers these too. A part may want some of its pages alone.
+use Rattle.std.specs.Prelude.{ℕ, ◌+◌, ◌%◌, ◌==◌, Bool, true, false, ◌&&◌, cond, List, [], ◌∷◌, filter, Option, Some, None, is_some, slice_index_or}
 use Rattle.er_event.specs.Span.{page_of}
 use Rattle.er_event.specs.declared.steps.Event.{Event}
 use Rattle.er_event.specs.declared.steps.Event.TheVariants.{Access, Reuse, Show}
 use Rattle.er_event.specs.declared.steps.Step.{Step}
 use Rattle.er_trace.specs.Trace.{Recording}
 
--- which part it is, counted from 1, and of how many
+-- which part it is, counted from 1, and of how many; and the rests of the pages that it wants, if it doesn't want all
 pub record PartView : Type 0 where
   pub index : ℕ
   pub count : ℕ
+  pub wanted : Option (List Bool)
+
+-- of so many parts the one of this number, which wants all of its pages
+abbrev pub part_at : ℕ → ℕ → PartView
+part_at n i = record { index = i; count = n; wanted = None }
+
+-- the page is wanted
+abbrev pub is_wanted : Option (List Bool) → ℕ → Bool
+is_wanted None page = true
+is_wanted (Some rests) page = slice_index_or rests (page % 4096) false
 
 -- the page is one of the part's
 abbrev pub has_page : PartView → ℕ → Bool
-has_page part page = page % part.count + 1 == part.index
+has_page part page = is_wanted part.wanted page && (page % part.count + 1 == part.index)
 
 -- the page of an access, a reuse or a show; another event is of none
 abbrev pub page_in : Event → Option ℕ

@@ -1,15 +1,20 @@
 //! Which part of a trace is replayed.
-ghost use Rattle.std.specs.Prelude.{◌≡◌, ◌≤◌, ◌==◌, ◌↔◌, count_by, filter, IfSome, IsSome, length};
-ghost use Rattle.er_parts.specs.Parts.{has_page, is_of_page, kept_beside, page_in, takes};
+ghost use Rattle.std.specs.Prelude.{◌≡◌, ◌≤◌, ◌==◌, ◌↔◌, true, None, All, count_by, filter, IfSome, IsSome, length};
+ghost use Rattle.er_parts.specs.Parts.{has_page, is_of_page, is_wanted, kept_beside, page_in, part_at, takes};
 
 use er_event::{Event, Site, Step};
 use std::marker::Model;
 
-/// One of so many parts of a trace, counted from 1. Pages are dealt out to the parts in turn.
+// Over how many the rests of pages are that a part may want.
+const RESTS: usize = 4096;
+
+/// One of so many parts of a trace, counted from 1. Pages are dealt out to the parts in turn. Or the only part, which has some pages alone.
 #[derive(Clone, Copy, Debug, PartialEq, Eq)]
 pub struct Part {
     index: u64,
     count: u64,
+    // Which pages are wanted, by their rests, if not all are.
+    wanted: Option<[bool; RESTS]>,
 }
 
 impl Model for Part {
@@ -18,11 +23,11 @@ impl Model for Part {
 
     ghost Value = { PartView };
 
-    ghost view = { λ p. record { index = p.index; count = p.count } };
+    ghost view = { λ p. record { index = p.index; count = p.count; wanted = p.wanted } };
 
     ghost invariant = { λ p. (1 ≤ p.index) × (p.index ≤ p.count) × (p.count ≤ 4096) };
 
-    ghost inverse = { λ v. record { index = v.index; count = v.count } };
+    ghost inverse = { λ v. record { index = v.index; count = v.count; wanted = v.wanted } };
 }
 
 impl Part {
@@ -31,13 +36,33 @@ impl Part {
 
     /// The part of this number, from 1, of so many; None if there is no such part or if there are too many.
     pub fn new(index: u64, count: u64) -> Option<Part>
-        ensures part { IfSome result (λ part. (part.index ≡ index) × (part.count ≡ count)) }
+        ensures part { IfSome result (λ part. part ≡ part_at count index) }
         ensures some { IsSome result ↔ ((1 ≤ index) × (index ≤ count) × (count ≤ 4096)) }
     {
         if index < 1 || index > count || count > Part::MOST {
             return None;
         }
-        Some(Part { index, count })
+        Some(Part {
+            index,
+            count,
+            wanted: None,
+        })
+    }
+
+    /// The part that answers the events of these pages, perhaps those of some others, and the events that are of no page.
+    pub fn of_pages(pages: &[u64]) -> Part
+        ensures first { result.index ≡ 1 }
+        ensures pages { All (λ page. has_page result page ≡ true) pages.now }
+    {
+        let mut rests = [false; RESTS];
+        for page in pages {
+            rests[(*page % 4096) as usize] = true;
+        }
+        Part {
+            index: 1,
+            count: 1,
+            wanted: Some(rests),
+        }
     }
 
     /// Which part it is, from 1.
@@ -65,8 +90,8 @@ impl Part {
 
     /// Whether the step is of use to the part: it is of no page, or of one of its pages.
     #[tactic(auto, unfolding(crate::specs::Parts::takes))]
-    pub fn takes(self, step: &Step) -> bool
-        ensures { result ≡ takes self step.now }
+    pub fn takes(&self, step: &Step) -> bool
+        ensures { result ≡ takes self.now step.now }
     {
         match page_in(step.event) {
             Some(page) => self.has_page(page),
@@ -93,16 +118,25 @@ impl Part {
         count_of_pages(steps)
     }
 
-    fn has_page(self, page: u64) -> bool
-        ensures { result ≡ has_page self page }
+    fn has_page(&self, page: u64) -> bool
+        ensures { result ≡ has_page self.now page }
     {
-        page % self.count + 1 == self.index
+        self.is_wanted(page) && page % self.count + 1 == self.index
+    }
+
+    fn is_wanted(&self, page: u64) -> bool
+        ensures { result ≡ is_wanted self.now.wanted page }
+    {
+        match &self.wanted {
+            Some(rests) => rests[(page % 4096) as usize],
+            None => true,
+        }
     }
 
     // Of what stands beside the steps, keeps what stands beside those that are of use.
-    fn keep_beside<T: Copy>(self, steps: &[Step], others: &mut Vec<T>)
+    fn keep_beside<T: Copy>(&self, steps: &[Step], others: &mut Vec<T>)
         requires { length others.old.items ≡ length steps.now }
-        ensures { others.new.items ≡ kept_beside self steps.now others.old.items }
+        ensures { others.new.items ≡ kept_beside self.now steps.now others.old.items }
     {
         let mut kept = 0;
         for (i, step) in steps.iter().enumerate() {

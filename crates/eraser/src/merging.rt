@@ -8,7 +8,7 @@ ghost use Rattle.eraser.specs.Stories.{FailsOutput};
 use crate::traces::print_text;
 use er_device::Device;
 use er_exit::Fault;
-use er_merge::{MergeFault, merge_reports};
+use er_merge::{MergeFault, Merged, merge_reports};
 use er_print::{WriteFault, write_text};
 use std::alloc::{AllocError, Global};
 use std::fs::File;
@@ -46,8 +46,10 @@ fn write_merged<O: Write>(
 {
     match merge_reports(alloc, texts) {
         Ok(merged) => {
-            let status = u8::from(merged.races > 0);
-            match write_text(output, Ok(merged.text)) {
+            let Merged { text, counts, .. } = merged;
+            let status = u8::from(counts.races > 0);
+            drop(counts);
+            match write_text(output, Ok(text)) {
                 Ok(()) => Ok(status),
                 Err(WriteFault::Memory) => Err(Fault::Memory),
                 Err(WriteFault::Write) => Err(Fault::Write),

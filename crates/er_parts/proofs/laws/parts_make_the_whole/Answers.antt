@@ -1,6 +1,7 @@
 use Rattle.std.specs.List.{range_with_len}
 use Rattle.er_parts.proofs.Reasons.{same-reasons}
-use Rattle.er_parts.proofs.Whole.{each-in-turn, merged-is, part_at}
+use Rattle.er_parts.proofs.Whole.{each-in-turn, merged-is}
+use Rattle.er_parts.specs.Parts.{part_at}
 use Rattle.er_parts.proofs.laws.parts_make_the_whole.Goals as goal
 
 pub returns-clause-any_order : goal.returns-clause-any_order

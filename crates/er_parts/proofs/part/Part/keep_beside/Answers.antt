@@ -13,9 +13,9 @@ loop-i-preserved g c =
     let below : c.loop-i.i < length c.args.steps.now = omega (arith, c.loop-i-test.true, c.loop-i.auto.i-end) in
     elim c.if-takes.branch [
       | then-takes w ↦ rw (w.kept-is, w.others-is)
-          (kept-then c.args.self c.args.steps.now c.args.others.now.items c.loop-i.others.items c.loop-i.kept c.loop-i.i c.index-steps-i.result
+          (kept-then c.args.self.now c.args.steps.now c.args.others.now.items c.loop-i.others.items c.loop-i.kept c.loop-i.i c.index-steps-i.result
           c.index-other.result.now c.requires below c.index-steps-i.is c.index-other.ensures c.loop-i.invariant (sym c.takes.ensures ∙ w.if-takes.true))
       | else-takes w ↦ rw (w.kept-is, w.others-is)
-          (kept-else c.args.self c.args.steps.now c.args.others.now.items c.loop-i.others.items c.loop-i.kept c.loop-i.i c.index-steps-i.result
+          (kept-else c.args.self.now c.args.steps.now c.args.others.now.items c.loop-i.others.items c.loop-i.kept c.loop-i.i c.index-steps-i.result
           c.index-other.result.now c.requires below c.index-steps-i.is c.index-other.ensures c.loop-i.invariant (sym c.takes.ensures ∙ w.if-takes.false))
     ]
