@@ -237,9 +237,12 @@ module _ (touched : Touched) (steps : List Step) (k j : ℕ) where
   by_last : (order : Order) (w : ℕ) → last_unordered order (reading_of steps) w k ≡ Some j → IsEarlier
   unfolding conflicts
   by_last order w is =
-      let parts = unordered-parts order (reading_of steps) w k j is in
-      (w, counted_from_word w (era (reading_of steps) w (suc k))
-      (and_parts (counted_from (reading_of steps) w (era (reading_of steps) w (suc k)) j) (counts (reading_of steps k) w && (writes (reading_of steps j) || writes (reading_of steps k))) parts.1).0, parts.0)
+      let parts = unordered-parts order (reading_of steps) w k j is in (
+        w,
+        counted_from_word w (era (reading_of steps) w (suc k))
+            (and_parts (counted_from (reading_of steps) w (era (reading_of steps) w (suc k)) j) (counts (reading_of steps k) w && (writes (reading_of steps j) || writes (reading_of steps k))) parts.1).0,
+        parts.0,
+      )
 
   by_use : (w : ℕ) → last_use (happens_before (acts_of steps)) (reading_of steps) w k ≡ Some j → IsEarlier
   unfolding last_use
