@@ -203,26 +203,26 @@ for-text None f is = tt
 for-text (Some text) f is = f text is
 
 -- before its notes or its fault are written
-pub usually : {F : Type 0} {touches others : Option (List Touch)} (remaining : F → Option (List ℕ)) (replay : Replay) (told old new : Option (List ℕ)) (read written : Bool) (rules : List Target) (result : Result Ended Cut) → IsUsual replay → rules ≡ []
+pub usually : {F : Type 0} (touches others : Option (List Touch)) (remaining : F → Option (List ℕ)) (replay : Replay) (told old new : Option (List ℕ)) (read written : Bool) (rules : List Target) (result : Result Ended Cut) → IsUsual replay → rules ≡ []
     → IfOk result (λ ended. IfSome told (λ text. EndsAs remaining replay text touches rules old new ended))
     → IfErr result (λ cut. IfSome told (λ text. FailsAs remaining replay text others rules old new cut.fault))
     → IfOk result (IsEndOf replay) → IfErr result (λ cut. (cut.notes.items ≡ []) × (cut.damage ≡ None))
     → IfOk result (λ ended. (read ≡ false) × (written ≡ false)) → IfErr result (λ cut. FailsFor read written cut.fault)
     → IfSome told (λ text. EndsUsually text read written old new result)
-usually remaining replay None old new read written rules result usual none ends fails end whole unfailed failed = tt
-usually remaining replay (Some text) old new read written rules (Ok ended) usual none ends fails end whole unfailed failed =
-    all (usual-ends remaining replay text old new ended usual (subst (λ (r : List Target). EndsAs remaining replay text _ r old new ended) none ends))
+usually touches others remaining replay None old new read written rules result usual none ends fails end whole unfailed failed = tt
+usually touches others remaining replay (Some text) old new read written rules (Ok ended) usual none ends fails end whole unfailed failed =
+    all (usual-ends remaining replay text old new ended usual (subst (λ (r : List Target). EndsAs remaining replay text touches r old new ended) none ends))
   where
     all : ReplaysTo text old new ended.status × (IsEndingOf text ended.ending × (ended.unordered ≡ 0)) → EndsUsually text read written old new (Ok ended)
     all (replays, (ending, count)) = (unfailed, (replays, (ending, (count, end.silent usual.unused_rules usual.max_races))))
-usually remaining replay (Some text) old new read written rules (Err cut) usual none ends fails end whole unfailed failed =
-    all (usual-fails remaining replay text _ old new cut.fault usual (subst (λ (r : List Target). FailsAs remaining replay text _ r old new cut.fault) none fails))
+usually touches others remaining replay (Some text) old new read written rules (Err cut) usual none ends fails end whole unfailed failed =
+    all (usual-fails remaining replay text others old new cut.fault usual (subst (λ (r : List Target). FailsAs remaining replay text others r old new cut.fault) none fails))
   where
     all : IsUsualFault text cut.fault × LeavesUsually text old new cut.fault → EndsUsually text read written old new (Err cut)
     all (cause, leaves) = (failed, (cause, (leaves, whole)))
 
 -- without files of rules there are none
-pub without-rules : {F : Type 0} {touches : Option (List Touch)} (remaining : F → Option (List ℕ)) (replay : Replay) (told old new : Option (List ℕ)) (rules : List Target) (result : Result Ended Cut) → rules ≡ []
+pub without-rules : {F : Type 0} (touches : Option (List Touch)) (remaining : F → Option (List ℕ)) (replay : Replay) (told old new : Option (List ℕ)) (rules : List Target) (result : Result Ended Cut) → rules ≡ []
     → IfErr result (λ cut. IfSome told (λ text. FailsAs remaining replay text touches rules old new cut.fault)) → IfErr result (λ cut. IfSome told (λ text. FailsAs remaining replay text touches [] old new cut.fault))
-without-rules remaining replay told old new rules result none fails =
-    subst (λ (r : List Target). IfErr result (λ cut. IfSome told (λ text. FailsAs remaining replay text _ r old new cut.fault))) none fails
+without-rules touches remaining replay told old new rules result none fails =
+    subst (λ (r : List Target). IfErr result (λ cut. IfSome told (λ text. FailsAs remaining replay text touches r old new cut.fault))) none fails
