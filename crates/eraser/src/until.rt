@@ -124,11 +124,21 @@ where
         Ok(trace) => Device::new(trace),
         Err(fault) => return Err(cut_by(rt.alloc(), fault)),
     };
+    let Ok(_) = source.read(&mut []) else {
+        drop(source);
+        return Err(cut_by(rt.alloc(), Fault::Read));
+    };
     if replay.until_fault && !is_ordinary(rt, replay.trace) {
         let replayed = replay_keeping(rt, job, &mut source, output, watcher);
         drop(source);
         return replayed;
     }
+    // A binary trace says its text in far fewer bytes, so it has no limit that nobody asked for.
+    let options = match source.inner().is_binary() {
+        true => job.options.with_byte_limit(replay.binary_limit).unwrap(),
+        false => *job.options,
+    };
+    let job = Job { options: &options, ..job };
     let replayed = replay_from(rt, job, &mut source, &Directly, output, watcher);
     drop(source);
     match replayed {
