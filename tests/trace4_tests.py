@@ -12,6 +12,7 @@
 - the last 256 blocks of memory are known to a report, and no block before them; facts that say nothing of a block
 - three small traces cut off at each byte, and with a random bit of each byte flipped: the fault of the damage, or the same report
 - records that no trace has, in blocks whose checksum is right: the damage is at their byte, and with --until-fault what stands before it is reported
+- a file that means more text than a text may have is replayed whole, unless a limit is given
 - one name or place more than a trace may have; records and blocks of the greatest length, and of one byte more; long traces of several blocks
 - each allocation refused in turn, also where a file is read again for its places and calls; reads of a few bytes at a time, and each read failed in turn
 - the example of docs/FORMATS.md has the text that stands beside it, and so has the example of a report with facts
@@ -155,6 +156,31 @@ def long_traces(record):
         for options in ([], ["--workers", "2"], ["--workers", "3"], ["--analysis", "both", "--workers", "3", "--by-site"]):
             found, wanted = run(["replay", *options, "-"], data), run(["replay", *options, "-"], plain)
             record(f"trace 4: a long trace, {name} {options}", found == wanted and wanted[2] == 1, f"{found[1:]}, {wanted[1:]}")
+
+
+def long_text(record):
+    """A file that means more text than a text may have: only a limit that is given ends its replay. From standard input the usual one does too."""
+    site, count, limit = b"a" * 128, 500_000, 1 << 28
+    writer = trace4.Writer()
+    node = writer.node_of(site)
+    for _ in range(count):
+        writer.access(b"t1", False, 0x1000, 16, node)
+    data = writer.finish()
+    line = len(b"t1 read 0x1000 " + site + b"\n")
+    fault = b"line %d: text too long\n" % ((limit - len(b"eraser trace 3\n")) // line + 2)
+    end = b"steps %d, %s 0, suppressed 0, refused 0\n"
+    with tempfile.NamedTemporaryFile() as file:
+        file.write(data)
+        file.flush()
+        for words, races in (([], b"races"), (["--workers", "3"], b"races"), (["--until-fault"], b"races"), (["--analysis", "happens-before"], b"unordered")):
+            found = run(["replay", *words, file.name])
+            record(f"trace 4: a long text {words}", found == (end % (4 * count, races), b"", 0), f"{found}")
+        found = run(["replay", "--byte-limit", str(limit), file.name])
+        record("trace 4: a long text with the limit of a text", found == (b"", fault, 2), f"{found}")
+        found = run(["explain", "2", file.name])
+        record("trace 4: the story of a step of a long text", found == (b"", fault, 2), f"{found}")
+    found = run(["replay", "-"], data)
+    record("trace 4: a long text from standard input", found == (b"", fault, 2), f"{found}")
 
 
 def expected_forms(text, trace):
@@ -545,11 +571,14 @@ def pieces(record, preloaded, folder):
     for size in ("1", "3", "20"):
         found = run(["replay", "-"], data, env={**os.environ, "LD_PRELOAD": str(library), "PIECE": size})
         record(f"trace 4: reads of {size} bytes", found == whole, f"{found}, {whole}")
-    count = 0
-    for nth, found, has_failed in each_failed(library, folder, "FAIL_READ", "FAIL_FOUND", lambda env: run(["replay", "-"], data, env={**env, "PIECE": "20"})):
-        record(f"trace 4: read {nth} failed", found == ((b"", b"read fault\n", 4) if has_failed else whole), f"{found}")
-        count += has_failed
-    record("trace 4: reads that fail", count >= len(data) // 20, f"{count}")
+    path = pathlib.Path(folder) / "pieces.trace"
+    path.write_bytes(data)
+    for trace, piped in (("-", data), (str(path), b"")):
+        count = 0
+        for nth, found, has_failed in each_failed(library, folder, "FAIL_READ", "FAIL_FOUND", lambda env: run(["replay", trace], piped, env={**env, "PIECE": "20"})):
+            record(f"trace 4: read {nth} of {trace[:1]} failed", found == ((b"", b"read fault\n", 4) if has_failed else whole), f"{found}")
+            count += has_failed
+        record(f"trace 4: reads of {trace[:1]} that fail", count >= len(data) // 20, f"{count}")
 
 
 # ---- The documents
@@ -585,6 +614,7 @@ def tests(record, preloaded):
         shown_calls(record)
         blocks_by_hand(record)
         long_traces(record)
+        long_text(record)
         cut_and_flipped(record)
         built(record)
         refusals(record, preloaded, folder)

@@ -44,7 +44,7 @@ where
 }
 
 /// How many bytes an ordinary file has. None if it is no such file: a FIFO could wait for ever.
-pub fn size_of<R: Files>(rt: &R, path: &str) -> Option<u64> {
+fn size_of<R: Files>(rt: &R, path: &str) -> Option<u64> {
     match fs::metadata(rt, path) {
         Ok(found) if found.is_file() => Some(found.len()),
         _ => None,
@@ -60,6 +60,15 @@ pub fn is_ordinary<R: Files>(rt: &R, path: &str) -> bool {
 pub fn open_ordinary<R: Files>(rt: &R, path: &str) -> Option<R::File> {
     let _size = size_of(rt, path)?;
     File::open(rt, path).ok()
+}
+
+/// How many bytes the text of a trace has. None if that isn't known before all of it is read.
+pub fn text_size<R: Files + AllocGlobal>(rt: &R, path: &str) -> Option<u64> {
+    let mut text = Decoded::new(rt.alloc(), open_ordinary(rt, path)?);
+    let _ = text.read(&mut [0]);
+    let is_binary = text.is_binary();
+    drop(text);
+    if is_binary { None } else { size_of(rt, path) }
 }
 
 fn advice_of<R: Files + AllocGlobal>(rt: &R, trouble: Trouble<'_>, byte_limit: u64) -> Text

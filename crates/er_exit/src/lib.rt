@@ -6,7 +6,7 @@
 //! line. This crate needs none of the crates that replay a trace, so that it is proved beside them.
 #![tactic(auto)]
 
-pub use advice::{Trouble, advise, is_ordinary, open_ordinary, size_of};
+pub use advice::{Trouble, advise, is_ordinary, open_ordinary, text_size};
 pub use demos::run_demo;
 pub use faults::{Fault, TextNotes, add_notes, put, report_fault};
 pub use parts::heading_of;

@@ -12,7 +12,7 @@ use std::alloc::{AllocError, Global};
 use std::io::Write;
 
 // What most lines take, in bytes.
-const LINE: usize = 48;
+const LINE: usize = 64;
 
 /// What a call returns that puts bytes behind others.
 pub type Put = Result<(), AllocError>;

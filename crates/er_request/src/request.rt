@@ -56,10 +56,13 @@ pub struct Replay<'a> {
     pub workers: u32,
     /// How many bytes the trace may have, and the suppressions, at most 2^62.
     pub byte_limit: u64,
+    /// How many bytes of text a binary trace may have that is given by its path: as many, if a word says how many, and else 2^62.
+    pub binary_limit: u64,
     pub ghost some_shards: { 1 ≤ shards },
     pub ghost few_shards: { shards ≤ 64 },
     pub ghost some_workers: { 1 ≤ workers },
     pub ghost few_workers: { workers ≤ 16 },
+    pub ghost few_of_binary: { binary_limit ≤ 2 ^ 62 },
     pub ghost few_bytes: { byte_limit ≤ 2 ^ 62 },
 }
 

@@ -5,6 +5,7 @@ ghost use Rattle.er_request.specs.Words.{IsUsual, asks_hints, asks_print, asks_p
 use crate::options::{DEMOS, MOST_BYTES, MOST_SHARDS, MOST_WORKERS, eraser_command};
 use crate::request::{Demo, Explain, Replay, Request};
 use clap::error::ErrorKind;
+use clap::parser::ValueSource;
 use clap::{ArgMatches, Command, Error};
 use er_parts::Part;
 use er_report::{Analysis, Form};
@@ -76,6 +77,7 @@ fn usual_replay<'a>(alloc: Global, hints: bool) -> Replay<'a>
         shards: 8,
         workers: 1,
         byte_limit: 268_435_456,
+        binary_limit: MOST_BYTES,
     }
 }
 
@@ -162,6 +164,8 @@ fn request_of<'a>(alloc: Global, all: &ArgMatches<'a>) -> Result<Option<Request<
 fn replay_of<'a>(found: &ArgMatches<'a>, suppressions: Vec<&'a str>) -> Option<Request<'a>> {
     let form = form_of(found)?;
     let has_reasons = matches!(form, Form::BySite | Form::Sarif | Form::Html);
+    let byte_limit = found.get_one::<u64>("byte-limit")?.min(MOST_BYTES);
+    let gives_limit = found.value_source("byte-limit") == Some(ValueSource::CommandLine);
     Some(Request::Replay(Replay {
         write_rules: found.get_str("write-rules"),
         unused_rules: found.get_flag("unused-rules"),
@@ -178,7 +182,8 @@ fn replay_of<'a>(found: &ArgMatches<'a>, suppressions: Vec<&'a str>) -> Option<R
         hints: found.get_flag("hints"),
         shards: found.get_one::<u32>("shards")?.clamp(1, MOST_SHARDS),
         workers: found.get_one::<u32>("workers")?.clamp(1, MOST_WORKERS),
-        byte_limit: found.get_one::<u64>("byte-limit")?.min(MOST_BYTES),
+        byte_limit,
+        binary_limit: if gives_limit { byte_limit } else { MOST_BYTES },
         suppressions,
     }))
 }

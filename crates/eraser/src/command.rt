@@ -18,12 +18,12 @@ ghost use Rattle.eraser.specs.Replays.{AreOptionsOf, ComesTo, EndsAs, EndsUsuall
 use crate::merging::merge_files;
 use crate::meter::Meter;
 use crate::replaying::{Ended, Job, notes_of};
-use crate::traces::{Directly, explain_step, note_touches, print_trace, text_size};
+use crate::traces::{Directly, explain_step, note_touches, print_trace};
 use crate::until::{Cut, cut_by, replay_trace, report_cut, trace_path};
 use clap::error::ErrorKind;
 use er_binary::Decoded;
 use er_device::Device;
-use er_exit::{Fault, heading_of, put, report_fault, run_demo};
+use er_exit::{Fault, heading_of, put, report_fault, run_demo, text_size};
 use er_lines::Shortcut;
 use er_load::Workload;
 use er_request::{Replay, Request, read_request};

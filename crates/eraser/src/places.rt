@@ -122,8 +122,7 @@ fn open_again<R: Files + AllocGlobal>(
 fn shows_places(replay: &Replay<'_>) -> bool
     ensures { result ≡ shows_places replay.now }
 {
-    let tells_places = replay.form != Form::Text;
-    replay.explain && tells_places && reads_again(replay)
+    replay.explain && replay.form != Form::Text && reads_again(replay)
 }
 
 // Whether the trace may be a file that is read whole.

@@ -12,7 +12,7 @@ use crate::command::keys_from;
 use er_binary::Decoded;
 pub(crate) use er_binary::Directly;
 use er_device::Device;
-use er_exit::{Fault, open_ordinary, size_of};
+use er_exit::Fault;
 use er_print::WriteFault;
 use er_request::Explain;
 use er_story::{tell_line, write_story};
@@ -46,15 +46,6 @@ pub(crate) fn note_touches<D>(source: &mut Device<Decoded<D>>, asks: bool)
     if asks {
         source.inner_mut().note_touches();
     }
-}
-
-/// How many bytes the text of a trace has. None if that isn't known before all of it is read.
-pub(crate) fn text_size<R: Files + AllocGlobal>(rt: &R, path: &str) -> Option<u64> {
-    let mut text = Decoded::new(rt.alloc(), open_ordinary(rt, path)?);
-    let _ = text.read(&mut [0]);
-    let is_binary = text.is_binary();
-    drop(text);
-    if is_binary { None } else { size_of(rt, path) }
 }
 
 /// Writes the text that a trace means. Returns the exit status.

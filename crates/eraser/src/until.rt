@@ -130,6 +130,16 @@ where
         return replayed;
     }
     note_touches(&mut source, replay.analysis.asks_order());
+    let Ok(_) = source.read(&mut []) else {
+        drop(source);
+        return Err(cut_by(rt.alloc(), Fault::Read));
+    };
+    // A binary trace says its text in far fewer bytes, so it has no limit that nobody asked for.
+    let options = match source.inner().is_binary() {
+        true => job.options.with_byte_limit(replay.binary_limit).unwrap(),
+        false => *job.options,
+    };
+    let job = Job { options: &options, ..job };
     let replayed = replay_from(rt, job, &mut source, &Directly, output, watcher);
     drop(source);
     match replayed {
