@@ -139,7 +139,10 @@ where
         true => job.options.with_byte_limit(replay.binary_limit).unwrap(),
         false => *job.options,
     };
-    let job = Job { options: &options, ..job };
+    let job = Job {
+        options: &options,
+        ..job
+    };
     let replayed = replay_from(rt, job, &mut source, &Directly, output, watcher);
     drop(source);
     match replayed {
