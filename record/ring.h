@@ -143,6 +143,7 @@ struct lane {
     uint32_t end;
     _Atomic uint32_t head; /* the first position that the writer has not taken */
     uint64_t watched[2];   /* accesses, and other calls of the detector, by its threads */
+    uint64_t repeats;      /* accesses of its threads that have no event */
     _Atomic uint32_t answer; /* online, with `stops`: enum race_answer of its thread's last race, before the head of the ring has passed that */
 };
 
@@ -196,6 +197,7 @@ struct ring {
     uint32_t orders; /* not 0: what orders threads is recorded as well */
     uint32_t flows;  /* not 0: what threads learn from each other without an order is recorded as well */
     uint32_t shakes; /* not 0: threads wait at random, as `seed` says */
+    uint32_t thins;  /* not 0: accesses that a thread repeats need no event */
     uint64_t seed;
     uint32_t stops;  /* online, not 0: a thread whose race is reported gets SIGTRAP */
     _Atomic uint32_t lacks_memory; /* online: there was none for the detector of its owner, which is not watched */

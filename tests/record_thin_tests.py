@@ -5,6 +5,7 @@ new use of it in between.
 - which recordings leave repeats out: those that nobody keeps, and with --thin others
 - the rule, by a second reading of it: random traces have the same races with and without their repeats, and so has a recorded one
 - what the writer's thin.c leaves out of random recordings is a repeat, and doesn't change a race (`tests/record/thin/any.c`)
+- what the library's repeats.c finds repeated by random threads is a repeat, whenever others note their events (`tests/record/thin/notes.c`)
 - the programs of tests/record and tests/record/order race at the same lines when they are recorded so
 - `tests/record/thin/repeats.c`: a comment READS n or WRITES n says how many words of a line are left
 
@@ -134,6 +135,16 @@ def writer(folder, findings, pool):
     findings.check("the writer leaves something out", sum(count for _, count in found) > 1000, f"{sum(count for _, count in found)}")
 
 
+def library(folder, findings, pool):
+    program = folder / "notes"
+    built = command(["gcc", "-std=gnu11", "-O1", "-g", "-Wall", "-Wextra", "-mcx16", "-fsanitize=address,undefined", "-fno-sanitize-recover=all",
+                     SOURCES / "thin/notes.c", record_tests.TOP / "record/library/repeats.c", "-o", program])
+    findings.check("the library's part is built", built.returncode == 0 and built.stderr == "", built.stderr)
+    found = list(pool.map(lambda seed: command([program, str(seed), "3000"]), range(100)))
+    findings.check("random threads without what the library finds repeated", all(done.returncode == 0 for done in found), next((f"{done}" for done in found if done.returncode), ""))
+    findings.check("the library finds repeats", sum(int(done.stdout or 0) for done in found) > 1000, f"{found[0]}")
+
+
 def repeats(folder, findings):
     source = SOURCES / "thin/repeats.c"
     for compiler in ("gcc", "clang"):
@@ -205,6 +216,7 @@ def tests(record):
         folder = pathlib.Path(name)
         random_traces(findings, pool)
         writer(folder, findings, pool)
+        library(folder, findings, pool)
         repeats(folder, findings)
         defaults(folder, findings)
         refused(findings)

@@ -223,11 +223,30 @@ void emit_leave_lanes(void)
             leave_lane(attached->ring, course);
 }
 
+void emit_note(struct self *me, uint64_t ticket, const struct slot *slot)
+{
+    struct ring *ring = attached->ring;
+    struct notes *notes = attached->notes;
+    struct doer doer = {me->number, me->since};
+    enum event_kind kind = slot_kind(slot);
+    if (kind == EVENT_READ || kind == EVENT_WRITE)
+        notes_add(notes, ring, doer, ticket, kind == EVENT_WRITE, slot->first, slot->size);
+    if (kind <= EVENT_WRITE)
+        return;
+    if (kind == EVENT_REUSE || kind == EVENT_FREE)
+        notes_forget(notes, ring, doer, ticket, slot->first & REUSE_MASK, reuse_size(slot));
+    else if ((kind == EVENT_LOCK || kind == EVENT_READ_LOCK || kind == EVENT_UNLOCK) && !(slot->size & LOCK_FAILED))
+        notes_lock(notes, ring, doer, kind != EVENT_UNLOCK, slot->first);
+    /* A handler may have come since, with later events. */
+    if (me->since < ticket)
+        me->since = ticket;
+}
+
 void emit_range(enum event_kind kind, const volatile void *address, uint64_t size, uint64_t site)
 {
     const uint64_t most = UINT64_C(1) << 31;
     uint64_t at = (uintptr_t)address;
-    if (kind == EVENT_READ ? self.reads_ignored : self.writes_ignored)
+    if ((kind == EVENT_READ ? self.reads_ignored : self.writes_ignored) || is_repeat(kind == EVENT_WRITE, address, size))
         return;
     for (; size > most; at += most, size -= most)
         emit(kind, (uint32_t)most, at, site);
@@ -413,6 +432,7 @@ static bool own(struct ring *ring, struct attachment *page)
     page->shakes = ring->shakes;
     page->notes_atomics = page->orders || page->shakes;
     page->seed = ring->seed;
+    page->notes = ring->thins ? notes_make() : NULL;
     return true;
 }
 

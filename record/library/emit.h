@@ -10,6 +10,7 @@
 #include <stdint.h>
 
 #include "../ring.h"
+#include "repeats.h"
 #include "stacks.h"
 
 /* The library is built with hidden visibility; a hook is what a program may call. */
@@ -34,6 +35,7 @@ struct attachment {
     bool was_refused; /* this process asked for a ring, and there is none for it */
     bool shakes; /* threads wait at random, as `seed` says */
     bool notes_atomics; /* it orders or shakes, and atomic operations have a part in it */
+    struct notes *notes; /* if repeats have no event */
     uint64_t seed;
 };
 extern struct attachment *attached;
@@ -63,6 +65,7 @@ struct self {
     bool notes_stores; /* stores that don't release are recorded: it has released by a fence, or the ring asks for flow */
     uint32_t depth;    /* how many events it has begun and not published */
     struct course courses[DEPTHS];
+    uint64_t since; /* the ticket of its last event that is no access */
     uint64_t random; /* the state of what it draws at random, and how often it has */
     uint64_t calls;
 };
@@ -79,6 +82,8 @@ void emit_end_of_thread(void);
 void emit_leave_lanes(void);
 void emit_maps(void);
 void attach(void);
+/* What threads know of their last accesses, with this event. */
+void emit_note(struct self *me, uint64_t ticket, const struct slot *slot);
 /* Whether a child that was forked is recorded from here on. */
 bool attach_child(void);
 bool has_instrumented_file(void);
@@ -209,6 +214,8 @@ static inline __attribute__((always_inline)) void ring_publish(const struct draf
     atomic_store_explicit(&slot->published, lane_mark(course->next), memory_order_release);
     __atomic_signal_fence(__ATOMIC_SEQ_CST);
     course->next++;
+    if (UNLIKELY(attached->notes != NULL))
+        emit_note(draft->me, draft->ticket, slot);
     set_ticket(course, TICKET_NONE);
     set_depth(draft->me, (uint32_t)(course - draft->me->courses));
     course->frame = draft->outer_frame;
@@ -239,15 +246,26 @@ static inline __attribute__((always_inline)) void emit(enum event_kind kind, uin
         ring_publish(&draft, kind, emit_stack(kind, second), size, first, second);
 }
 
+/* Whether an access needs no event. A handler that interrupts an event asks for none: what the event changes may not be changed yet. */
+static inline __attribute__((always_inline)) bool is_repeat(bool is_write, const volatile void *address, uint64_t size)
+{
+    struct notes *notes = attached->notes;
+    struct self *me = &self;
+    if (IS_ONLINE || LIKELY(!notes) || me->depth || !notes_have(notes, (struct doer){me->number, me->since}, is_write, (uintptr_t)address, size))
+        return false;
+    attached->ring->lanes[me->courses[0].lane].repeats++;
+    return true;
+}
+
 static inline __attribute__((always_inline)) void emit_read(const volatile void *address, uint32_t size, uint64_t site)
 {
-    if (LIKELY(!self.reads_ignored))
+    if (LIKELY(!self.reads_ignored) && !is_repeat(false, address, size))
         emit(EVENT_READ, size, (uintptr_t)address, site);
 }
 
 static inline __attribute__((always_inline)) void emit_write(const volatile void *address, uint32_t size, uint64_t site)
 {
-    if (LIKELY(!self.writes_ignored))
+    if (LIKELY(!self.writes_ignored) && !is_repeat(true, address, size))
         emit(EVENT_WRITE, size, (uintptr_t)address, site);
 }
 

@@ -292,6 +292,8 @@ void further_fill(struct outcome *outcome)
     const struct ring *ring = recording.ring;
     outcome->events = trace_events;
     outcome->left_out = thin_left_out;
+    for (uint32_t lane = 0; lane < atomic_load(&ring->lanes_used); lane++)
+        outcome->left_out += ring->lanes[lane].repeats;
     outcome->lost = recording_lost();
     outcome->forks = atomic_load(&ring->forks);
     outcome->cut = stacks_cut;

@@ -16,6 +16,7 @@
 #include "options.h"
 #include "output.h"
 #include "replay.h"
+#include "thin.h"
 #include "trace.h"
 
 struct recording recording;
@@ -66,6 +67,7 @@ void recording_make_ring(unsigned number)
     recording.ring->writer = (uint32_t)getpid();
     recording.ring->orders = options.orders;
     recording.ring->flows = options.has_flow;
+    recording.ring->thins = thin_is_on;
     recording.ring->stops = options.stops_at_race;
     recording.ring->head = recording.ring->tail = FIRST_TICKET;
     recording.ring->magic = RING_MAGIC;
