@@ -12,11 +12,11 @@ _eraser() {
     done
     COMPREPLY=()
     case $command:$before in
-    replay:--suppress | replay:--write-rules)
+    replay:--suppress | replay:--write-rules | merge:--trace | merge:--suppress)
         _eraser_files
         return
         ;;
-    replay:--source)
+    replay:--source | merge:--source)
         _eraser_folders
         return
         ;;
@@ -24,7 +24,7 @@ _eraser() {
         _eraser_words "lockset happens-before both"
         return
         ;;
-    replay:--format)
+    replay:--format | merge:--format)
         _eraser_words "text json sarif html"
         return
         ;;
@@ -36,7 +36,7 @@ _eraser() {
         _eraser_words "1 2 4 8 16 32 64"
         return
         ;;
-    replay:--byte-limit | replay:--max-races | replay:--part | explain:--byte-limit) return ;;
+    replay:--byte-limit | replay:--max-races | replay:--part | explain:--byte-limit | merge:--byte-limit) return ;;
     esac
     case $command:$word in
     :-*) _eraser_words "--help --version -h -V" ;;
@@ -47,7 +47,7 @@ _eraser() {
     explain:*) _eraser_files ;;
     print:-?*) _eraser_words "--help -h" ;;
     print:*) _eraser_files ;;
-    merge:-?*) _eraser_words "--help -h" ;;
+    merge:-?*) _eraser_words "--trace --suppress --explain --by-site --format --source --byte-limit --help -h" ;;
     merge:*) _eraser_files ;;
     demo:-*) _eraser_words "--help -h" ;;
     demo:*) _eraser_words "locked-counter racy-counter init-then-read rw-table reuse-pool ignored-stats" ;;

@@ -38,6 +38,13 @@ complete -c eraser -n '__fish_seen_subcommand_from explain' -F
 complete -c eraser -n '__fish_seen_subcommand_from print' -s h -l help -d 'Print help'
 complete -c eraser -n '__fish_seen_subcommand_from print' -F
 
+complete -c eraser -n '__fish_seen_subcommand_from merge' -l trace -r -F -d 'The trace that the reports are of; each option below needs it'
+complete -c eraser -n '__fish_seen_subcommand_from merge' -l suppress -r -F -d 'Count the races that this file\'s rules take, and leave their lines out'
+complete -c eraser -n '__fish_seen_subcommand_from merge' -l explain -d 'Name the accesses that make each race'
+complete -c eraser -n '__fish_seen_subcommand_from merge' -l by-site -d 'Write a table of the sites with races, most words first, and explain a race of each'
+complete -c eraser -n '__fish_seen_subcommand_from merge' -l format -x -a 'text json sarif html' -d 'How the report is written: as text for scripts, as JSON for programs, as SARIF for code hosts, or as one page of HTML for people'
+complete -c eraser -n '__fish_seen_subcommand_from merge' -l source -x -a '(__fish_complete_directories)' -d 'With --format html, show the lines around each site, from the files below this folder'
+complete -c eraser -n '__fish_seen_subcommand_from merge' -l byte-limit -x -d 'The most bytes that a text may have, 1 to 4611686018427387904'
 complete -c eraser -n '__fish_seen_subcommand_from merge' -s h -l help -d 'Print help'
 complete -c eraser -n '__fish_seen_subcommand_from merge' -F
 

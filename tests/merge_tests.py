@@ -6,6 +6,9 @@
 - each example and 600 random traces, a third of them binary, in 1, 2, 3 and 16 parts, with and without rules and reasons: the parts' reports make the whole
   one and its status, and a trace with a fault has the line and the status of a whole replay in each part. The first line of each report is the one
   that is worked out here, and its races are of the part's pages
+- with the trace, the same parts make its report in each form: by site, as JSON, SARIF and HTML, and as text with and without reasons, whether the parts have
+  reasons or not; the bytes and the status are those of a replay in that form
+- with another trace, other rules, an option without the trace, and each failed read and refused allocation: nothing, and the line of what is wrong
 - rules by what a binary trace says of the program, several workers, lost events
 - what `--part` doesn't go with, and values that are no part; files that aren't ordinary; refused allocations, failed reads and writes, short reads
 - parts that are cut here out of whole reports of random traces, in any order, with rules and reasons, by both rules: the whole report and its status
@@ -15,6 +18,7 @@
 """
 
 import concurrent.futures
+import json
 import os
 import pathlib
 import random
@@ -61,6 +65,20 @@ def pages_of(report):
     return {int(address, 16) >> 12 for address in re.findall(rb"^line \d+: (?:race|state).*?(0x[0-9a-f]{12})", report, re.MULTILINE)}
 
 
+FORMS = ([], ["--explain"], ["--by-site"], ["--format", "json"], ["--format", "json", "--explain"], ["--format", "sarif"], ["--format", "html"],
+         ["--format", "html", "--source", str(TOP / "examples")])
+
+
+def in_forms(record, folder, name, path, rules, count, forms=FORMS):
+    """Merges the reports that `merge` has written, with their trace and in forms. Each is what a replay of the whole trace gives in that form."""
+    paths = [str(folder / f"{number}.report") for number in range(count)]
+    words = [word for file in rules for word in ("--suppress", str(file))]
+    for form in forms:
+        whole = run(["replay", *words, *form, str(path)])
+        found = run(["merge", "--trace", str(path), *words, *form, *paths])
+        record(f"{name}, merged with {form}", found == whole, f"{found}, {whole}"[:1000])
+
+
 def in_parts(record, folder, name, parts, path, rules, *options):
     """Replays a trace whole and in parts, and merges these."""
     words = [*options, *(word for file in rules for word in ("--suppress", str(file)))]
@@ -79,6 +97,9 @@ def in_parts(record, folder, name, parts, path, rules, *options):
     random.Random(name).shuffle(reports)
     merged = merge(folder, reports)
     record(f"{name}: the one report", merged == (whole[0], b"", whole[2]), f"{merged}, {whole}"[:1000])
+    # Of the random traces each is merged in one form.
+    forms = FORMS if path.parent.name == "examples" else [FORMS[random.Random(name).randrange(len(FORMS))]]
+    in_forms(record, folder, name, path, rules, parts, forms)
 
 
 def options_of(folder, rules):
@@ -202,6 +223,61 @@ def files_of_parts(record, folder, preloaded):
             wanted = b"read fault\n" if call == "FAIL_READ" else b"write fault\n"
             is_right = found[1:] == (wanted, 4) and (found[0] == b"" if call == "FAIL_READ" else whole[0].startswith(found[0])) if has_failed else found == whole
             record(f"a part, {call} {nth}", is_right, f"{found}")
+
+
+def of_traces(record, folder, preloaded):
+    """Reports that aren't of the trace, or were made by other rules, and options without the trace."""
+    path, other, rules, folded = (folder / name for name in ("two.trace", "other.trace", "of.rules", "more.rules"))
+    path.write_bytes(TRACE)
+    other.write_bytes(TRACE.replace(b"a.c:1", b"a.c:7"))
+    rules.write_text("site a.c:2\n")
+    folded.write_text("site a.c:1\n")
+    texts = [run(["replay", "--part", f"{part}/2", "--suppress", str(rules), str(path)])[0] for part in (1, 2)]
+    merge(folder, texts)
+    paths = [str(folder / f"{part}.report") for part in (0, 1)]
+    words = ["merge", "--trace", str(path), "--suppress", str(rules), "--format", "json", "--explain"]
+    whole = run(["replay", "--suppress", str(rules), "--format", "json", "--explain", str(path)])
+    record("the one report as JSON", run([*words, *paths]) == whole and whole[2] == 1, f"{run([*words, *paths])}, {whole}")
+    longer = folder / "longer.trace"
+    longer.write_bytes(TRACE + b"# a comment\n")
+    of_other, missing = b"report file 1: another trace\n", b"part 2 missing\n"
+    for name, found, line, status in (
+        ("another trace", run(["merge", "--trace", str(other), "--suppress", str(rules), *paths]), of_other, 2),
+        ("a longer trace", run(["merge", "--trace", str(longer), "--suppress", str(rules), *paths]), of_other, 2),
+        ("no rules", run(["merge", "--trace", str(path), *paths]), of_other, 2),
+        ("other rules", run(["merge", "--trace", str(path), "--suppress", str(folded), *paths]), of_other, 2),
+        ("more rules", run(["merge", "--trace", str(path), "--suppress", str(rules), "--suppress", str(folded), *paths]), of_other, 2),
+        ("a missing part", run([*words, paths[0]]), missing, 2),
+        ("a part twice", run([*words, *paths, paths[1]]), b"part 2 given twice\n", 2),
+        ("no report", run([*words, str(path), paths[1]]), b"report file 1 line 1: no report of a part\n", 2),
+        ("a trace that isn't there", run(["merge", "--trace", str(folder / "nothing"), *paths]), b"cannot open trace\n", 4),
+        ("a trace that is a device", run(["merge", "--trace", "/dev/null", *paths]), b"a part needs ordinary files\n", 4),
+        ("a report that isn't there", run([*words, str(folder / "nothing")]), b"cannot open report file 1\n", 4),
+    ):
+        record(f"with a trace, {name}", found == (b"", line, status), f"{found}")
+    short = run(["merge", "--trace", str(path), "--suppress", str(rules), "--byte-limit", "50", *paths])
+    record("with a trace beyond the limit", short == run(["replay", "--suppress", str(rules), "--byte-limit", "50", str(path)]) and short[2] == 2, f"{short}")
+    for option in (["--by-site"], ["--format", "json"], ["--explain"], ["--suppress", str(rules)], ["--source", "."], ["--trace", "-"]):
+        output, errors, status = run(["merge", *option, *paths])
+        record(f"{option} without a trace", (output, status) == (b"", 2) and errors.startswith(b"error: ") and b"--trace" in errors.split(b"\n")[0] or b"--source" in errors, f"{errors}")
+    output, errors, status = run(["merge", "--trace", str(path), "--by-site", "--format", "json", *paths])
+    record("two forms", (output, status) == (b"", 2) and errors.startswith(b"error: "), f"{errors}")
+    with open("/dev/full", "wb") as full:
+        done = subprocess.run([str(PROGRAM), *words, *paths], stdout=full, stderr=subprocess.PIPE, timeout=60)
+        record("JSON to a full output", (done.stderr, done.returncode) == (b"write fault\n", 4), f"{done}")
+    library = preloaded(str(folder), "refuse")
+    bare = json.loads(whole[0])
+    for nth, found, was_refused in each_refused(library, str(folder), lambda env: run([*words, *paths], b"", env=env)):
+        # Without memory for the places of reasons the document has the races without them.
+        is_bare = found[1:] == whole[1:] and set(json.loads(found[0])) == set(bare)
+        record(f"JSON, allocation {nth} refused", found == (b"", b"out of memory\n", 3) or is_bare if was_refused else found == whole, f"{found}")
+    library = preloaded(str(folder), "pieces")
+    for call in ("FAIL_READ", "FAIL_WRITE"):
+        for nth, found, has_failed in each_failed(library, str(folder), call, "FAIL_FOUND", lambda env: run([*words, *paths], b"", env={**env, "PIECE": "7"})):
+            told = found[1].startswith(b"read fault") if call == "FAIL_READ" else found[1] == b"write fault\n"
+            is_right = told and found[2] == 4 and (call == "FAIL_WRITE" and whole[0].startswith(found[0]) or not found[0])
+            # The last look at the trace is for the places of reasons alone.
+            record(f"JSON, {call} {nth}", is_right or call == "FAIL_READ" and found[1:] == whole[1:] if has_failed else found == whole, f"{found}")
 
 
 # ---- Reports that are cut here
@@ -344,6 +420,7 @@ def tests(record, preloaded):
         by_facts(record, folder)
         refused(record, folder)
         files_of_parts(record, folder, preloaded)
+        of_traces(record, folder, preloaded)
         wholes(record, folder)
         places(record, folder)
         faults(record, folder)

@@ -78,6 +78,8 @@ pub record IsUsual (replay : Replaying) : Type 0 where
   pub input : replay.trace.now ≡ codes "-"
   pub limit : replay.byte_limit ≡ usual_limit
   pub part : replay.part ≡ None
+  pub reports : replay.reports.items ≡ []
+  pub counts : replay.counts ≡ None
   pub analysis : replay.analysis ≡ Lockset
   pub form : replay.form ≡ Text
   pub source : replay.source ≡ None

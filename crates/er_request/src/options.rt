@@ -50,16 +50,15 @@ struct Row {
 const REPLAY: [Row; 18] = [
     Row { name: "analysis", shape: Shape::Default("ANALYSIS", ValueParser::Names(&ANALYSES), "lockset"), without: &[],
           help: "Report accesses that no lock protects, accesses and reuses that were not ordered in this run, or both" },
-    Row { name: "suppress", shape: Shape::Values("FILE", ValueParser::String), without: &[], help: "Count the races that this file's rules take, and leave their lines out" },
+    SUPPRESS,
     Row { name: "write-rules", shape: Shape::Value("FILE", ValueParser::String), without: &["part"], help: "Write rules to this file that take each race of the report" },
     Row { name: "unused-rules", shape: Shape::Flag, without: &["part"], help: "Name each rule that took no race, on standard error" },
     Row { name: "max-races", shape: Shape::Value("COUNT", ValueParser::Unsigned(0, u64::MAX)), without: &["by-site", "part"],
           help: "Write the lines of the first races alone, and how many were left out" },
-    Row { name: "explain", shape: Shape::Flag, without: &[], help: "Name the accesses that make each race" },
-    Row { name: "by-site", shape: Shape::Flag, without: &["part"], help: "Write a table of the sites with races, most words first, and explain a race of each" },
-    Row { name: "format", shape: Shape::Default("FORM", ValueParser::Names(&FORMS), "text"), without: &["by-site"],
-          help: "How the report is written: as text for scripts, as JSON for programs, as SARIF for code hosts, or as one page of HTML for people" },
-    Row { name: "source", shape: Shape::Value("DIR", ValueParser::String), without: &["part"], help: "With --format html, show the lines around each site, from the files below this folder" },
+    EXPLAINED,
+    Row { name: "by-site", shape: Shape::Flag, without: &["part"], help: BY_SITE },
+    FORMAT,
+    Row { name: "source", shape: Shape::Value("DIR", ValueParser::String), without: &["part"], help: SOURCE },
     Row { name: "strict", shape: Shape::Flag, without: &["part"], help: "End with 2 if the trace is damaged, and write no report" },
     Row { name: "until-fault", shape: Shape::Flag, without: &["part"], help: "Report the steps before the first faulty line of the trace, and then its fault" },
     Row { name: "part", shape: Shape::Value("I/N", ValueParser::String), without: &[], help: "Replay part I of N alone, as 2/8, with at most 4096 parts; merge makes one report of those of all parts" },
@@ -82,10 +81,33 @@ const EXPLAIN: [Row; 3] = [
 const PRINT: [Row; 1] = [Row { name: "trace", shape: Shape::DefaultWord("TRACE", ValueParser::String, "-"), without: &[], help: "The trace, or - for standard input" }];
 
 #[rattlefmt::skip]
-const MERGE: [Row; 1] = [Row { name: "reports", shape: Shape::Words("REPORT", ValueParser::String), without: &[], help: "The reports of all parts, in any order" }];
+const MERGE: [Row; 8] = [
+    Row { name: "trace", shape: Shape::Value("FILE", ValueParser::String), without: &[], help: "The trace that the reports are of; each option below needs it" },
+    SUPPRESS,
+    EXPLAINED,
+    Row { name: "by-site", shape: Shape::Flag, without: &[], help: BY_SITE },
+    FORMAT,
+    Row { name: "source", shape: Shape::Value("DIR", ValueParser::String), without: &[], help: SOURCE },
+    BYTE_LIMIT,
+    Row { name: "reports", shape: Shape::Words("REPORT", ValueParser::String), without: &[], help: "The reports of all parts, in any order" },
+];
 
 #[rattlefmt::skip]
 const DEMO: [Row; 1] = [Row { name: "name", shape: Shape::Word("NAME", ValueParser::Names(&DEMOS)), without: &[], help: "What the threads do" }];
+
+#[rattlefmt::skip]
+const SUPPRESS: Row = Row { name: "suppress", shape: Shape::Values("FILE", ValueParser::String), without: &[], help: "Count the races that this file's rules take, and leave their lines out" };
+
+#[rattlefmt::skip]
+const EXPLAINED: Row = Row { name: "explain", shape: Shape::Flag, without: &[], help: "Name the accesses that make each race" };
+
+#[rattlefmt::skip]
+const FORMAT: Row = Row { name: "format", shape: Shape::Default("FORM", ValueParser::Names(&FORMS), "text"), without: &["by-site"],
+                          help: "How the report is written: as text for scripts, as JSON for programs, as SARIF for code hosts, or as one page of HTML for people" };
+
+const BY_SITE: &str = "Write a table of the sites with races, most words first, and explain a race of each";
+
+const SOURCE: &str = "With --format html, show the lines around each site, from the files below this folder";
 
 #[rattlefmt::skip]
 const BYTE_LIMIT: Row = Row { name: "byte-limit", shape: Shape::Default("BYTES", ValueParser::Unsigned(1, MOST_BYTES), "268435456"), without: &[],
@@ -110,7 +132,9 @@ Example, for a trace that three machines replay:
   eraser replay --part 2/3 big.trace > 2.report
   eraser replay --part 3/3 big.trace > 3.report
   eraser merge 1.report 2.report 3.report
-prints what `eraser replay big.trace` prints, and ends with its status.
+prints what `eraser replay big.trace` prints, and ends with its status. With the trace, the report has any form:
+  eraser merge --trace big.trace --by-site 1.report 2.report 3.report
+prints what `eraser replay --by-site big.trace` prints. It replays the pages with races alone.
 
 Each part must be there once. All must be of the same trace, by the same rules and options. Otherwise nothing is printed but what is wrong.
 cluster/README.md has scripts for Slurm and for GNU parallel.";

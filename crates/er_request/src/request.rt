@@ -2,7 +2,7 @@
 ghost use Rattle.std.specs.Prelude.{◌<◌, ◌≤◌, ◌^◌};
 
 use er_parts::Part;
-use er_report::{Analysis, Form};
+use er_report::{Analysis, Form, Report};
 
 /// What a command line asks for.
 #[derive(Drop)]
@@ -13,7 +13,7 @@ pub enum Request<'a> {
     Explain(Explain<'a>),
     /// The text that a trace means. It has the path of the trace, or `-` for standard input.
     Print(&'a str),
-    /// The one report of the reports of a trace's parts. It has the paths of these reports.
+    /// The one report of the reports of a trace's parts, as text. It has the paths of these reports.
     Merge(Vec<&'a str>),
     /// A workload on threads of this program.
     Demo(Demo),
@@ -34,6 +34,11 @@ pub struct Replay<'a> {
     pub trace: &'a str,
     /// Which part of the trace is replayed, or None if all of it is. Given only with the path of a file, and of a replay whose report is text.
     pub part: Option<Part>,
+    /// The paths of the reports of all parts of the trace, if these are there: then the pages of their lines alone are replayed. With them `part` is None,
+    /// until the reports are read and merged.
+    pub reports: Vec<&'a str>,
+    /// What these reports count together.
+    pub counts: Option<Report>,
     /// By which rule accesses are races.
     pub analysis: Analysis,
     /// How the reports are written.

@@ -66,6 +66,8 @@ fn usual_replay<'a>(alloc: Global, hints: bool) -> Replay<'a>
         max_races: None,
         trace: "-",
         part: None,
+        reports: Vec::new(alloc),
+        counts: None,
         analysis: Analysis::Lockset,
         form: Form::Text,
         source: None,
@@ -131,6 +133,9 @@ fn conflict_of(request: &Request<'_>) -> Option<&'static str> {
     {
         return Some("--write-rules would replace a file of --suppress: give it another path");
     }
+    if !replay.reports.is_empty() && replay.trace == "-" {
+        return Some("merge with options reads the trace twice: give its file with --trace");
+    }
     replay.part.and(conflict_of_part(replay))
 }
 
@@ -147,23 +152,23 @@ fn request_of<'a>(alloc: Global, all: &ArgMatches<'a>) -> Result<Option<Request<
     Ok(match all.subcommand() {
         Some(("replay", found)) => {
             let suppressions = found.get_strs("suppress").unwrap_or(&[]);
-            replay_of(found, suppressions.to_vec(alloc)?)
+            replay_of(alloc, found, suppressions.to_vec(alloc)?)
         }
         Some(("explain", found)) => explain_of(found),
         Some(("print", found)) => found.get_str("trace").map(Request::Print),
-        Some(("merge", found)) => {
-            let reports = found.get_strs("reports").unwrap_or(&[]);
-            Some(Request::Merge(reports.to_vec(alloc)?))
-        }
+        Some(("merge", found)) => merge_of(alloc, found)?,
         Some(("demo", found)) => demo_of(found),
         _ => None,
     })
 }
 
 // The parser has refused numbers beyond their limits: `clamp` and `min` show that to the prover.
-fn replay_of<'a>(found: &ArgMatches<'a>, suppressions: Vec<&'a str>) -> Option<Request<'a>> {
+fn replay_of<'a>(
+    alloc: Global,
+    found: &ArgMatches<'a>,
+    suppressions: Vec<&'a str>,
+) -> Option<Request<'a>> {
     let form = form_of(found)?;
-    let has_reasons = matches!(form, Form::BySite | Form::Sarif | Form::Html);
     let byte_limit = found.get_one::<u64>("byte-limit")?.min(MOST_BYTES);
     let gives_limit = found.value_source("byte-limit") == Some(ValueSource::CommandLine);
     Some(Request::Replay(Replay {
@@ -172,10 +177,12 @@ fn replay_of<'a>(found: &ArgMatches<'a>, suppressions: Vec<&'a str>) -> Option<R
         max_races: found.get_one::<u64>("max-races"),
         trace: found.get_str("trace")?,
         part: found.get_str("part").and_then(part_in),
+        reports: Vec::new(alloc),
+        counts: None,
         analysis: analysis_of(found)?,
         form,
         source: found.get_str("source"),
-        explain: has_reasons || found.get_flag("explain"),
+        explain: has_reasons(form) || found.get_flag("explain"),
         strict: found.get_flag("strict"),
         until_fault: found.get_flag("until-fault"),
         progress: found.get_flag("progress"),
@@ -186,6 +193,34 @@ fn replay_of<'a>(found: &ArgMatches<'a>, suppressions: Vec<&'a str>) -> Option<R
         binary_limit: if gives_limit { byte_limit } else { MOST_BYTES },
         suppressions,
     }))
+}
+
+// Without an option the reports are merged as text. Else a replay of the pages with races makes the form that is asked for.
+fn merge_of<'a>(
+    alloc: Global,
+    found: &ArgMatches<'a>,
+) -> Result<Option<Request<'a>>, AllocError> {
+    let reports = found.get_strs("reports").unwrap_or(&[]).to_vec(alloc)?;
+    let mut replay = usual_replay(alloc, false);
+    replay.suppressions.extend_from_slice(found.get_strs("suppress").unwrap_or(&[]))?;
+    replay.source = found.get_str("source");
+    replay.form = form_of(found).unwrap_or(Form::Text);
+    replay.explain = has_reasons(replay.form) || found.get_flag("explain");
+    let is_plain = replay.form == Form::Text && !replay.explain && replay.source.is_none();
+    let trace = found.get_str("trace");
+    if is_plain && replay.suppressions.is_empty() && trace.is_none() {
+        return Ok(Some(Request::Merge(reports)));
+    }
+    let byte_limit = found.get_one::<u64>("byte-limit");
+    replay.byte_limit = byte_limit.unwrap_or(MOST_BYTES).min(MOST_BYTES);
+    replay.trace = trace.unwrap_or("-");
+    replay.reports = reports;
+    Ok(Some(Request::Replay(replay)))
+}
+
+// Whether the form always has reasons.
+fn has_reasons(form: Form) -> bool {
+    matches!(form, Form::BySite | Form::Sarif | Form::Html)
 }
 
 // The value of `--part`, if it is no part.

@@ -33,7 +33,7 @@ use Rattle.er_triage.specs.Known.{lines_of}
 use Rattle.er_triage.specs.Notes.{AreNotes, notes_text}
 use Rattle.eraser.specs.Faults.{replay_fault}
 use Rattle.eraser.specs.Inner.Writes.{WritesSome}
-use Rattle.eraser.specs.Replays.{AreShown, EndsAs, FailsAs, FailsBy, FailsFor, IsEndOf, IsOutput, MayHavePlaces, MayLack, races_in, unordered_of, verdict_status}
+use Rattle.eraser.specs.Replays.{AreCounted, AreShown, EndsAs, FailsAs, FailsBy, FailsFor, IsCountedIf, IsEndOf, IsOutput, MayHavePlaces, MayLack, MayLackRaces, headed_part, races_in, unordered_of, verdict_status}
 use Rattle.eraser.specs.declared.replaying.Ended.{Ended}
 
 -- what is known of reports of a text without the races that rules take, and of those of them that are left
@@ -51,11 +51,26 @@ left_some table rules None left is = ap is_some is
 left_some table rules (Some report) None is = absurd is
 left_some table rules (Some report) (Some left) is = refl
 
+still-there : (replay : Replay) (rules : List Target) (raced found : Reports) → MayLackRaces replay rules raced found
+    → (is_some found.lockset ≡ is_some raced.lockset) × (is_some found.unordered ≡ is_some raced.unordered)
+still-there replay rules raced found (inl same) = (sym (ap (λ (r : Reports). is_some r.lockset) same), sym (ap (λ (r : Reports). is_some r.unordered) same))
+still-there replay rules raced found (inr (asks, again, (table, left))) =
+    (left_some table rules raced.lockset found.lockset left.lockset, left_some table rules raced.unordered found.unordered left.unordered)
+
+counted_one : (counts : Report) (old new : Option Report) → IsCountedIf counts old new → is_some new ≡ is_some old
+counted_one counts None new is = ap is_some is
+counted_one counts (Some old) None is = absurd is
+counted_one counts (Some old) (Some new) is = refl
+
+counted_some : (counts : Option Report) (old new : Reports) → AreCounted counts old new → (is_some new.lockset ≡ is_some old.lockset) × (is_some new.unordered ≡ is_some old.unordered)
+counted_some None old new same = (sym (ap (λ (r : Reports). is_some r.lockset) same), sym (ap (λ (r : Reports). is_some r.unordered) same))
+counted_some (Some counts) old new (unordered, lockset) = (counted_one counts old.lockset new.lockset lockset, ap is_some unordered)
+
 pub still-asked : (replay : Replay) (rules : List Target) (raced found : Reports) → MayLack replay rules raced found
     → (is_some found.lockset ≡ is_some raced.lockset) × (is_some found.unordered ≡ is_some raced.unordered)
-still-asked replay rules raced found (inl same) = (sym (ap (λ (r : Reports). is_some r.lockset) same), sym (ap (λ (r : Reports). is_some r.unordered) same))
-still-asked replay rules raced found (inr (asks, again, (table, left))) =
-    (left_some table rules raced.lockset found.lockset left.lockset, left_some table rules raced.unordered found.unordered left.unordered)
+still-asked replay rules raced found (lacking, lacks, counted) =
+    let first = still-there replay rules raced lacking lacks in
+    let second = counted_some replay.counts lacking found counted in (second.0 ∙ first.0, second.1 ∙ first.1)
 
 abbrev output : {F : Type 0} (remaining : F → Option (List ℕ)) (replay : Replay) (text : List ℕ) (touches : Option (List Touch)) (rules : List Target) (names : NameTable) (found left : Reports) (bytes : List ℕ)
     → AreTriaged replay text touches rules names found left → AreShown remaining replay names rules left bytes → IsOutput remaining replay text touches rules bytes
@@ -113,7 +128,7 @@ written Are heading old new (Err e) items (Err writing.Write) are wrote memory =
 
 -- a form that was made is what is asked for
 shown_if : {F A E : Type 0} (remaining : F → Option (List ℕ)) (replay : Replay) (names : NameTable) (rules : List Target) (reports : Reports) (table : PlaceTable) (excerpts : List Excerpt) (heading : List ℕ)
-    (text : Result A E) (items : A → List ℕ) → MayHavePlaces remaining replay reports table → (replay.source ≡ None → excerpts ≡ []) → IsHeading replay.part replay.explain heading
+    (text : Result A E) (items : A → List ℕ) → MayHavePlaces remaining replay reports table → (replay.source ≡ None → excerpts ≡ []) → IsHeading (headed_part replay) replay.explain heading
     → IfOk text (λ t. IsForm replay.form names table rules excerpts reports (items t)) → IfOk text (λ t. AreShown remaining replay names rules reports (heading ++ items t))
 shown_if remaining replay names rules reports table excerpts heading (Ok t) items places sources headed form =
     record { table = table; excerpts = excerpts; places = places; sources = sources; heading = heading; body = items t; headed = headed; form = form; says = refl }
@@ -121,7 +136,7 @@ shown_if remaining replay names rules reports table excerpts heading (Err e) ite
 
 pub delivered : {F A E X : Type 0} (remaining : F → Option (List ℕ)) (replay : Replay) (names : NameTable) (rules : List Target) (reports : Reports) (table : PlaceTable) (excerpts : List Excerpt) (heading : List ℕ)
     (old new : Option (List ℕ)) (text : Result A E) (items : A → List ℕ) (result : Result X WriteFault) → MayHavePlaces remaining replay reports table → (replay.source ≡ None → excerpts ≡ [])
-    → IsHeading replay.part replay.explain heading → IfOk text (λ t. IsForm replay.form names table rules excerpts reports (items t))
+    → IsHeading (headed_part replay) replay.explain heading → IfOk text (λ t. IsForm replay.form names table rules excerpts reports (items t))
     → ((bytes : List ℕ) → IfOk text (λ t. items t ≡ bytes) → WritesReport old new (heading ++ bytes) result)
     → IfErr text (λ e. result ≡ Err writing.Memory) → WritesSome (AreShown remaining replay names rules reports) old new (as_fault result)
 delivered remaining replay names rules reports table excerpts heading old new text items result places sources headed form wrote memory =

@@ -1,8 +1,9 @@
 -- How a replay ends.
-use Rattle.std.proofs.Common.{◌≡◌, ◌∙◌, ◌++◌, ℕ, Bool, true, false, nat_lt, is_some, IsFalse, inl, inr, List, [], append-nil, take, Option, Some, None, IsSome, IfSome, IfOk, IfErr, Result, Ok, Err, refl, sym, ap, subst}
+use Rattle.std.proofs.Common.{◌≡◌, ◌∙◌, ◌++◌, ℕ, Bool, true, false, cond, nat_lt, is_some, IsFalse, inl, inr, List, [], append-nil, take, Option, Some, None, IsSome, IfSome, IfOk, IfErr, Result, Ok, Err, refl, sym, ap, subst}
 use Rattle.std.specs.Io.KnownBytes.{Appends, Keeps}
 use Rattle.er_batch.specs.Runs.{IsRunOf}
 use Rattle.er_exit.specs.Parts.{IsHeading}
+use Rattle.er_exit.specs.Writes.{LeavesOutput}
 use Rattle.er_exit.specs.declared.faults.Fault.{Fault}
 use Rattle.er_exit.specs.declared.faults.Fault.TheVariants as fault
 use Rattle.er_forms.specs.Forms.{IsForm}
@@ -31,7 +32,7 @@ use Rattle.er_trace.specs.Names.{NameTable}
 use Rattle.er_trace.specs.Trace.{Recording}
 use Rattle.er_triage.specs.First.{KeepFirst}
 use Rattle.eraser.specs.Faults.{replay_fault}
-use Rattle.eraser.specs.Replays.{EndsAs, EndsUsually, FailsAs, FailsFor, IsEndOf, IsFoundFault, IsOutput, IsUsualFault, MayLack, LeavesUsually, ReplaysTo, unordered_of}
+use Rattle.eraser.specs.Replays.{AreCounted, EndsAs, EndsUsually, FailsAs, FailsFor, IsEndOf, IsFoundFault, IsOutput, IsUsualFault, MayLack, MayLackRaces, LeavesUsually, ReplaysTo, headed_part, unordered_of}
 use Rattle.eraser.specs.declared.replaying.Ended.{Ended}
 use Rattle.eraser.specs.declared.until.Cut.{Cut}
 
@@ -75,16 +76,24 @@ record IsAlone (text : List ℕ) (found left : Reports) (bytes : List ℕ) : Typ
   pub bytes_are : bytes ≡ output_of None text recording [] false stop
 
 -- without rules none asks for facts
-nothing_lacks : (replay : Replay) (raced found : Reports) → MayLack replay [] raced found → raced ≡ found
-nothing_lacks replay raced found (inl same) = same
-nothing_lacks replay raced found (inr (asks, again, left)) = absurd (cc)
+no_race_lacks : (replay : Replay) (raced found : Reports) → MayLackRaces replay [] raced found → raced ≡ found
+no_race_lacks replay raced found (inl same) = same
+no_race_lacks replay raced found (inr (asks, again, left)) = absurd (cc)
+
+nothing_lacks : (replay : Replay) (raced found : Reports) → replay.counts ≡ None → MayLack replay [] raced found → raced ≡ found
+nothing_lacks replay raced found none (lacking, lacks, counted) =
+    no_race_lacks replay raced lacking lacks ∙ subst (λ (counts : Option Report). AreCounted counts lacking found) none counted
+
+-- and no part has a first line
+no_part : (replay : Replay) → IsUsual replay → headed_part replay ≡ None
+no_part replay usual = ap (λ (counts : Option Report). cond (is_some counts) None replay.part) usual.counts ∙ usual.part
 
 alone : {F : Type 0} (remaining : F → Option (List ℕ)) (replay : Replay) (text bytes : List ℕ) (touches : Option (List Touch)) (output : IsOutput remaining replay text touches [] bytes) → IsUsual replay → IsAlone text output.found output.left bytes
 alone remaining replay text bytes touches output usual = with_report (there output.found.lockset (output.locks ∙ ap asks_locks usual.analysis))
   where
     reports : AreReportsOfText None Lockset text touches usual_limit [] false output.names output.found
     reports =
-        subst (λ (r : Reports). AreReportsOfText None Lockset text touches usual_limit [] false output.names r) (nothing_lacks replay output.raced output.found output.facts)
+        subst (λ (r : Reports). AreReportsOfText None Lockset text touches usual_limit [] false output.names r) (nothing_lacks replay output.raced output.found usual.counts output.facts)
         (subst (λ (a : Analysis). AreReportsOfText None a text touches usual_limit [] false output.names output.raced) usual.analysis
         (subst (λ (limit : ℕ). AreReportsOfText None replay.analysis text touches limit [] false output.names output.raced) usual.limit
         (subst (λ (explain : Bool). AreReportsOfText None replay.analysis text touches replay.byte_limit [] explain output.names output.raced) usual.explain
@@ -97,7 +106,7 @@ alone remaining replay text bytes touches output usual = with_report (there outp
     none = not_there output.found.unordered (output.order ∙ ap asks_order usual.analysis)
 
     headless : output.shown.heading ≡ []
-    headless = subst (λ (part : Option PartView). IsHeading part replay.explain output.shown.heading) usual.part output.shown.headed
+    headless = subst (λ (part : Option PartView). IsHeading part replay.explain output.shown.heading) (no_part replay usual) output.shown.headed
 
     form : bytes ≡ reports_text output.names output.left
     form = output.shown.says ∙ ap (λ (heading : List ℕ). heading ++ output.shown.body) headless
@@ -177,7 +186,7 @@ usual-fails remaining replay text touches old new why usual fails = by_case why 
     by_case fault.Write fails = (tt, begun fails)
     by_case fault.WriteRules (some, rest) = no_file replay.write_rules usual.write_rules some
     by_case fault.Memory keeps = (tt, keeps)
-    by_case fault.NoFile (some, rest) = no_file replay.part usual.part some
+    by_case fault.NoFile (some, rest) = no_file (headed_part replay) (no_part replay usual) some
     by_case fault.Arguments fails = other fault.Arguments fails
     by_case (fault.Text f) fails = other (fault.Text f) fails
     by_case (fault.Suppressions file f) fails = other (fault.Suppressions file f) fails
@@ -226,3 +235,32 @@ pub without-rules : {F : Type 0} (touches : Option (List Touch)) (remaining : F 
     → IfErr result (λ cut. IfSome told (λ text. FailsAs remaining replay text touches rules old new cut.fault)) → IfErr result (λ cut. IfSome told (λ text. FailsAs remaining replay text touches [] old new cut.fault))
 without-rules touches remaining replay told old new rules result none fails =
     subst (λ (r : List Target). IfErr result (λ cut. IfSome told (λ text. FailsAs remaining replay text touches r old new cut.fault))) none fails
+
+keeps_itself : (output : Option (List ℕ)) → Keeps output output
+keeps_itself None = tt
+keeps_itself (Some bytes) = refl
+
+-- what wrote nothing leaves the output so, whatever its fault is
+pub leaves_itself : (output : Option (List ℕ)) (why : Fault) → LeavesOutput output output why
+leaves_itself output fault.Write = tt
+leaves_itself output fault.WriteRules = tt
+leaves_itself output fault.Arguments = keeps_itself output
+leaves_itself output (fault.Text f) = keeps_itself output
+leaves_itself output (fault.Suppressions file f) = keeps_itself output
+leaves_itself output (fault.Damaged damage) = keeps_itself output
+leaves_itself output (fault.NoStep line) = keeps_itself output
+leaves_itself output fault.Memory = keeps_itself output
+leaves_itself output fault.TableFull = keeps_itself output
+leaves_itself output (fault.Beyond limit) = keeps_itself output
+leaves_itself output fault.OpenTrace = keeps_itself output
+leaves_itself output fault.NoFile = keeps_itself output
+leaves_itself output (fault.OpenSuppressions file) = keeps_itself output
+leaves_itself output fault.Read = keeps_itself output
+leaves_itself output (fault.ReadSuppressions file) = keeps_itself output
+leaves_itself output (fault.Refused refusal) = keeps_itself output
+leaves_itself output fault.WorkerNotStarted = keeps_itself output
+leaves_itself output fault.WorkerLost = keeps_itself output
+leaves_itself output (fault.Unsettled why) = keeps_itself output
+leaves_itself output (fault.Merging why) = keeps_itself output
+leaves_itself output (fault.OpenReport n) = keeps_itself output
+leaves_itself output (fault.ReadReport n) = keeps_itself output

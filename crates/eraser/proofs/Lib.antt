@@ -1,3 +1,4 @@
+mod MergedLemmas
 mod NoteLemmas
 mod EndLemmas
 mod DeliverLemmas

@@ -1,5 +1,5 @@
 -- What a replay leaves, and its exit status.
-use Rattle.std.specs.Prelude.{◌≡◌, ◌≢◌, ◌≤◌, ◌⊎◌, ◌&&◌, ◌++◌, ℕ, Bool, true, false, not, cond, List, [], length, ◌-◌, take, codes, Option, Some, None, IsSome, is_some, IfSome, IsFalse, Result, Ok, Err}
+use Rattle.std.specs.Prelude.{◌≡◌, ◌≢◌, ◌≤◌, ◌⊎◌, ◌&&◌, ◌++◌, ℕ, Bool, true, false, not, cond, List, [], length, ◌-◌, take, codes, Option, Some, None, IsSome, IsSomeAnd, is_some, IfSome, IsFalse, Result, Ok, Err}
 use Rattle.std.specs.Io.KnownBytes.{Appends, Keeps}
 use Rattle.std.specs.Str.{bytes_eq}
 use Rattle.er_batch.specs.declared.options.Options.{Options}
@@ -15,6 +15,7 @@ use Rattle.er_exit.specs.declared.faults.Fault.TheVariants as fault
 use Rattle.er_forms.specs.Forms.{IsForm}
 use Rattle.er_forms.specs.declared.excerpts.Excerpt.{Excerpt}
 use Rattle.er_lines.specs.declared.ready.Touch.{Touch}
+use Rattle.er_parts.specs.Parts.{PartView}
 use Rattle.er_places.specs.Places.{ArePlaces, PlaceTable, place_at}
 use Rattle.er_places.specs.Wanted.{are_asked}
 use Rattle.er_report.specs.declared.report.Report.{Report}
@@ -66,9 +67,32 @@ abbrev pub shows_places : Replay → Bool
 shows_places replay = replay.explain && tells_places replay.form && reads_again replay
 
 -- the reports are as they were, or rules that ask for it took races by what the trace says of the program. Of what it says this shows nothing
-abbrev pub MayLack : Replay → List Target → Reports → Reports → Type 0
-MayLack replay rules reports left =
+abbrev pub MayLackRaces : Replay → List Target → Reports → Reports → Type 0
+MayLackRaces replay rules reports left =
     (reports ≡ left) ⊎ ((ask_facts rules ≡ true) × (reads_again replay ≡ true) × ((table : PlaceTable) × AreLeft table rules reports left))
+
+-- the report with the counts of steps and of races that rules took of this one
+abbrev pub IsCounted : Report → Report → Report → Type 0
+IsCounted counts old new =
+    (new.rule_counts.items ≡ counts.rule_counts.items)
+    × (new ≡ record old { rule_counts = new.rule_counts; steps = counts.steps; suppressed = counts.suppressed })
+
+abbrev pub IsCountedIf : Report → Option Report → Option Report → Type 0
+IsCountedIf counts None new = new ≡ None
+IsCountedIf counts (Some old) new = IsSomeAnd new (IsCounted counts old)
+
+-- so it is of the lockset rule's report, if the reports of all parts are merged and these are their counts
+abbrev pub AreCounted : Option Report → Reports → Reports → Type 0
+AreCounted None old new = old ≡ new
+AreCounted (Some counts) old new = (new.unordered ≡ old.unordered) × IsCountedIf counts old.lockset new.lockset
+
+-- and then the counts are those of all parts, if their reports are merged
+abbrev pub MayLack : Replay → List Target → Reports → Reports → Type 0
+MayLack replay rules reports left = (lacking : Reports) × MayLackRaces replay rules reports lacking × AreCounted replay.counts lacking left
+
+-- the part whose report has a first line: none if the reports of all parts are merged
+abbrev pub headed_part : Replay → Option PartView
+headed_part replay = cond (is_some replay.counts) None replay.part
 
 -- no place is known
 abbrev pub HasNoPlace : PlaceTable → Type 0
@@ -91,7 +115,7 @@ pub record AreShown {F : Type 0} (remaining : F → Option (List ℕ)) (replay :
   pub sources : replay.source ≡ None → excerpts ≡ []
   pub heading : List ℕ
   pub body : List ℕ
-  pub headed : IsHeading replay.part replay.explain heading
+  pub headed : IsHeading (headed_part replay) replay.explain heading
   pub form : IsForm replay.form names table rules excerpts reports body
   pub says : bytes ≡ heading ++ body
 
@@ -154,7 +178,7 @@ abbrev pub FailsAs : {F : Type 0} → (F → Option (List ℕ)) → Replay → L
 FailsAs remaining replay text touches rules old new fault.Write = (bytes : List ℕ) × IsOutput remaining replay text touches rules bytes × ((n : ℕ) × Appends old new (take n bytes))
 FailsAs remaining replay text touches rules old new fault.WriteRules = IsSome replay.write_rules × ((bytes : List ℕ) × IsOutput remaining replay text touches rules bytes × Appends old new bytes)
 FailsAs remaining replay text touches rules old new fault.Memory = Keeps old new
-FailsAs remaining replay text touches rules old new fault.NoFile = IsSome replay.part × Keeps old new
+FailsAs remaining replay text touches rules old new fault.NoFile = IsSome (headed_part replay) × Keeps old new
 FailsAs remaining replay text touches rules old new other = IsFoundFault replay text other × Keeps old new
 
 -- the reader has failed exactly if this is a failed read, and the output exactly if it is a failed write
@@ -179,7 +203,7 @@ pub record AreOptionsOf (replay : Replay) (options : Options) : Type 0 where
 -- and what comes before its report is what is asked for
 pub record IsRunAs (replay : Replay) (options : Options) (heading : List ℕ) : Type 0 where
   pub run : AreOptionsOf replay options
-  pub headed : IsHeading replay.part replay.explain heading
+  pub headed : IsHeading (headed_part replay) replay.explain heading
 
 -- A replay of the standard input with no option
 

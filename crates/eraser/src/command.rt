@@ -13,9 +13,9 @@ ghost use Rattle.er_text.specs.Ending.{IsEndingOf};
 ghost use Rattle.er_triage.specs.Notes.{AreNotes};
 ghost use Rattle.eraser.specs.Notes.{AddsNotesOn, GetsNotes, GetsTextNotes};
 ghost use Rattle.eraser.specs.Printing.{PrintsTo};
-ghost use Rattle.eraser.specs.Replays.{AreOptionsOf, ComesTo, EndsAs, EndsUsually, FailsAs, IsEndOf, touches_in};
+ghost use Rattle.eraser.specs.Replays.{AreOptionsOf, ComesTo, EndsAs, EndsUsually, FailsAs, IsEndOf, headed_part, touches_in};
 
-use crate::merging::merge_files;
+use crate::merging::{merge_files, merge_for};
 use crate::meter::Meter;
 use crate::replaying::{Ended, Job, notes_of};
 use crate::traces::{Directly, explain_step, note_touches, print_trace};
@@ -26,6 +26,7 @@ use er_device::Device;
 use er_exit::{Fault, heading_of, put, report_fault, run_demo, text_size};
 use er_lines::Shortcut;
 use er_load::Workload;
+use er_parts::Part;
 use er_request::{Replay, Request, read_request};
 use er_rules::{Suppressions, read_suppressions};
 use er_run::Options;
@@ -83,9 +84,17 @@ where
     ensures unwatched { names_progress words.now ≡ false → Keeps (P.contents (inner_of progress.old)) (P.contents (inner_of progress.new)) }
 {
     match read_request(rt.alloc(), words, on_terminal) {
-        Ok(Request::Replay(asked)) => {
+        Ok(Request::Replay(mut asked)) => {
             note_touches(input, asked.analysis.asks_order() && !asked.until_fault);
-            let replayed = run_replay(rt, &asked, input, &Directly, output, progress, on_terminal);
+            let replayed = run_asked(
+                rt,
+                &mut asked,
+                input,
+                &Directly,
+                output,
+                progress,
+                on_terminal,
+            );
             let status = end_replay(rt, &asked, replayed, errors);
             drop(asked);
             status
@@ -110,6 +119,36 @@ where
             drop(error);
             status
         }
+    }
+}
+
+// Runs a replay behind the merge of its reports, if there are some.
+fn run_asked<R, I, S, O, P>(
+    rt: &R,
+    replay: &mut Replay<'_>,
+    input: &mut Device<I>,
+    shortcut: &S,
+    output: &mut Device<O>,
+    progress: &mut Device<P>,
+    on_terminal: bool,
+) -> Result<Ended, Cut>
+where
+    R: Files + Clock + RandomSource + AllocGlobal + Threads + Wait + Sync,
+    I: Read,
+    S: Shortcut<I>,
+    O: Write,
+    P: Write,
+    requires input { has_failed input.old ≡ false }
+    requires output { has_failed output.old ≡ false }
+    ensures same { (replay.new.hints ≡ replay.old.hints) × (replay.new.until_fault ≡ replay.old.until_fault) }
+    ensures end { IfOk result (IsEndOf replay.new) }
+    ensures usual { IsUsual replay.old → IfSome (I.remaining (inner_of input.old)) (λ text. EndsUsually text (has_failed input.new) (has_failed output.new) (O.contents (inner_of output.old)) (O.contents (inner_of output.new)) result) }
+    ensures nothing { replay.old.until_fault ≡ false → IfErr result (λ cut. LeavesOutput (O.contents (inner_of output.old)) (O.contents (inner_of output.new)) cut.fault) }
+    ensures unwatched { replay.old.progress ≡ false → Keeps (P.contents (inner_of progress.old)) (P.contents (inner_of progress.new)) }
+{
+    match merge_for(rt, replay) {
+        Ok(()) => run_replay(rt, replay, input, shortcut, output, progress, on_terminal),
+        Err(fault) => Err(cut_by(rt.alloc(), fault)),
     }
 }
 
@@ -144,7 +183,7 @@ where
         Ok(suppressions) => suppressions,
         Err(fault) => return Err(cut_by(rt.alloc(), fault)),
     };
-    let (part, files) = (replay.part, &replay.suppressions);
+    let (part, files) = (headed_part(replay), &replay.suppressions);
     let heading = match heading_of(rt, part, replay.trace, files, replay.explain) {
         Ok(heading) => heading,
         Err(fault) => return Err(cut_by(rt.alloc(), fault)),
@@ -166,6 +205,16 @@ where
     let replayed = replay_trace(rt, job, input, shortcut, output, &mut meter);
     drop(suppressions);
     replayed
+}
+
+// The part whose report has a first line: none if the reports of all parts are merged.
+fn headed_part(replay: &Replay<'_>) -> Option<Part>
+    ensures { result ≡ headed_part replay.now }
+{
+    if replay.counts.is_some() {
+        return None;
+    }
+    replay.part
 }
 
 // The rules of these files, in their order, and from file to file.

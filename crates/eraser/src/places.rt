@@ -1,13 +1,13 @@
 //! What a report shows from files: the places of the accesses that reasons name and what the trace says of the program, by a second look at the trace,
 //! and lines of source files. And which races rules take by what the trace says of the program.
-ghost use Rattle.std.specs.Prelude.{◌≡◌, [], false, true, None, is_some, IfErr, IfOk, IfSome};
+ghost use Rattle.std.specs.Prelude.{◌≡◌, [], false, true, None, is_some, IfErr, IfOk, IfSome, OnOk};
 ghost use Rattle.er_binary.specs.Decoded.{IsFresh};
 ghost use Rattle.er_device.specs.Device.{has_failed, inner_of};
 ghost use Rattle.er_exit.specs.declared.faults.Fault.TheVariants.{Memory};
 ghost use Rattle.er_report.specs.Reports.{HaveNames};
 ghost use Rattle.er_rules.specs.Rules.{targets_of};
 ghost use Rattle.er_trace.specs.Names.{NameTable};
-ghost use Rattle.eraser.specs.Replays.{AreOptionsOf, MayHavePlaces, MayLack, reads_again, shows_places};
+ghost use Rattle.eraser.specs.Replays.{AreOptionsOf, AreCounted, MayHavePlaces, MayLack, MayLackRaces, reads_again, shows_places};
 
 use crate::replaying::Job;
 use er_binary::Decoded;
@@ -15,11 +15,11 @@ use er_device::Device;
 use er_exit::{Fault, open_ordinary};
 use er_forms::{Excerpt, excerpt_around, place_of, sites_of};
 use er_places::{Noting, Places, facts_of_races, facts_of_reports, places_of_reports};
-use er_report::{Form, Reports};
+use er_report::{Form, Report, Reports};
 use er_request::Replay;
 use er_trace::Names;
 use er_triage::take_by_facts;
-use std::alloc::AllocError;
+use std::alloc::{AllocError, Global};
 use std::io::{ErrorKind, Read};
 use std::rt::Files;
 
@@ -46,13 +46,49 @@ pub(crate) fn places_of<R: Files + AllocGlobal>(rt: &R, job: Job<'_>, reports: &
     places.with_facts(again.into_facts())
 }
 
-/// The reports without the races that rules take by what the trace says of the program. It says nothing if it can't be read again.
+/// The reports without the races that rules take by what the trace says of the program. It says nothing if it can't be read again. If the reports of all
+/// parts are merged, what these count stands in the place of what the replayed pages give.
 pub(crate) fn without_known<R: Files + AllocGlobal>(
     rt: &R,
     job: Job<'_>,
     reports: Reports,
 ) -> Result<Reports, Fault>
     ensures left { IfOk result (MayLack job.entry.replay.now (targets_of job.entry.suppressions.now) reports) }
+    ensures named { (names : NameTable) → HaveNames names reports → IfOk result (HaveNames names) }
+    ensures asked { IfOk result (λ left. (is_some left.lockset ≡ is_some reports.lockset) × (is_some left.unordered ≡ is_some reports.unordered)) }
+    ensures fault { IfErr result (λ fault. fault ≡ Memory) }
+{
+    let mut left = without_facts(rt, job, reports)?;
+    with_counts(rt.alloc(), &mut left, &job.replay.counts)?;
+    Ok(left)
+}
+
+// Counts in the report of the lockset rule as this one does, if it is given.
+fn with_counts(
+    alloc: Global,
+    reports: &mut Reports,
+    counts: &Option<Report>,
+) -> Result<(), AllocError>
+    ensures counted { OnOk result (AreCounted counts.now reports.old reports.new) }
+    ensures named { (names : NameTable) → HaveNames names reports.old → OnOk result (HaveNames names reports.new) }
+    ensures asked { OnOk result ((is_some reports.new.lockset ≡ is_some reports.old.lockset) × (is_some reports.new.unordered ≡ is_some reports.old.unordered)) }
+{
+    if let Some(counts) = counts
+        && let Some(report) = &mut reports.lockset
+    {
+        report.rule_counts = counts.rule_counts.to_vec(alloc)?;
+        report.steps = counts.steps;
+        report.suppressed = counts.suppressed;
+    }
+    Ok(())
+}
+
+fn without_facts<R: Files + AllocGlobal>(
+    rt: &R,
+    job: Job<'_>,
+    reports: Reports,
+) -> Result<Reports, Fault>
+    ensures left { IfOk result (MayLackRaces job.entry.replay.now (targets_of job.entry.suppressions.now) reports) }
     ensures named { (names : NameTable) → HaveNames names reports → IfOk result (HaveNames names) }
     ensures asked { IfOk result (λ left. (is_some left.lockset ≡ is_some reports.lockset) × (is_some left.unordered ≡ is_some reports.unordered)) }
     ensures fault { IfErr result (λ fault. fault ≡ Memory) }

@@ -1,5 +1,5 @@
 -- Each request leaves its own notes, a word asks for what a request does, and wrong arguments leave no note.
-use Rattle.std.proofs.Common.{◌≡◌, ◌∙◌, ◌||◌, ℕ, Bool, List, false, option_map, subst}
+use Rattle.std.proofs.Common.{◌≡◌, ◌||◌, ◌∙◌, ℕ, Bool, List, false, option_map, subst, sym}
 use Rattle.er_binary.specs.Decoded.{source_of, to_come}
 use Rattle.er_binary.specs.Meaning.{meant}
 use Rattle.er_device.specs.Device.{inner_of, has_failed}
@@ -19,23 +19,24 @@ returns-in-Ok-Replay-clause-usual g c input =
     let asked : IsUsual c.in-Ok-Replay.asked × (c.in-Ok-Replay.asked.hints ≡ c.args.on_terminal) = (rw c.in-Ok-Replay.field-0-is at c.in-Ok-Replay.ensures.asks) input in
     let decoded = inner_of c.note_touches.new.source in
     let known = g.I.Read.remaining (source_of (inner_of c.args.input.now)) in
-    let P : Bool → List ℕ → Type 0 = λ people text. ComesTo people text (has_failed c.run_replay-replayed.new.input) (has_failed c.run_replay-replayed.new.output) (g.O.Write.contents (inner_of c.args.output.now)) (g.O.Write.contents (inner_of c.run_replay-replayed.new.output))
+    let P : Bool → List ℕ → Type 0 = λ people text. ComesTo people text (has_failed c.run_asked-replayed.new.input) (has_failed c.run_asked-replayed.new.output) (g.O.Write.contents (inner_of c.args.output.now)) (g.O.Write.contents (inner_of c.run_asked-replayed.new.output))
     (g.E.Write.contents (inner_of c.args.errors.now)) (g.E.Write.contents (inner_of c.end_replay-status.new.errors)) (has_failed c.end_replay-status.new.errors) c.end_replay-status.result in
     of-bytes known (to_come decoded) meant (P c.args.on_terminal) (λ bytes. c.note_touches.ensures.text bytes ∙ c.requires.fresh bytes)
-    (for-text (option_map (to_come decoded) known) (λ text ends. subst (λ people. P people text) asked.1 (c.end_replay-status.ensures.usual text _ _ _ _ ends))
-    (rw c.note_touches.ensures.source at (c.run_replay-replayed.ensures.usual asked.0)))
+    (for-text (option_map (to_come decoded) known) (λ text ends. subst (λ people. P people text) (c.run_asked-replayed.ensures.same.0 ∙ asked.1) (c.end_replay-status.ensures.usual text _ _ _ _ ends))
+    (rw c.note_touches.ensures.source at (c.run_asked-replayed.ensures.usual asked.0)))
 
 pub returns-in-Ok-Replay-clause-quiet : goal.returns-in-Ok-Replay-clause-quiet
 returns-in-Ok-Replay-clause-quiet g c le =
-    more-notes c.in-Ok-Replay.asked.hints (names_hints c.args.words.now || c.args.on_terminal) (rw c.in-Ok-Replay.field-0-is at c.in-Ok-Replay.ensures.hints)
+    let asks = rw c.in-Ok-Replay.field-0-is at c.in-Ok-Replay.ensures.hints in
+    more-notes c.run_asked-replayed.new.replay.hints (names_hints c.args.words.now || c.args.on_terminal) (λ is. asks (sym c.run_asked-replayed.ensures.same.0 ∙ is))
     (g.E.Write.contents (inner_of c.args.errors.now)) (g.E.Write.contents (inner_of c.end_replay-status.new.errors)) (has_failed c.end_replay-status.new.errors) (c.end_replay-status.ensures.quiet le)
 
 pub returns-in-Ok-Replay-clause-refused : goal.returns-in-Ok-Replay-clause-refused
 returns-in-Ok-Replay-clause-refused g c unnamed two =
     let unasked : c.in-Ok-Replay.asked.until_fault ≡ false =
     not-asked c.in-Ok-Replay.asked.until_fault (names_until_fault c.args.words.now) (rw c.in-Ok-Replay.field-0-is at c.in-Ok-Replay.ensures.until_fault) unnamed in
-    c.end_replay-status.ensures.refused (g.O.Write.contents (inner_of c.args.output.now)) (g.O.Write.contents (inner_of c.run_replay-replayed.new.output))
-    (c.run_replay-replayed.ensures.nothing unasked) two
+    c.end_replay-status.ensures.refused (g.O.Write.contents (inner_of c.args.output.now)) (g.O.Write.contents (inner_of c.run_asked-replayed.new.output))
+    (c.run_asked-replayed.ensures.nothing unasked) two
 
 pub returns-in-Ok-Explain-clause-quiet : goal.returns-in-Ok-Explain-clause-quiet
 returns-in-Ok-Explain-clause-quiet g c le =
