@@ -105,9 +105,11 @@ const EXPLAINED: Row = Row { name: "explain", shape: Shape::Flag, without: &[], 
 const FORMAT: Row = Row { name: "format", shape: Shape::Default("FORM", ValueParser::Names(&FORMS), "text"), without: &["by-site"],
                           help: "How the report is written: as text for scripts, as JSON for programs, as SARIF for code hosts, or as one page of HTML for people" };
 
-const BY_SITE: &str = "Write a table of the sites with races, most words first, and explain a race of each";
+const BY_SITE: &str =
+    "Write a table of the sites with races, most words first, and explain a race of each";
 
-const SOURCE: &str = "With --format html, show the lines around each site, from the files below this folder";
+const SOURCE: &str =
+    "With --format html, show the lines around each site, from the files below this folder";
 
 #[rattlefmt::skip]
 const BYTE_LIMIT: Row = Row { name: "byte-limit", shape: Shape::Default("BYTES", ValueParser::Unsigned(1, MOST_BYTES), "268435456"), without: &[],

@@ -196,13 +196,12 @@ fn replay_of<'a>(
 }
 
 // Without an option the reports are merged as text. Else a replay of the pages with races makes the form that is asked for.
-fn merge_of<'a>(
-    alloc: Global,
-    found: &ArgMatches<'a>,
-) -> Result<Option<Request<'a>>, AllocError> {
+fn merge_of<'a>(alloc: Global, found: &ArgMatches<'a>) -> Result<Option<Request<'a>>, AllocError> {
     let reports = found.get_strs("reports").unwrap_or(&[]).to_vec(alloc)?;
     let mut replay = usual_replay(alloc, false);
-    replay.suppressions.extend_from_slice(found.get_strs("suppress").unwrap_or(&[]))?;
+    replay
+        .suppressions
+        .extend_from_slice(found.get_strs("suppress").unwrap_or(&[]))?;
     replay.source = found.get_str("source");
     replay.form = form_of(found).unwrap_or(Form::Text);
     replay.explain = has_reasons(replay.form) || found.get_flag("explain");
