@@ -1,7 +1,7 @@
 -- What a reader of a trace of any form still gives, before and behind its first bytes.
 use Rattle.std.proofs.Common.{All, IfOk, OnErr, OnOk, append-nil, vec_items, ◌≡◌, ℕ, zero, suc, ◌<◌, ◌≤◌, Bool, true, false, not, cond, List, [], ◌∷◌, ◌++◌, length, take, drop, Option, Some, None, IfNone, IfSome, Result, Ok, Err, option_map, refl, sym, ap, ◌∙◌, arith}
 use Rattle.std.proofs.lemmas.List.Elements.{All-cons, All-nil, All-same}
-use Rattle.er_binary.specs.Decoded.{to_come, to_come_by, is_noting, is_noting_by, to_touch, to_touch_by}
+use Rattle.er_binary.specs.Decoded.{to_come, to_come_by, is_binary_by, is_noting, is_noting_by, to_touch, to_touch_by}
 use Rattle.er_binary.specs.Inner.Decoders.{undecoded, still, to_note}
 use Rattle.er_lines.specs.Touches.{HasHanded, StaysKnown}
 use Rattle.er_binary.specs.Meaning.{as_touches, magic, meant, text_behind, touches, touches_behind}
@@ -134,6 +134,12 @@ text_noting d at = ap (λ (f : Form). is_noting_by f d.is_noting) at
 
 pub binary_noting : {R : Type 0} (d : Decoded R) (decoder : Decoder) → d.form ≡ form.Binary decoder → is_noting d ≡ decoder.notes.is_on
 binary_noting d decoder at = ap (λ (f : Form). is_noting_by f d.is_noting) at
+
+-- one that is asked to note does so, unless a binary trace has begun
+pub asked_noting : (f : Form) (asked : Bool) → is_noting_by f true ≡ cond (is_binary_by f) (is_noting_by f asked) true
+asked_noting form.Unknown asked = refl
+asked_noting form.Text asked = refl
+asked_noting (form.Binary decoder) asked = refl
 
 -- a list that stays known, told in other words
 pub stays_as : (f g h k : List ℕ → List Touch) (old new : Option (List ℕ)) → ((rest : List ℕ) → f rest ≡ h rest) → ((rest : List ℕ) → g rest ≡ k rest)
