@@ -174,7 +174,7 @@ handed_by d e old new before after (Ok line) at turned rest_same same is given n
       parted = binary_touch d old rest at ∙ ap (λ (more : List Touch). vec_items old.notes.touches ++ more) (sym (left rest));
       known = refl;
       later = All-same (λ (touch : Touch). line ≤ touch.line) (to_touch e rest) (undecoded as_touches old.phase old rest old.notes.line) (left rest)
-          (rw is (undecoded_later old.phase old rest old.notes.line old.notes.counted));
+          (rw is (undecoded_later old.phase old rest old.notes.line old.notes.counted).from);
     }
 handed_by d e old new before after (Err why) at then rest_same same is given none = tt
 
