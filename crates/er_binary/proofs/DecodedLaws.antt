@@ -1,7 +1,7 @@
 -- What a reader of a trace of any form still gives, before and behind its first bytes.
 use Rattle.std.proofs.Common.{All, IfOk, OnErr, OnOk, append-nil, vec_items, ◌≡◌, ℕ, zero, suc, ◌<◌, ◌≤◌, Bool, true, false, not, cond, List, [], ◌∷◌, ◌++◌, length, take, drop, Option, Some, None, IfNone, IfSome, Result, Ok, Err, option_map, refl, sym, ap, ◌∙◌, arith}
 use Rattle.std.proofs.lemmas.List.Elements.{All-cons, All-nil, All-same}
-use Rattle.er_binary.specs.Decoded.{to_come, to_come_by, is_noting, is_noting_by, to_touch, to_touch_by}
+use Rattle.er_binary.specs.Decoded.{to_come, to_come_by, is_binary_by, is_noting, is_noting_by, to_touch, to_touch_by}
 use Rattle.er_binary.specs.Inner.Decoders.{undecoded, still, to_note}
 use Rattle.er_lines.specs.Touches.{HasHanded, StaysKnown}
 use Rattle.er_binary.specs.Meaning.{as_touches, magic, meant, text_behind, touches, touches_behind}
@@ -135,6 +135,12 @@ text_noting d at = ap (λ (f : Form). is_noting_by f d.is_noting) at
 pub binary_noting : {R : Type 0} (d : Decoded R) (decoder : Decoder) → d.form ≡ form.Binary decoder → is_noting d ≡ decoder.notes.is_on
 binary_noting d decoder at = ap (λ (f : Form). is_noting_by f d.is_noting) at
 
+-- one that is asked to note does so, unless a binary trace has begun
+pub asked_noting : (f : Form) (asked : Bool) → is_noting_by f true ≡ cond (is_binary_by f) (is_noting_by f asked) true
+asked_noting form.Unknown asked = refl
+asked_noting form.Text asked = refl
+asked_noting (form.Binary decoder) asked = refl
+
 -- a list that stays known, told in other words
 pub stays_as : (f g h k : List ℕ → List Touch) (old new : Option (List ℕ)) → ((rest : List ℕ) → f rest ≡ h rest) → ((rest : List ℕ) → g rest ≡ k rest)
     → StaysKnown (option_map h old) (option_map k new) → StaysKnown (option_map f old) (option_map g new)
@@ -168,7 +174,7 @@ handed_by d e old new before after (Ok line) at turned rest_same same is given n
       parted = binary_touch d old rest at ∙ ap (λ (more : List Touch). vec_items old.notes.touches ++ more) (sym (left rest));
       known = refl;
       later = All-same (λ (touch : Touch). line ≤ touch.line) (to_touch e rest) (undecoded as_touches old.phase old rest old.notes.line) (left rest)
-          (rw is (undecoded_later old.phase old rest old.notes.line old.notes.counted));
+          (rw is (undecoded_later old.phase old rest old.notes.line old.notes.counted).from);
     }
 handed_by d e old new before after (Err why) at then rest_same same is given none = tt
 

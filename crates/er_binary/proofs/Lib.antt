@@ -11,5 +11,6 @@ pub mod NotesLaws
 pub mod NumberLemmas
 pub mod TakingLaws
 pub mod TextLemmas
+pub mod TouchLaws
 pub mod WordLemmas
 pub mod WordsLaws

@@ -1,5 +1,5 @@
 -- What a reader of a trace of any form still gives, and what it notes of accesses.
-use Rattle.std.specs.Prelude.{◌≡◌, ℕ, Bool, cond, List, [], ◌++◌, Option, None, drop, option_map, take}
+use Rattle.std.specs.Prelude.{◌≡◌, ℕ, Bool, true, false, cond, List, [], ◌++◌, Option, Some, drop, option_map, take}
 use Rattle.er_lines.specs.declared.ready.NameKind.{NameKind}
 use Rattle.er_binary.specs.Inner.Decoders.{still, to_note}
 use Rattle.er_binary.specs.Meaning.{meant, touches}
@@ -64,6 +64,14 @@ is_noting_by f asked = asked
 abbrev pub is_noting : {R : Type 0} → Decoded R → Bool
 is_noting decoded = is_noting_by decoded.form decoded.is_noting
 
--- what is known of what is to be handed out, by what is known of the bytes of the reader that it reads
+-- whether it has read the beginning of a binary trace
+abbrev pub is_binary_by : Form → Bool
+is_binary_by (form.Binary decoder) = true
+is_binary_by f = false
+
+abbrev pub is_binary : {R : Type 0} → Decoded R → Bool
+is_binary decoded = is_binary_by decoded.form
+
+-- what is known of what is to be handed out, by what is known of the bytes of the reader that it reads. Nothing is, if nothing is noted
 abbrev pub known_touches : {R : Type 0} → (R → Option (List ℕ)) → Decoded R → Option (List Touch)
-known_touches remaining decoded = cond (is_noting decoded) (option_map (to_touch decoded) (remaining (source_of decoded))) None
+known_touches remaining decoded = cond (is_noting decoded) (option_map (to_touch decoded) (remaining (source_of decoded))) (Some [])

@@ -1,5 +1,5 @@
 -- Which bytes of their words accesses touch, by the lines of the text.
-use Rattle.std.specs.Prelude.{ℕ, zero, suc, ◌+◌, ◌-◌, ◌*◌, ◌/◌, ◌^◌, ◌==◌, ◌&&◌, min, Bool, cond, List, [], ◌∷◌, ◌++◌}
+use Rattle.std.specs.Prelude.{◌≤◌, ℕ, All, zero, suc, ◌+◌, ◌-◌, ◌*◌, ◌/◌, ◌^◌, ◌==◌, ◌&&◌, min, Bool, cond, List, [], ◌∷◌, ◌++◌}
 use Rattle.er_binary.specs.States.{address_of}
 use Rattle.er_binary.specs.Texts.{words_of}
 use Rattle.er_binary.specs.declared.records.Kind.{Kind}
@@ -55,3 +55,12 @@ touches_below line s (suc k) = let t = touch_at (passed_by line k) s k in touche
 -- and of all of them
 unfoldable pub touches_said : ℕ → Said → List Touch
 touches_said line s = touches_below line s s.words
+
+-- each touches some of the bytes 0 to 3
+abbrev pub AreOfWords : List Touch → Type 0
+AreOfWords touches = All (λ t. (t.first ≤ t.last) × (t.last ≤ 3)) touches
+
+-- each is of a line behind that of the one before it, as far as lines are counted
+abbrev pub AreInOrder : List Touch → Type 0
+AreInOrder [] = Unit {0}
+AreInOrder (t ∷ touches) = All (λ more. passed_by t.line 1 ≤ more.line) touches × AreInOrder touches

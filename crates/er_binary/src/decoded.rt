@@ -1,5 +1,5 @@
 //! A reader of the text that a trace of any form means.
-ghost use Rattle.std.specs.Prelude.{◌≡◌, ◌≢◌, ◌≤◌, ℕ, List, IfOk, IfSome, OnErr, OnOk, Some, option_map, true};
+ghost use Rattle.std.specs.Prelude.{◌≡◌, ◌≢◌, ◌≤◌, ℕ, List, IfOk, IfSome, OnErr, OnOk, Some, cond, false, option_map, true};
 ghost use Rattle.std.specs.Io.{ReadsAtMost};
 ghost use Rattle.std.specs.Io.KnownBytes.{Keeps, ReadConsumes};
 
@@ -52,13 +52,16 @@ pub struct Decoded<R> {
 }
 
 impl<R> Decoded<R> {
-    ghost use Rattle.er_binary.specs.Decoded.{IsFresh, TouchesFresh, is_noting, names_of, source_of, to_come, to_touch};
+    ghost use Rattle.er_binary.specs.Decoded.{IsFresh, TouchesFresh, is_binary, is_noting, names_of, source_of, to_come, to_touch};
     ghost use Rattle.er_lines.specs.Touches.{HasHanded};
 
-    /// A reader of what the other one gives. It notes nothing of what accesses touch.
+    /// A reader of what the other one gives. It notes nothing of what accesses touch: each counts as touching its whole word.
     pub fn new(alloc: Global, inner: R) -> Decoded<R>
         ensures source { source_of result ≡ inner }
         ensures fresh { IsFresh result }
+        ensures form { is_binary result ≡ false }
+        ensures noting { is_noting result ≡ false }
+        ensures touches { TouchesFresh result }
     {
         Decoded::with_notes(alloc, inner, false)
     }
@@ -68,6 +71,7 @@ impl<R> Decoded<R> {
     pub fn with_notes(alloc: Global, inner: R, notes: bool) -> Decoded<R>
         ensures source { source_of result ≡ inner }
         ensures fresh { IsFresh result }
+        ensures form { is_binary result ≡ false }
         ensures noting { is_noting result ≡ notes }
         ensures touches { TouchesFresh result }
     {
@@ -82,8 +86,9 @@ impl<R> Decoded<R> {
         }
     }
 
-    /// Has what accesses touch noted from now on, if nothing was read yet.
+    /// Has what accesses touch noted, unless it has read the beginning of a binary trace: then all stays as it is.
     pub fn note_touches(&mut self)
+        ensures noting { is_noting self.new ≡ cond (is_binary self.old) (is_noting self.old) true }
         ensures text { (bytes : List ℕ) → to_come self.new bytes ≡ to_come self.old bytes }
         ensures touches { (bytes : List ℕ) → to_touch self.new bytes ≡ to_touch self.old bytes }
         ensures source { source_of self.new ≡ source_of self.old }
@@ -120,7 +125,9 @@ impl<R> Decoded<R> {
     }
 
     /// Whether it has read the beginning of a binary trace.
-    pub fn is_binary(&self) -> bool {
+    pub fn is_binary(&self) -> bool
+        ensures { result ≡ is_binary self.now }
+    {
         matches!(self.form, Form::Binary(_))
     }
 }
@@ -258,7 +265,7 @@ impl<R: Read> Shortcut<Decoded<R>> for Directly {
         others: &mut Vec<Touch>,
     ) -> Result<u64, AllocError> {
         if !reader.is_noting() {
-            // Nothing is handed out later.
+            // Each access counts as touching its whole word, and nothing is handed out later.
             return Ok(u64::MAX);
         }
         reader.hand_out(others)

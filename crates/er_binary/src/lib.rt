@@ -16,12 +16,14 @@
 #![tactic(auto)]
 
 pub use decoded::{Decoded, Directly, Listener};
+pub use laws::a_touch_says_which_bytes_of_a_word;
 pub use names::{Names, number};
 pub use records::{Access, Head, Kind, Record, record_at};
 pub use state::State;
 
 mod decoded;
 mod decoder;
+mod laws;
 mod names;
 mod nodes;
 mod records;
