@@ -1,6 +1,6 @@
 //! Traces that are opened by their path, and what is written of one that is not replayed: its text, or the story of one step.
-ghost use Rattle.std.specs.Prelude.{◌≡◌, ℕ, List, false, codes, IfErr, IfOk, IfSome, OnOk};
-ghost use Rattle.er_binary.specs.Decoded.{source_of, to_come};
+ghost use Rattle.std.specs.Prelude.{◌≡◌, ℕ, List, cond, false, true, codes, IfErr, IfOk, IfSome, OnOk};
+ghost use Rattle.er_binary.specs.Decoded.{is_binary, is_noting, source_of, to_come};
 ghost use Rattle.er_device.specs.Device.{inner_of, has_failed};
 ghost use Rattle.er_exit.specs.declared.faults.Fault.TheVariants.{OpenTrace};
 ghost use Rattle.er_exit.specs.Statuses.{fault_status};
@@ -42,6 +42,8 @@ pub(crate) fn note_touches<D>(source: &mut Device<Decoded<D>>, asks: bool)
     ensures text { (bytes : List ℕ) → to_come (inner_of source.new) bytes ≡ to_come (inner_of source.old) bytes }
     ensures source { source_of (inner_of source.new) ≡ source_of (inner_of source.old) }
     ensures failed { has_failed source.new ≡ has_failed source.old }
+    ensures noting { asks ≡ true → is_noting (inner_of source.new) ≡ cond (is_binary (inner_of source.old)) (is_noting (inner_of source.old)) true }
+    ensures unasked { asks ≡ false → source.new ≡ source.old }
 {
     if asks {
         source.inner_mut().note_touches();
