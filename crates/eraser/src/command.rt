@@ -1,5 +1,5 @@
 //! One command line, run over a reader and its writers.
-ghost use Rattle.std.specs.Prelude.{◌≡◌, ◌≤◌, ◌^◌, ◌||◌, ℕ, Bool, List, Option, [], false, true, codes, IfOk, IfErr, IfSome, IsOk};
+ghost use Rattle.std.specs.Prelude.{◌≡◌, ◌≤◌, ◌^◌, ◌||◌, ℕ, Bool, List, Option, [], false, true, codes, IfOk, IfErr, IfSome, IsOk, ◌&&◌, not};
 ghost use Rattle.std.specs.Io.KnownBytes.{Keeps};
 ghost use Rattle.er_binary.specs.Decoded.{IsFresh, source_of};
 ghost use Rattle.er_binary.specs.Meaning.{meant};
@@ -7,6 +7,7 @@ ghost use Rattle.er_device.specs.Device.{inner_of, has_failed};
 ghost use Rattle.er_exit.specs.Lines.{fault_line};
 ghost use Rattle.er_exit.specs.Statuses.{fault_status};
 ghost use Rattle.er_exit.specs.Writes.{GetsLine, LeavesOutput};
+ghost use Rattle.er_report.specs.Reports.{asks_order};
 ghost use Rattle.er_request.specs.Words.{IsUsual, names_hints, names_progress, names_until_fault, prints_input, replays_input};
 ghost use Rattle.er_rules.specs.Rules.{targets_of};
 ghost use Rattle.er_text.specs.Ending.{IsEndingOf};
@@ -85,7 +86,7 @@ where
 {
     match read_request(rt.alloc(), words, on_terminal) {
         Ok(Request::Replay(mut asked)) => {
-            note_touches(input, asked.analysis.asks_order() && !asked.until_fault);
+            note_touches(input, notes_touches(&asked));
             let replayed = run_asked(
                 rt,
                 &mut asked,
@@ -120,6 +121,13 @@ where
             status
         }
     }
+}
+
+// Whether what accesses touch is noted in the standard input. The text that is kept for the lines before a fault has nothing of it.
+fn notes_touches(replay: &Replay<'_>) -> bool
+    ensures { result ≡ (asks_order replay.now.analysis && not replay.now.until_fault) }
+{
+    replay.analysis.asks_order() && !replay.until_fault
 }
 
 // Runs a replay behind the merge of its reports, if there are some.
