@@ -1,5 +1,5 @@
 -- What was delivered is what was asked for.
-use Rattle.std.proofs.Common.{◌≡◌, ◌≢◌, ◌≤◌, ◌-◌, ◌∙◌, ◌++◌, ℕ, Bool, true, false, cond, is_some, List, [], length, Option, Some, None, IsSome, IfOk, IfErr, Result, Ok, Err, inl, inr, refl, sym, subst, ap, arith}
+use Rattle.std.proofs.Common.{IfSome, ◌≡◌, ◌≢◌, ◌≤◌, ◌-◌, ◌∙◌, ◌++◌, ℕ, Bool, true, false, cond, is_some, List, [], length, Option, Some, None, IsSome, IfOk, IfErr, Result, Ok, Err, inl, inr, refl, sym, subst, ap, arith}
 use Rattle.std.specs.Io.KnownBytes.{Appends, Keeps}
 use Rattle.er_batch.specs.declared.verdict.Verdict.{Verdict}
 use Rattle.er_batch.specs.declared.verdict.Verdict.TheVariants.{Clean, Races, Stopped}
@@ -193,3 +193,18 @@ failed-before X read write why failed unfailed = subst (λ (w : Bool). FailsFor 
     by_case (running.Beyond limit) failed = failed
     by_case running.Memory failed = failed
     by_case (running.Damaged damage) failed = failed
+
+-- what holds of a text holds of the one that is known, if it is
+pub told-ok : (told : Option (List ℕ)) (result : Result Ended Fault) (Are End Order : List ℕ → Type 0) (Ends : List ℕ → Ended → Type 0) → ((text : List ℕ) → Are text → End text → Order text → IfOk result (Ends text))
+    → IfSome told Are → IfSome told End → IfSome told Order → IfOk result (λ ended. IfSome told (λ text. Ends text ended))
+told-ok None (Ok ended) Are End Order Ends by are end order = tt
+told-ok None (Err why) Are End Order Ends by are end order = tt
+told-ok (Some text) (Ok ended) Are End Order Ends by are end order = by text are end order
+told-ok (Some text) (Err why) Are End Order Ends by are end order = tt
+
+pub told-err : (told : Option (List ℕ)) (result : Result Ended Fault) (Are : List ℕ → Type 0) (Fails : List ℕ → Fault → Type 0) → ((text : List ℕ) → Are text → IfErr result (Fails text))
+    → IfSome told Are → IfErr result (λ why. IfSome told (λ text. Fails text why))
+told-err None (Ok ended) Are Fails by are = tt
+told-err None (Err why) Are Fails by are = tt
+told-err (Some text) (Ok ended) Are Fails by are = tt
+told-err (Some text) (Err why) Are Fails by are = by text are
