@@ -6,6 +6,7 @@ new use of it in between.
 - the rule, by a second reading of it: random traces have the same races with and without their repeats, and so has a recorded one
 - what the writer's thin.c leaves out of random recordings is a repeat, and doesn't change a race (`tests/record/thin/any.c`)
 - what the library's repeats.c finds repeated by random threads is a repeat, whenever others note their events (`tests/record/thin/notes.c`)
+- an access that comes when the recorder was interrupted at any instruction is there (`tests/record/thin/steps.c`)
 - the programs of tests/record and tests/record/order race at the same lines when they are recorded so
 - `tests/record/thin/repeats.c`: a comment READS n or WRITES n says how many words of a line are left
 
@@ -145,6 +146,27 @@ def library(folder, findings, pool):
     findings.check("the library finds repeats", sum(int(done.stdout or 0) for done in found) > 1000, f"{found[0]}")
 
 
+def interrupted(folder, findings):
+    """What the recorder is interrupted by, at each of its instructions, leaves no access out that is none of the repeats."""
+    source, text = SOURCES / "thin/steps.c", {}
+    program, built = build(folder, source, "gcc", "-O0")
+    findings.check("steps is built", built.returncode == 0 and built.stderr == "", built.stderr)
+    site = {mark: next(iter(marked(source, mark))) for mark in ("AGAIN", "BEHIND", "LOCKED", "TAKEN")}
+    for way in ("handles", "locks", "jumps", "moves"):
+        done = command([RUN, "-q", "--thin", "-o", folder / "steps.trace", program, way])
+        text[way] = (folder / "steps.trace").read_text()
+        findings.check(f"steps {way} ends", done.returncode == 0 and (way == "jumps" or done.stderr == ""), f"{done}")
+        taken = done.stdout
+    found = {way: {mark: len(re.findall(rf"^t\d+ write \S+ {site[mark]}$", text[way], re.M)) for mark in site} for way in text}
+    turns = int(re.search(r"#define TURNS (\d+)", source.read_text())[1])
+    findings.check("a handler that writes beside a word", found["handles"]["AGAIN"] == turns, f"{found}")
+    findings.check("a handler that writes with a lock", found["locks"]["AGAIN"] == found["locks"]["LOCKED"] == turns, f"{found}")
+    findings.check("another thread that gets memory before it is known to be given back", int(taken) > 10 and found["moves"]["TAKEN"] == int(taken), f"{taken} {found}")
+    # A release that was left stands in the trace or it doesn't. If it does, the writes behind it are not with the lock.
+    left = [turn for turn in text["jumps"].split(" lock lock\n") if " unlock lock\n" in turn.split(site["BEHIND"])[0]]
+    findings.check("a handler that leaves a release by a jump", len(left) > 10 and all(f" {site['AGAIN']}\n" in turn for turn in left), f"{left}")
+
+
 def repeats(folder, findings):
     source = SOURCES / "thin/repeats.c"
     for compiler in ("gcc", "clang"):
@@ -217,6 +239,7 @@ def tests(record):
         random_traces(findings, pool)
         writer(folder, findings, pool)
         library(folder, findings, pool)
+        interrupted(folder, findings)
         repeats(folder, findings)
         defaults(folder, findings)
         refused(findings)

@@ -40,7 +40,7 @@ static bool replace(union note *note, const union note *old, const union note *n
 }
 
 /* Who notes an access now has its ticket already. Either it sees that the floor rises, or its ticket is below the new one. */
-static void forget_all(struct notes *notes, struct ring *ring)
+void notes_forget_all(struct notes *notes, struct ring *ring)
 {
     atomic_fetch_add(&notes->rising, 1);
     uint64_t tail = atomic_load(&ring->tail), floor = atomic_load(&notes->floor);
@@ -65,7 +65,7 @@ static void change(struct notes *notes, struct doer doer, uint64_t ticket, uint6
 void notes_add(struct notes *notes, struct ring *ring, struct doer doer, uint64_t ticket, bool is_write, uint64_t address, uint64_t bytes)
 {
     if (bytes > 8 * MOST_UNITS) {
-        forget_all(notes, ring);
+        notes_forget_all(notes, ring);
         return;
     }
     doer.thread = doer.thread >> THREAD_BITS ? 0 : doer.thread;
@@ -90,12 +90,12 @@ void notes_forget(struct notes *notes, struct ring *ring, struct doer doer, uint
         change(notes, (struct doer){0, 0}, ticket, unit, 0);
     }
     if (has_locks)
-        forget_all(notes, ring);
+        notes_forget_all(notes, ring);
 }
 
 void notes_lock(struct notes *notes, struct ring *ring, struct doer doer, bool acquires, uint64_t lock)
 {
     uint32_t before = atomic_exchange(holder_of(notes, lock), acquires ? doer.thread : 0);
     if (before != doer.thread && (before || !acquires))
-        forget_all(notes, ring);
+        notes_forget_all(notes, ring);
 }

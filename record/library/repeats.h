@@ -47,6 +47,8 @@ struct notes *notes_make(void);
 void notes_add(struct notes *notes, struct ring *ring, struct doer doer, uint64_t ticket, bool is_write, uint64_t address, uint64_t bytes);
 /* Memory is put to a new use. */
 void notes_forget(struct notes *notes, struct ring *ring, struct doer doer, uint64_t ticket, uint64_t address, uint64_t bytes);
+/* All that is known by now. */
+void notes_forget_all(struct notes *notes, struct ring *ring);
 /* A lock is acquired or released. The writer may take it from another thread by that, which then holds less than it knows. */
 void notes_lock(struct notes *notes, struct ring *ring, struct doer doer, bool acquires, uint64_t lock);
 
