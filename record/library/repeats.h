@@ -25,14 +25,21 @@ union note {
 #define BYTES_BITS 16
 #define READ_BITS 8
 
-/* The threads that hold locks, by their addresses. Two locks may have one place. */
+/* Who holds locks, by their addresses: a thread or several, and how often. Two locks may have one place. */
+union holder {
+    struct {
+        uint32_t thread, count;
+    };
+    _Atomic uint64_t both;
+};
+#define SEVERAL UINT32_MAX
 #define HOLDERS (1u << 16)
 
 struct notes {
     _Atomic uint64_t floor;  /* no note of an earlier event counts */
     _Atomic uint64_t rising; /* how many threads are about to change that */
     _Alignas(64) union note all[NOTES];
-    _Atomic uint32_t holders[HOLDERS];
+    union holder holders[HOLDERS];
 };
 
 /* Who does it: its number, and the ticket of its last event that is no access. */
