@@ -76,7 +76,7 @@ void notes_add(struct notes *notes, struct ring *ring, struct doer doer, uint64_
     }
 }
 
-static union holder *holder_of(struct notes *notes, uint64_t address)
+static union holding *holder_of(struct notes *notes, uint64_t address)
 {
     uint64_t unit = address / 8;
     return &notes->holders[(unit + (unit >> 16) * 40503) % HOLDERS];
@@ -86,7 +86,7 @@ void notes_forget(struct notes *notes, struct ring *ring, struct doer doer, uint
 {
     bool has_locks = bytes > 8 * MOST_UNITS;
     for (uint64_t unit = address / 8; bytes && !has_locks && unit <= (address + bytes - 1) / 8; unit++) {
-        union holder holder = {.both = atomic_load_explicit(&holder_of(notes, 8 * unit)->both, memory_order_relaxed)};
+        union holding holder = {.both = atomic_load_explicit(&holder_of(notes, 8 * unit)->both, memory_order_relaxed)};
         has_locks = holder.count && holder.thread != doer.thread;
         change(notes, (struct doer){0, 0}, ticket, unit, 0);
     }
@@ -97,7 +97,7 @@ void notes_forget(struct notes *notes, struct ring *ring, struct doer doer, uint
 /* A release that isn't known, in a library for example, leaves the count too large, and more is forgotten. */
 void notes_lock(struct notes *notes, struct ring *ring, struct doer doer, bool acquires, uint64_t lock)
 {
-    union holder *holder = holder_of(notes, lock), new;
+    union holding *holder = holder_of(notes, lock), new;
     uint64_t old = atomic_load(&holder->both);
     bool is_others;
     do {

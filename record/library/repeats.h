@@ -26,7 +26,7 @@ union note {
 #define READ_BITS 8
 
 /* Who holds locks, by their addresses: a thread or several, and how often. Two locks may have one place. */
-union holder {
+union holding {
     struct {
         uint32_t thread, count;
     };
@@ -39,7 +39,7 @@ struct notes {
     _Atomic uint64_t floor;  /* no note of an earlier event counts */
     _Atomic uint64_t rising; /* how many threads are about to change that */
     _Alignas(64) union note all[NOTES];
-    union holder holders[HOLDERS];
+    union holding holders[HOLDERS];
 };
 
 /* Who does it: its number, and the ticket of its last event that is no access. */
