@@ -137,7 +137,8 @@ uint32_t eraser_locked(eraser_detector *detector, const volatile void *lock, boo
 uint32_t eraser_unlocking(eraser_detector *detector, const volatile void *lock);
 /* No thread holds it. Its number may be given to a lock that is new. Until the words that it protected are freed, that lock then counts as this one. */
 uint32_t eraser_destroying(eraser_detector *detector, const volatile void *lock);
-/* Each word that has one of these bytes is virgin again. It takes no memory without an audit; if an audit finds none, the pages before are done. */
+/* Each word that has one of these bytes is virgin again. It takes no memory but at a thread's first call and in an audit; if an audit finds no memory, the
+ * pages before are done. */
 uint32_t eraser_freeing(eraser_detector *detector, const volatile void *address, size_t size);
 
 /* This thread's accesses between the two are ignored. They nest. */

@@ -366,8 +366,8 @@ static uint32_t note(struct place *place, uint64_t word, uint32_t thread)
 /* ---- Settled accesses ----
  *
  * An access that left its word's state as it was leaves it so again, and is quiet, as long as the word has that state and the access is by the same
- * thread, of the same kind, with the same locks. (er_online proves that any number of these may be left out: settled_accesses_may_be_left_out.) A thread remembers such accesses, with the
- * version of their shard. Each call that may change a word's state changes the version before it leaves the shard's lock. So if the version is still the
+ * thread, of the same kind, with the same locks. (er_online proves that any number of these may be left out: settled_accesses_may_be_left_out.)
+ * A thread remembers such accesses, with the version of their shard. Each call that may change a word's state changes the version before it leaves the shard's lock. So if the version is still the
  * remembered one when it is loaded, no state has changed between the access that is remembered and that load. The access is placed there, among the calls
  * of the shard, where it would change nothing. So it holds for each word by itself: what happened to it before the access, in whatever thread, has published
  * its version, and the load can't miss that; what happens after it changes the version later. Of calls of several shards there may be no one order in which

@@ -1283,9 +1283,9 @@ def with_archives(folder, findings):
         for compiler, words in (("gcc", ["g++", "-g", "-fsanitize=thread"]), ("clang", [TOP / "record/c++"])):
             source, program = SOURCES / name, folder / f"{pathlib.Path(name).stem}-archive-{compiler}"
             built = command([*words, "-std=c++17", source, *more, "-o", program], env={**os.environ, "ERASER_CXX": "clang++"})
-            found = command([RUN, "-q", "--thin=no", "--report", "-", "--analysis", "happens-before", program])
+            found = command([RUN, "-q", "--report", "-", "--analysis", "happens-before", program])
             sites = set(re.findall(r": unordered: .* at (\S+), holds", found.stdout))
-            is_right = (found.returncode, found.stderr) == (0, "") and found.stdout.startswith(PRINTED.get(source.stem, "")) and re.search(r"^steps \d{2,}", found.stdout, re.M)
+            is_right = (found.returncode, found.stderr) == (0, "") and found.stdout.startswith(PRINTED.get(source.stem, "")) and re.search(r"^steps \d+", found.stdout, re.M)
             findings.check(f"{name} with the C++ library within, {compiler}", built.returncode == 0 and is_right and sites == marked(source, "RACE"), f"{built} {found}")
 
 

@@ -6,6 +6,7 @@ new use of it in between.
 - the rule, by a second reading of it: random traces have the same races with and without their repeats, and so has a recorded one
 - what the writer's thin.c leaves out of random recordings is a repeat, and doesn't change a race (`tests/record/thin/any.c`)
 - what the library's repeats.c finds repeated by random threads is a repeat, whenever others note their events (`tests/record/thin/notes.c`)
+- an access that comes when the recorder was interrupted at any instruction is there (`tests/record/thin/steps.c`)
 - the programs of tests/record and tests/record/order race at the same lines when they are recorded so
 - `tests/record/thin/repeats.c`: a comment READS n or WRITES n says how many words of a line are left
 
@@ -65,7 +66,7 @@ def random_trace(source):
         thread = source.choice(threads) if source.random() < 0.4 else thread
         verb, lock = source.choices(["access", "lock", "unlock", "signal", "await", "reuse", "bracket", "join"], [72, 8, 8, 3, 3, 3, 3, 3])[0], source.choice(locks)
         if verb == "access":
-            lines.append(f"{thread} {source.choice(['read', 'write'])} {source.choice(words):#x} f.c:{len(lines)}")
+            lines.append(f"{thread} {source.choice(['read', 'write'])} {source.choice(words):#x} f.c:{len(lines) % 5}")
         elif verb == "lock":
             mode = source.choice(["", "r"])
             if all(lock not in held[other] or other != thread and mode == held[other][lock] == "r" for other in threads):
@@ -92,14 +93,21 @@ def report(lines, *options):
     return re.sub(r"^steps \d+", "steps", found[0].decode(), flags=re.M), *found[1:]
 
 
+def by_site(text):
+    """The parts of a report by site, and the lines of its table, in no order: sites with equally many words stand as the trace names them first."""
+    return sorted("\n".join(sorted(part.splitlines())) if part.startswith("words ") else part for part in text.split("\n\n"))
+
+
 def rule_fault(lines, kept=None):
     """What differs in the reports of a trace without its repeats, whose lines count as they did before. By locks the reasons are the same, too."""
     numbers, kept = zip(*(kept or without_repeats(lines)))
     for options in (["--analysis", "both"], ["--explain"], ["--by-site", "--explain"]):
         text, errors, status = report(kept, *options)
         text = re.sub(r"\bline (\d+)", lambda found: f"line {numbers[int(found[1]) - 1]}", text)
-        if (text, errors, status) != report(lines, *options):
-            return f"{options}: {lines}: {text}, not {report(lines, *options)}"
+        whole, *rest = report(lines, *options)
+        is_same = by_site(text) == by_site(whole) if "--by-site" in options else text == whole
+        if not is_same or [errors, status] != rest:
+            return f"{options}: {lines}: {text}, not {whole} {rest}"
     return None
 
 
@@ -145,6 +153,27 @@ def library(folder, findings, pool):
     findings.check("the library finds repeats", sum(int(done.stdout or 0) for done in found) > 1000, f"{found[0]}")
 
 
+def interrupted(folder, findings):
+    """What the recorder is interrupted by, at each of its instructions, leaves no access out that is none of the repeats."""
+    source, text = SOURCES / "thin/steps.c", {}
+    program, built = build(folder, source, "gcc", "-O0")
+    findings.check("steps is built", built.returncode == 0 and built.stderr == "", built.stderr)
+    site = {mark: next(iter(marked(source, mark))) for mark in ("AGAIN", "BEHIND", "LOCKED", "TAKEN")}
+    for way in ("handles", "locks", "jumps", "moves"):
+        done = command([RUN, "-q", "--thin", "-o", folder / "steps.trace", program, way])
+        text[way] = (folder / "steps.trace").read_text()
+        findings.check(f"steps {way} ends", done.returncode == 0 and (way == "jumps" or done.stderr == ""), f"{done}")
+        taken = done.stdout
+    found = {way: {mark: len(re.findall(rf"^t\d+ write \S+ {site[mark]}$", text[way], re.M)) for mark in site} for way in text}
+    turns = int(re.search(r"#define TURNS (\d+)", source.read_text())[1])
+    findings.check("a handler that writes beside a word", found["handles"]["AGAIN"] == turns, f"{found}")
+    findings.check("a handler that writes with a lock", found["locks"]["AGAIN"] == found["locks"]["LOCKED"] == turns, f"{found}")
+    findings.check("another thread that gets memory before it is known to be given back", int(taken) > 10 and found["moves"]["TAKEN"] == int(taken), f"{taken} {found}")
+    # A release that was left stands in the trace or it doesn't. If it does, the writes behind it are not with the lock.
+    left = [turn for turn in text["jumps"].split(" lock lock\n") if " unlock lock\n" in turn.split(site["BEHIND"])[0]]
+    findings.check("a handler that leaves a release by a jump", len(left) > 10 and all(f" {site['AGAIN']}\n" in turn for turn in left), f"{left}")
+
+
 def repeats(folder, findings):
     source = SOURCES / "thin/repeats.c"
     for compiler in ("gcc", "clang"):
@@ -174,7 +203,7 @@ def defaults(folder, findings):
             ("-o", trace): False, ("-o", trace, "--replay"): False, ("-o", trace, "--thin", "--replay"): True}
     for words, is_thin in ways.items():
         done = command([RUN, *words, program])
-        counts = re.search(r"^record: (\d+) events recorded, 0 lost(?:, (\d\d) repeats left out)?\n\Z", done.stderr, re.M)
+        counts = re.search(r"^record: (\d+) events recorded, 0 lost(?:, (\d+) repeats? left out)?\n\Z", done.stderr, re.M)
         steps = re.search(r"^steps (\d+), ", done.stderr, re.M)
         found[words] = int(counts[1]) + int(counts[2] or 0), steps and int(steps[1]) if counts else None
         findings.check(f"which recordings leave repeats out {words}", done.returncode == 0 and counts and bool(counts[2]) == is_thin, f"{done}")
@@ -217,6 +246,7 @@ def tests(record):
         random_traces(findings, pool)
         writer(folder, findings, pool)
         library(folder, findings, pool)
+        interrupted(folder, findings)
         repeats(folder, findings)
         defaults(folder, findings)
         refused(findings)

@@ -78,6 +78,9 @@ static void give_up(struct ring *ring, struct self *me)
         }
         course->next += !is_counted;
     }
+    /* It may be in the trace, and nobody has noted it. */
+    if (has_ticket && attached->notes)
+        notes_forget_all(attached->notes, ring);
     course->ticket = TICKET_NONE;
     set_depth(me, me->depth - 1);
     if (!is_published)
@@ -223,11 +226,20 @@ void emit_leave_lanes(void)
             leave_lane(attached->ring, course);
 }
 
+/* A handler may come in between, with later events. */
+static void end_repeats(struct self *me, uint64_t ticket)
+{
+    uint64_t since = __atomic_load_n(&me->since, __ATOMIC_RELAXED);
+    while (since < ticket && !__atomic_compare_exchange_n(&me->since, &since, ticket, false, __ATOMIC_RELAXED, __ATOMIC_RELAXED))
+        ;
+}
+
 void emit_note(struct self *me, uint64_t ticket, const struct slot *slot)
 {
     struct ring *ring = attached->ring;
     struct notes *notes = attached->notes;
-    struct doer doer = {me->number, me->since};
+    /* What a handler interrupts may be an event that ends what is known. */
+    struct doer doer = {me->number, me->depth > 1 ? UINT64_MAX : me->since};
     enum event_kind kind = slot_kind(slot);
     if (kind == EVENT_READ || kind == EVENT_WRITE)
         notes_add(notes, ring, doer, ticket, kind == EVENT_WRITE, slot->first, slot->size);
@@ -237,9 +249,14 @@ void emit_note(struct self *me, uint64_t ticket, const struct slot *slot)
         notes_forget(notes, ring, doer, ticket, slot->first & REUSE_MASK, reuse_size(slot));
     else if ((kind == EVENT_LOCK || kind == EVENT_READ_LOCK || kind == EVENT_UNLOCK) && !(slot->size & LOCK_FAILED))
         notes_lock(notes, ring, doer, kind != EVENT_UNLOCK, slot->first);
-    /* A handler may have come since, with later events. */
-    if (me->since < ticket)
-        me->since = ticket;
+    end_repeats(me, ticket);
+}
+
+void emit_forget(const struct draft *draft, const volatile void *address, uint64_t size)
+{
+    struct notes *notes = IS_ONLINE ? NULL : attached->notes;
+    if (notes && is_memory(address, size))
+        notes_forget(notes, attached->ring, (struct doer){draft->me->number, 0}, draft->ticket, (uintptr_t)address, size);
 }
 
 void emit_range(enum event_kind kind, const volatile void *address, uint64_t size, uint64_t site)

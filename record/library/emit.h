@@ -269,6 +269,9 @@ static inline __attribute__((always_inline)) void emit_write(const volatile void
         emit(EVENT_WRITE, size, (uintptr_t)address, site);
 }
 
+/* Memory is about to be given back in the course of this event: others may have it before that is published. */
+void emit_forget(const struct draft *draft, const volatile void *address, uint64_t size);
+
 /* Whether memory can be in an event. No program has other memory. */
 static inline bool is_memory(const volatile void *address, uint64_t size)
 {

@@ -166,6 +166,8 @@ static void *shrink(void *block, size_t had, size_t size, uint64_t place)
     if (had > kept)
         emit_memory((char *)block + kept, had - kept, place);
     bool is_drawn = emit_draw(&draft);
+    if (is_drawn)
+        emit_forget(&draft, block, moves);
     void *now = real(block, size);
     if (is_drawn)
         emit_publish(&draft, now && now != block ? EVENT_REUSE : EVENT_VOID, (uint32_t)moves, packed(block, moves), place);
@@ -245,6 +247,8 @@ HOOK void *mremap(void *begin, size_t had, size_t size, int how, ...)
         emit_memory((char *)begin + size, had - size, CALLER);
     /* As in a block that shrinks: others may have the old place at once. */
     bool is_drawn = is_memory(begin, had) && emit_draw(&draft);
+    if (is_drawn)
+        emit_forget(&draft, begin, had);
     void *now = real(begin, had, size, how, wanted);
     if (is_drawn)
         emit_publish(&draft, now != MAP_FAILED && now != begin ? EVENT_REUSE : EVENT_VOID, (uint32_t)had, packed(begin, had), CALLER);

@@ -40,7 +40,7 @@ static bool replace(union note *note, const union note *old, const union note *n
 }
 
 /* Who notes an access now has its ticket already. Either it sees that the floor rises, or its ticket is below the new one. */
-static void forget_all(struct notes *notes, struct ring *ring)
+void notes_forget_all(struct notes *notes, struct ring *ring)
 {
     atomic_fetch_add(&notes->rising, 1);
     uint64_t tail = atomic_load(&ring->tail), floor = atomic_load(&notes->floor);
@@ -64,10 +64,11 @@ static void change(struct notes *notes, struct doer doer, uint64_t ticket, uint6
 
 void notes_add(struct notes *notes, struct ring *ring, struct doer doer, uint64_t ticket, bool is_write, uint64_t address, uint64_t bytes)
 {
-    if (bytes > 8 * MOST_UNITS) {
-        forget_all(notes, ring);
+    if (bytes > 8 * MOST_UNITS)
+        notes_forget_all(notes, ring);
+    /* Beyond all memory nobody looks. */
+    if (bytes > 8 * MOST_UNITS || address >> REUSE_BITS)
         return;
-    }
     doer.thread = doer.thread >> THREAD_BITS ? 0 : doer.thread;
     for (uint64_t end = address + bytes, next; address < end; address = next) {
         next = (address | 7) + 1 < end ? (address | 7) + 1 : end;
@@ -75,7 +76,7 @@ void notes_add(struct notes *notes, struct ring *ring, struct doer doer, uint64_
     }
 }
 
-static _Atomic uint32_t *holder_of(struct notes *notes, uint64_t address)
+static union holding *holder_of(struct notes *notes, uint64_t address)
 {
     uint64_t unit = address / 8;
     return &notes->holders[(unit + (unit >> 16) * 40503) % HOLDERS];
@@ -85,17 +86,26 @@ void notes_forget(struct notes *notes, struct ring *ring, struct doer doer, uint
 {
     bool has_locks = bytes > 8 * MOST_UNITS;
     for (uint64_t unit = address / 8; bytes && !has_locks && unit <= (address + bytes - 1) / 8; unit++) {
-        uint32_t holder = atomic_load_explicit(holder_of(notes, 8 * unit), memory_order_relaxed);
-        has_locks = holder && holder != doer.thread;
+        union holding holder = {.both = atomic_load_explicit(&holder_of(notes, 8 * unit)->both, memory_order_relaxed)};
+        has_locks = holder.count && holder.thread != doer.thread;
         change(notes, (struct doer){0, 0}, ticket, unit, 0);
     }
     if (has_locks)
-        forget_all(notes, ring);
+        notes_forget_all(notes, ring);
 }
 
+/* A release that isn't known, in a library for example, leaves the count too large, and more is forgotten. */
 void notes_lock(struct notes *notes, struct ring *ring, struct doer doer, bool acquires, uint64_t lock)
 {
-    uint32_t before = atomic_exchange(holder_of(notes, lock), acquires ? doer.thread : 0);
-    if (before != doer.thread && (before || !acquires))
-        forget_all(notes, ring);
+    union holding *holder = holder_of(notes, lock), new;
+    uint64_t old = atomic_load(&holder->both);
+    bool is_others;
+    do {
+        new.both = old;
+        is_others = new.count ? new.thread != doer.thread : !acquires;
+        new.thread = !new.count ? doer.thread : is_others ? SEVERAL : doer.thread;
+        new.count = acquires ? new.count + 1 : new.count - (new.count > 0);
+    } while (!atomic_compare_exchange_weak(&holder->both, &old, new.both));
+    if (is_others)
+        notes_forget_all(notes, ring);
 }

@@ -25,14 +25,21 @@ union note {
 #define BYTES_BITS 16
 #define READ_BITS 8
 
-/* The threads that hold locks, by their addresses. Two locks may have one place. */
+/* Who holds locks, by their addresses: a thread or several, and how often. Two locks may have one place. */
+union holding {
+    struct {
+        uint32_t thread, count;
+    };
+    _Atomic uint64_t both;
+};
+#define SEVERAL UINT32_MAX
 #define HOLDERS (1u << 16)
 
 struct notes {
     _Atomic uint64_t floor;  /* no note of an earlier event counts */
     _Atomic uint64_t rising; /* how many threads are about to change that */
     _Alignas(64) union note all[NOTES];
-    _Atomic uint32_t holders[HOLDERS];
+    union holding holders[HOLDERS];
 };
 
 /* Who does it: its number, and the ticket of its last event that is no access. */
@@ -47,6 +54,8 @@ struct notes *notes_make(void);
 void notes_add(struct notes *notes, struct ring *ring, struct doer doer, uint64_t ticket, bool is_write, uint64_t address, uint64_t bytes);
 /* Memory is put to a new use. */
 void notes_forget(struct notes *notes, struct ring *ring, struct doer doer, uint64_t ticket, uint64_t address, uint64_t bytes);
+/* All that is known by now. */
+void notes_forget_all(struct notes *notes, struct ring *ring);
 /* A lock is acquired or released. The writer may take it from another thread by that, which then holds less than it knows. */
 void notes_lock(struct notes *notes, struct ring *ring, struct doer doer, bool acquires, uint64_t lock);
 

@@ -130,7 +130,7 @@ static const char *repeats(uint64_t count)
 {
     static char text[64];
     if (thin_is_on)
-        snprintf(text, sizeof text, ", %llu repeats left out", (unsigned long long)count);
+        snprintf(text, sizeof text, ", %llu repeat%s left out", (unsigned long long)count, count == 1 ? "" : "s");
     return text;
 }
 

@@ -7,22 +7,23 @@
 #include <stdlib.h>
 #include <sys/mman.h>
 
-enum { THREADS = 3, PLACES = 3, ROOM = 64, MOST = 4000, LOCKS = 2 };
+enum { THREADS = 3, PLACES = 3, ROOM = 64, MOST = 4000, LOCKS = 3 };
 /* The note of a unit is that of the unit APART behind it. Locks lie behind the bytes of a place. */
 #define FIRST UINT64_C(0x7f0000001000)
 #define APART (UINT64_C(8) << 33)
 #define LARGE 40000u
 
-enum what { READ, WRITE, REUSE, LOCK, UNLOCK };
+enum what { READ, WRITE, REUSE, LOCK, READ_LOCK, UNLOCK };
 struct event {
     enum what what;
     unsigned thread;
     uint64_t ticket, address, size;
-    unsigned loser; /* the thread that a lock is taken from, or 0 */
+    bool loses[THREADS + 1]; /* the threads that a lock is taken from */
     bool is_noted;
 };
 static struct event events[MOST];
-static unsigned count, open_event[THREADS + 1], holders[LOCKS];
+static unsigned count, open_event[THREADS + 1], depths[LOCKS][THREADS + 1];
+static bool reads[LOCKS];
 static uint64_t since[THREADS + 1], seed;
 static struct notes *notes;
 static struct ring *ring;
@@ -38,7 +39,7 @@ static bool ends(const struct event *event, unsigned thread, uint64_t byte)
 {
     uint64_t unit = byte / 8;
     bool is_there = event->what <= REUSE && event->address / 8 <= unit && unit <= (event->address + event->size - 1) / 8;
-    return event->is_noted && (event->loser == thread || (is_there && (event->what == REUSE || event->thread != thread)));
+    return event->is_noted && (event->loses[thread] || (is_there && (event->what == REUSE || event->thread != thread)));
 }
 
 static bool is_repeated(unsigned thread, bool is_write, uint64_t byte)
@@ -56,24 +57,60 @@ static bool is_repeated(unsigned thread, bool is_write, uint64_t byte)
 
 static void begin(unsigned thread, enum what what, uint64_t address, uint64_t size)
 {
-    events[count] = (struct event){what, thread, atomic_fetch_add(&ring->tail, 1), address, size, 0, false};
+    events[count] = (struct event){what, thread, atomic_fetch_add(&ring->tail, 1), address, size, {false}, false};
     open_event[thread] = ++count;
+}
+
+static void drop(struct event *event, unsigned lock, unsigned whom)
+{
+    if (whom != event->thread && depths[lock][whom])
+        event->loses[whom] = true;
+    depths[lock][whom] = 0;
+}
+
+static void drop_others(struct event *event, unsigned lock)
+{
+    for (unsigned whom = 1; whom <= THREADS; whom++)
+        if (whom != event->thread)
+            drop(event, lock, whom);
+}
+
+/* What the writer makes of a lock's events (record/writer/locks.c). */
+static void hold(struct event *event, unsigned lock)
+{
+    unsigned *depth = depths[lock], holder = event->thread;
+    if (event->what != UNLOCK) {
+        if (!depth[holder] && (event->what == LOCK || !reads[lock]))
+            drop_others(event, lock);
+        if (!depth[holder]++)
+            reads[lock] = event->what == READ_LOCK;
+        return;
+    }
+    for (unsigned whom = 1; !depth[event->thread] && !reads[lock] && whom <= THREADS; whom++)
+        holder = depth[whom] ? whom : holder;
+    if (depth[holder] == 1)
+        drop(event, lock, holder);
+    else if (depth[holder])
+        depth[holder]--;
 }
 
 static void note(unsigned thread)
 {
     struct event *event = &events[open_event[thread] - 1];
     struct doer doer = {thread, since[thread]};
-    unsigned lock = (unsigned)(event->address - FIRST - ROOM) / 8 % LOCKS;
     open_event[thread] = 0;
     if (event->what <= WRITE)
         notes_add(notes, ring, doer, event->ticket, event->what == WRITE, event->address, event->size);
-    else if (event->what == REUSE)
+    else if (event->what == REUSE) {
         notes_forget(notes, ring, doer, event->ticket, event->address, event->size);
-    else {
-        notes_lock(notes, ring, doer, event->what == LOCK, event->address);
-        event->loser = holders[lock] != thread ? holders[lock] : 0;
-        holders[lock] = event->what == LOCK ? thread : 0;
+        for (unsigned lock = 0; lock < LOCKS; lock++)
+            if (FIRST + ROOM + 8 * lock - event->address < event->size) {
+                drop_others(event, lock);
+                drop(event, lock, thread);
+            }
+    } else {
+        notes_lock(notes, ring, doer, event->what != UNLOCK, event->address);
+        hold(event, (unsigned)(event->address - FIRST - ROOM) / 8 % LOCKS);
     }
     if (event->what > WRITE)
         since[thread] = event->ticket;
@@ -86,7 +123,7 @@ static bool act(unsigned thread, unsigned *repeats)
     unsigned which = any(40), size = any(3) ? 1u << any(4) : 1 + any(20);
     uint64_t place = any(8) ? 0 : any(PLACES), address = FIRST + place * APART + any(any(4) ? 12 : ROOM - 20);
     if (which < 2)
-        begin(thread, which ? LOCK : UNLOCK, FIRST + ROOM + 8 * any(LOCKS), 8);
+        begin(thread, LOCK + any(3), FIRST + ROOM + 8 * any(LOCKS), 8);
     else if (which == 2)
         begin(thread, REUSE, address, any(8) ? size : LARGE);
     else if (!notes_have(notes, (struct doer){thread, since[thread]}, which % 2, address, size))
