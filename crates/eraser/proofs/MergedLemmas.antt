@@ -2,6 +2,7 @@
 use Rattle.std.proofs.Common.{◌≡◌, ◌∙◌, ℕ, Bool, true, false, List, Option, Some, None, IfSome, IsSomeAnd, Ok, is_some, inl, inr, map, refl, sym, ap, subst}
 use Rattle.er_batch.specs.Runs.{IsPartOf}
 use Rattle.er_journal.specs.declared.answers.Stopped.{Stopped}
+use Rattle.er_lines.specs.declared.ready.Touch.{Touch}
 use Rattle.er_merge.specs.Merging.{Merges}
 use Rattle.er_merge.specs.Traces.{AreTextsOfParts, Divided, whole_report}
 use Rattle.er_merge.specs.declared.merging.Merged.{Merged}
@@ -38,15 +39,15 @@ lacks_none : (replay : Replay) (rules : List Target) (raced lacking : Reports) �
 lacks_none replay rules raced lacking none (inl same) = same
 lacks_none replay rules raced lacking none (inr (asks, again, left)) = absurd (let clash : true ≡ false = sym asks ∙ none in cc)
 
-module _ {F : Type 0} (remaining : F → Option (List ℕ)) (d : Divided) (replay : Replay) (bytes : List ℕ) (merges : IsMergedReplay d replay) (output : IsOutput remaining replay d.text d.rules bytes) where
+module _ {F : Type 0} (remaining : F → Option (List ℕ)) (d : Divided) (replay : Replay) (touches : Option (List Touch)) (bytes : List ℕ) (merges : IsMergedReplay d replay) (output : IsOutput remaining replay d.text touches d.rules bytes) where
   made : Merged
   made = merges.made
 
-  reports : AreReportsOfText (Some made.pages) Lockset d.text replay.byte_limit d.rules replay.explain output.names output.raced
+  reports : AreReportsOfText (Some made.pages) Lockset d.text touches replay.byte_limit d.rules replay.explain output.names output.raced
   unfolding made
   reports =
-      subst (λ (part : Option PartView). AreReportsOfText part Lockset d.text replay.byte_limit d.rules replay.explain output.names output.raced) merges.part
-      (subst (λ (a : Analysis). AreReportsOfText replay.part a d.text replay.byte_limit d.rules replay.explain output.names output.raced) merges.analysis output.reports)
+      subst (λ (part : Option PartView). AreReportsOfText part Lockset d.text touches replay.byte_limit d.rules replay.explain output.names output.raced) merges.part
+      (subst (λ (a : Analysis). AreReportsOfText replay.part a d.text touches replay.byte_limit d.rules replay.explain output.names output.raced) merges.analysis output.reports)
 
   recorded : reports.recording ≡ kept (Some made.pages) d.trace
   recorded = reports.trace.kept ∙ ap (kept (Some made.pages)) (same_trace d.text replay.byte_limit reports.trace.whole d.trace reports.trace.trace merges.trace)

@@ -3,6 +3,7 @@ use Rattle.std.specs.Prelude.{◌≡◌, ℕ, cond, false, map, nat_lt, IsSomeAn
 use Rattle.std.specs.Io.KnownBytes.{Appends}
 use Rattle.er_exit.specs.declared.faults.Fault.{Fault}
 use Rattle.er_exit.specs.declared.faults.Fault.TheVariants.{Merging}
+use Rattle.er_lines.specs.declared.ready.Touch.{Touch}
 use Rattle.er_merge.specs.Merging.{Merges}
 use Rattle.er_merge.specs.Traces.{AreTextsOfParts, Divided, whole_report}
 use Rattle.er_merge.specs.declared.merging.Merged.{Merged}
@@ -41,5 +42,5 @@ pub record IsMergedReplay (d : Divided) (replay : Replay) : Type 0 where
 
 -- what such a replay writes is the form of a report that says what the report of the whole trace says
 abbrev pub MergedIsWhole : {F : Type 0} → (F → Option (List ℕ)) → Type 0
-MergedIsWhole remaining = (d : Divided) (replay : Replay) (bytes : List ℕ) → IsMergedReplay d replay
-    → (output : IsOutput remaining replay d.text d.rules bytes) → IsSomeAnd output.found.lockset (λ report. told report ≡ whole_report (record d { explain = replay.explain }))
+MergedIsWhole remaining = (d : Divided) (replay : Replay) (touches : Option (List Touch)) (bytes : List ℕ) → IsMergedReplay d replay
+    → (output : IsOutput remaining replay d.text touches d.rules bytes) → IsSomeAnd output.found.lockset (λ report. told report ≡ whole_report (record d { explain = replay.explain }))

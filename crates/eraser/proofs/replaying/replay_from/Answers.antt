@@ -1,5 +1,5 @@
 -- A fault from before a byte is written says whether the reader has failed, and what is delivered is of the text that is read.
-use Rattle.std.proofs.Common.{Option}
+use Rattle.std.proofs.Common.{List, Option}
 use Rattle.er_device.specs.Device.{has_failed, inner_of}
 use Rattle.er_lines.specs.declared.ready.Touch.{Touch}
 use Rattle.er_rules.specs.Rules.{targets_of}
