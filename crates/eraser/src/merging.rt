@@ -1,5 +1,5 @@
 //! Reports of a trace's parts that are read from files, and the one report that is written of them.
-ghost use Rattle.std.specs.Prelude.{◌≡◌, ◌≤◌, ◌⊎◌, ℕ, List, [], Option, Ok, false, map, vec_items, IfErr, IfOk, IsOk};
+ghost use Rattle.std.specs.Prelude.{◌≡◌, ◌≤◌, ◌⊎◌, ℕ, List, [], Option, Some, Ok, false, map, vec_items, IfErr, IfOk, IsOk};
 ghost use Rattle.er_device.specs.Device.{inner_of, has_failed};
 ghost use Rattle.er_exit.specs.Writes.{LeavesOutput};
 ghost use Rattle.er_merge.specs.Merging.{Merges};
@@ -72,7 +72,8 @@ pub(crate) fn merge_for<R: Files + AllocGlobal>(
     replay: &mut Replay<'_>,
 ) -> Result<(), Fault>
     ensures none { replay.old.reports.items ≡ [] → IsOk result × (replay.new ≡ replay.old) }
-    ensures same { replay.new ≡ record replay.old { part = replay.new.part; counts = replay.new.counts } }
+    ensures same { (replay.new.hints ≡ replay.old.hints) × (replay.new.until_fault ≡ replay.old.until_fault) × (replay.new.progress ≡ replay.old.progress) }
+    ensures asked { (replay.new.trace ≡ replay.old.trace) × (replay.new.suppressions ≡ replay.old.suppressions) × (replay.new.analysis ≡ replay.old.analysis) × (replay.new.form ≡ replay.old.form) × (replay.new.explain ≡ replay.old.explain) × (replay.new.byte_limit ≡ replay.old.byte_limit) }
     ensures merged { IfOk result (λ done. (replay.old.reports.items ≡ []) ⊎ IsMergedFor replay.new) }
     ensures nothing { IfErr result (λ why. (output : Option (List ℕ)) → LeavesOutput output output why) }
 {
@@ -80,16 +81,10 @@ pub(crate) fn merge_for<R: Files + AllocGlobal>(
         return Ok(());
     }
     let texts = texts_of(rt, &replay.reports)?;
-    let merged = merged_of(rt, replay, &texts);
+    let made = merged_of(rt, replay, &texts);
     drop(texts);
-    let Merged {
-        text,
-        counts,
-        pages,
-    } = merged?;
-    drop(text);
-    replay.part = Some(pages);
-    replay.counts = Some(counts);
+    let merged = made?;
+    take_merged(replay, merged);
     Ok(())
 }
 
@@ -98,6 +93,22 @@ pub(crate) fn merge_for<R: Files + AllocGlobal>(
 pub(crate) fn merged_pages_report_the_whole<R: Files>()
     ensures { MergedIsWhole R.File.remaining }
 {}
+
+// Has the replay keep the pages of the merged lines, and count what the reports count together.
+fn take_merged(replay: &mut Replay<'_>, merged: Merged)
+    ensures same { (replay.new.hints ≡ replay.old.hints) × (replay.new.until_fault ≡ replay.old.until_fault) × (replay.new.progress ≡ replay.old.progress) }
+    ensures asked { (replay.new.trace ≡ replay.old.trace) × (replay.new.suppressions ≡ replay.old.suppressions) × (replay.new.analysis ≡ replay.old.analysis) × (replay.new.form ≡ replay.old.form) × (replay.new.explain ≡ replay.old.explain) × (replay.new.byte_limit ≡ replay.old.byte_limit) }
+    ensures made { (replay.new.part ≡ Some merged.pages) × (replay.new.counts ≡ Some merged.counts) }
+{
+    let Merged {
+        text,
+        counts,
+        pages,
+    } = merged;
+    drop(text);
+    replay.part = Some(pages);
+    replay.counts = Some(counts);
+}
 
 // The one report of these, if they are of the trace that is replayed, and by its rules.
 fn merged_of<R: Files + AllocGlobal>(
