@@ -166,7 +166,7 @@ def long_text(record):
     for _ in range(count):
         writer.access(b"t1", False, 0x1000, 16, node)
     data = writer.finish()
-    line = len(b"t1 read 0x1000 " + site + b"\n")
+    line = len(b"t1 read 0x000000001000 " + site + b"\n")
     fault = b"line %d: text too long\n" % ((limit - len(b"eraser trace 3\n")) // line + 2)
     end = b"steps %d, %s 0, suppressed 0, refused 0\n"
     with tempfile.NamedTemporaryFile() as file:
