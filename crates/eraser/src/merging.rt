@@ -74,6 +74,7 @@ pub(crate) fn merge_for<R: Files + AllocGlobal>(
     ensures none { replay.old.reports.items ≡ [] → IsOk result × (replay.new ≡ replay.old) }
     ensures same { (replay.new.hints ≡ replay.old.hints) × (replay.new.until_fault ≡ replay.old.until_fault) × (replay.new.progress ≡ replay.old.progress) }
     ensures asked { (replay.new.trace ≡ replay.old.trace) × (replay.new.suppressions ≡ replay.old.suppressions) × (replay.new.analysis ≡ replay.old.analysis) × (replay.new.form ≡ replay.old.form) × (replay.new.explain ≡ replay.old.explain) × (replay.new.byte_limit ≡ replay.old.byte_limit) }
+    ensures rest { (replay.new.reports ≡ replay.old.reports) × (replay.new.write_rules ≡ replay.old.write_rules) × (replay.new.unused_rules ≡ replay.old.unused_rules) × (replay.new.max_races ≡ replay.old.max_races) × (replay.new.source ≡ replay.old.source) × (replay.new.strict ≡ replay.old.strict) × (replay.new.shards ≡ replay.old.shards) × (replay.new.workers ≡ replay.old.workers) × (replay.new.binary_limit ≡ replay.old.binary_limit) }
     ensures merged { IfOk result (λ done. (replay.old.reports.items ≡ []) ⊎ IsMergedFor replay.new) }
     ensures nothing { IfErr result (λ why. (output : Option (List ℕ)) → LeavesOutput output output why) }
 {
@@ -98,6 +99,7 @@ pub(crate) fn merged_pages_report_the_whole<R: Files>()
 fn take_merged(replay: &mut Replay<'_>, merged: Merged)
     ensures same { (replay.new.hints ≡ replay.old.hints) × (replay.new.until_fault ≡ replay.old.until_fault) × (replay.new.progress ≡ replay.old.progress) }
     ensures asked { (replay.new.trace ≡ replay.old.trace) × (replay.new.suppressions ≡ replay.old.suppressions) × (replay.new.analysis ≡ replay.old.analysis) × (replay.new.form ≡ replay.old.form) × (replay.new.explain ≡ replay.old.explain) × (replay.new.byte_limit ≡ replay.old.byte_limit) }
+    ensures rest { (replay.new.reports ≡ replay.old.reports) × (replay.new.write_rules ≡ replay.old.write_rules) × (replay.new.unused_rules ≡ replay.old.unused_rules) × (replay.new.max_races ≡ replay.old.max_races) × (replay.new.source ≡ replay.old.source) × (replay.new.strict ≡ replay.old.strict) × (replay.new.shards ≡ replay.old.shards) × (replay.new.workers ≡ replay.old.workers) × (replay.new.binary_limit ≡ replay.old.binary_limit) }
     ensures made { (replay.new.part ≡ Some merged.pages) × (replay.new.counts ≡ Some merged.counts) }
 {
     let Merged {
