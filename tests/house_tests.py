@@ -257,7 +257,7 @@ def definition_faults():
 
 def not_read_out(text):
     """The files of definitions that a row of docs/PROMISES.md cites and of which docs/DEFINITIONS.md names no word above its last table."""
-    cited = re.findall(r"`(er_\w+/specs/[\w/]+\.antt)`", (DOCS / "PROMISES.md").read_text())
+    cited = re.findall(r"`(er\w+/specs/[\w/]+\.antt)`", (DOCS / "PROMISES.md").read_text())
     named = {word for name in re.findall(r"`([^`]*)`", text) for word in re.findall(r"[\w'-]+", name)}
     return [path for path in sorted(set(cited)) if not named & set(tool("believed").module(module_of(path))[0])]
 
