@@ -1,5 +1,5 @@
 //! The first line of the report of a part, and what it says of the files that the part is of.
-ghost use Rattle.std.specs.Prelude.{◌≡◌, ◌≤◌, None, codes, length, IfErr, IfOk, IsOk, IsSome};
+ghost use Rattle.std.specs.Prelude.{◌≡◌, ◌≤◌, None, codes, length, IfOk, IsOk, IsSome, MatchResult};
 ghost use Rattle.er_exit.specs.Parts.{IsHeading};
 ghost use Rattle.er_exit.specs.declared.faults.Fault.TheVariants.{NoFile};
 
@@ -23,7 +23,7 @@ pub fn heading_of<R: Files + AllocGlobal>(
 ) -> Result<Vec<u8>, Fault>
     ensures heading { IfOk result (λ line. IsHeading part explain line.items) }
     ensures whole { part ≡ None → IsOk result }
-    ensures input { trace.now ≡ codes "-" → IfErr result (λ why. (why ≡ NoFile) × IsSome part) }
+    ensures input { trace.now ≡ codes "-" → MatchResult result (λ line. part ≡ None) (λ why. (why ≡ NoFile) × IsSome part) }
 {
     let mut line = Vec::new(rt.alloc());
     let Some(part) = part else {

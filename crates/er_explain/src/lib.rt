@@ -9,7 +9,7 @@
 //! ([`an_explanation_explains`]).
 //!
 //! One book is kept of a word: its first access and thread, and once a second thread has joined the locks of the joining, each with the access that
-//! was found for it. A reuse empties the book. `explain` keeps the book of one word, in one pass over the steps.
+//! was found for it. A reuse empties the book. `explain` goes over the steps once, and keeps the books of all words.
 //!
 //! [`WordBooks`] keeps the books of all words while the steps are answered, and no step. An [`Access`] is named there as the caller likes, by its
 //! place or by its line, and by its thread and its kind. It promises that each word's book goes on as the definitions say (`follow`), and what a book

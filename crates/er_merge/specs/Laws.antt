@@ -69,6 +69,6 @@ WrittenPartsAreMerged = (d : Divided) (limit : ℕ) (heading : PartHeading) (par
     → IsHeadingOf d heading → 1 ≤ d.count → IsPermutation (range_with_len 1 d.count) parts → Merges (map (written_part d heading) parts) result
     → MatchResult result (λ made. (made.text.items ≡ report_text d.trace.names (whole_report d)) × (made.counts.races ≡ (whole_report d).races)) (λ fault. fault ≡ Memory)
 
--- numbers of 64 bits count the steps of each trace whose text has fewer than 2 ^ 53 bytes
+-- a trace has at most 1,025 steps for each byte of its text
 abbrev pub TracesHaveFewSteps : Type 0
 TracesHaveFewSteps = (text : List ℕ) (limit : ℕ) (t : Recording) → IsTrace text limit t → length t.steps ≤ 1025 * length text

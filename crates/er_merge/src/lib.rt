@@ -10,7 +10,7 @@
 //! ```
 //! // The texts of the reports of `eraser replay --part 1/2` and `--part 2/2`.
 //! let merged = merge_reports(alloc, &[first, second])?;
-//! // Here `merged.text` has the bytes of the report of the whole trace, and `merged.races` says how many races it has.
+//! // Here `merged.text` has the bytes of the report of the whole trace, and `merged.counts.races` says how many races it has.
 //! ```
 #![tactic(auto)]
 

@@ -212,6 +212,7 @@ fn merge_of<'a>(alloc: Global, found: &ArgMatches<'a>) -> Result<Option<Request<
     }
     let byte_limit = found.get_one::<u64>("byte-limit");
     replay.byte_limit = byte_limit.unwrap_or(MOST_BYTES).min(MOST_BYTES);
+    replay.binary_limit = replay.byte_limit;
     replay.trace = trace.unwrap_or("-");
     replay.reports = reports;
     Ok(Some(Request::Replay(replay)))
