@@ -119,6 +119,7 @@ impl Shard {
         ensures all { IsNone result.refused → words.first + result.taken ≡ words.last + 1 }
         ensures some { IsSome result.refused → words.first + result.taken ≤ words.last }
         ensures refusals { result.refused ≢ Some NoRoom.JournalFull }
+        ensures table_full { result.refused ≡ Some NoRoom.TableFull → IsTrue (needs_set (state_now self.new (words.first + result.taken)) thread) }
         ensures settled { result.is_settled ≡ true → HasSameStates self.old self.new }
         ensures quiet { result.is_settled ≡ true → (result.first_race ≡ None) × (result.refused ≡ None) }
     {

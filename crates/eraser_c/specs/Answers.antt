@@ -143,11 +143,11 @@ abbrev pub race_of : Option ℕ → Status
 race_of None = Quiet
 race_of (Some word) = Race
 
--- each word of the run is accessed, or one finds no room and those before it are
+-- each word of the run is accessed, or one finds no room and those before it are; there is no place for a set of locks only if that word needs one
 abbrev pub IsSpanTaken : Thread → Kind → Span → Calls → Calls → Option ℕ → ℕ → Type 0
 IsSpanTaken t kind span before after found number =
     (IsSpanned before after t.number kind (locks_for t.held kind) span.first (span.last + 1 - span.first) found × (number ≡ number_of (race_of found)))
-    ⊎ ((taken : ℕ) × ((span.first + taken < span.last + 1) × (IsSpanned before after t.number kind (locks_for t.held kind) span.first taken found × IsNoRoom number)))
+    ⊎ ((taken : ℕ) × ((span.first + taken < span.last + 1) × (IsSpanned before after t.number kind (locks_for t.held kind) span.first taken found × IsNoRoomFor (needs_set (state_now after (span.first + taken)) t.number) number)))
 
 -- each answer of the list is the one that the definitions give, and each word of the run is accessed, or one finds no room and those before it are
 pub record IsSpanAccessed (t : Thread) (kind : Kind) (span : Span) (before after : Calls) (found : Option ℕ) (number : ℕ) : Type 0 where

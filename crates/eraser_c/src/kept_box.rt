@@ -20,6 +20,7 @@ impl Model for KeptBox {
     ghost also_owns = { λ b. owns_kept b.alloc b.at b.kept };
 }
 
+// It owns what it points to, and a handle may be used by another thread than the one that made it.
 unsafe impl Send for KeptBox {}
 
 impl KeptBox {
