@@ -1,5 +1,5 @@
 -- What the words of a command line ask for.
-use Rattle.std.specs.Prelude.{ℕ, ◌≡◌, ◌&&◌, Bool, false, true, List, [], ◌∷◌, None, codes, String, string_bytes}
+use Rattle.std.specs.Prelude.{ℕ, ◌≡◌, ◌&&◌, ◌⊎◌, Bool, false, true, List, [], ◌∷◌, None, codes, String, string_bytes}
 use Rattle.std.specs.List.{list_any}
 use Rattle.std.specs.Str.{bytes_eq}
 use Rattle.er_report.specs.declared.reports.Analysis.TheVariants.{Lockset}
@@ -55,6 +55,14 @@ gives_hints (Explain explain) = true
 gives_hints (Print trace) = true
 gives_hints (Merge reports) = true
 gives_hints (Demo demo) = true
+
+-- reports of parts are merged by the lockset rule alone
+abbrev pub merges_by_locks : Request → Type 0
+merges_by_locks (Replay replay) = (replay.reports.items ≡ []) ⊎ (replay.analysis ≡ Lockset)
+merges_by_locks (Explain explain) = Unit {0}
+merges_by_locks (Print trace) = Unit {0}
+merges_by_locks (Merge reports) = Unit {0}
+merges_by_locks (Demo demo) = Unit {0}
 
 -- behind the program's name stand this command and `-` alone
 abbrev pub takes_input : {A : Type 0} → List ℕ → List (String A) → Bool

@@ -1,6 +1,6 @@
 //! What the words of a command line ask for.
-ghost use Rattle.std.specs.Prelude.{◌≡◌, ◌||◌, false, true, IfOk, IsOk};
-ghost use Rattle.er_request.specs.Words.{IsUsual, asks_hints, asks_print, asks_progress, asks_until_fault, asks_usual, gives_hints, names, names_hints, names_progress, names_until_fault, prints_input, replays_input, takes_input};
+ghost use Rattle.std.specs.Prelude.{◌≡◌, ◌||◌, ◌⊎◌, [], false, true, IfOk, IsOk};
+ghost use Rattle.er_request.specs.Words.{merges_by_locks, IsUsual, asks_hints, asks_print, asks_progress, asks_until_fault, asks_usual, gives_hints, names, names_hints, names_progress, names_until_fault, prints_input, replays_input, takes_input};
 
 use crate::options::{DEMOS, MOST_BYTES, MOST_SHARDS, MOST_WORKERS, eraser_command};
 use crate::request::{Demo, Explain, Replay, Request};
@@ -25,6 +25,7 @@ pub fn read_request<'a>(
     ensures terminal { on_terminal ≡ true → IfOk result (λ request. gives_hints request ≡ true) }
     ensures usual { replays_input words.now ≡ true → IsOk result }
     ensures asks { replays_input words.now ≡ true → IfOk result (asks_usual on_terminal) }
+    ensures merges { IfOk result merges_by_locks }
     ensures prints { prints_input words.now ≡ true → IsOk result × IfOk result asks_print }
 {
     if takes_input(words, "print") {
@@ -38,9 +39,20 @@ pub fn read_request<'a>(
             replay.until_fault = replay.until_fault && names(words, "--until-fault");
             replay.progress = replay.progress && names(words, "--progress");
             replay.hints = on_terminal || (replay.hints && names(words, "--hints"));
+            replay.analysis = rule_of(&replay);
             Ok(Request::Replay(replay))
         }
         other => Ok(other),
+    }
+}
+
+// By which rule it is: reports of parts are merged by the lockset rule alone.
+fn rule_of(replay: &Replay<'_>) -> Analysis
+    ensures { (replay.now.reports.items ≡ []) ⊎ (result ≡ Analysis.Lockset) }
+{
+    match replay.reports.as_slice() {
+        [] => replay.analysis,
+        _ => Analysis::Lockset,
     }
 }
 
