@@ -257,6 +257,13 @@ def of_traces(record, folder, preloaded):
         record(f"with a trace, {name}", found == (b"", line, status), f"{found}")
     short = run(["merge", "--trace", str(path), "--suppress", str(rules), "--byte-limit", "50", *paths])
     record("with a trace beyond the limit", short == run(["replay", "--suppress", str(rules), "--byte-limit", "50", str(path)]) and short[2] == 2, f"{short}")
+    binary, coded = folder / "two.binary", [folder / f"binary-{part}.report" for part in (1, 2)]
+    binary.write_bytes(trace4.encode(TRACE))
+    for part, report in enumerate(coded, 1):
+        report.write_bytes(run(["replay", "--part", f"{part}/2", str(binary)])[0])
+    for limit, status in (([], 1), (["--byte-limit", "50"], 2)):
+        found = run(["merge", "--trace", str(binary), "--format", "json", *limit, *map(str, coded)])
+        record(f"with a binary trace and {limit}", found == run(["replay", "--format", "json", *limit, str(binary)]) and found[2] == status, f"{found}")
     for option in (["--by-site"], ["--format", "json"], ["--explain"], ["--suppress", str(rules)], ["--source", "."], ["--trace", "-"]):
         output, errors, status = run(["merge", *option, *paths])
         record(f"{option} without a trace", (output, status) == (b"", 2) and errors.startswith(b"error: ") and b"--trace" in errors.split(b"\n")[0] or b"--source" in errors, f"{errors}")
