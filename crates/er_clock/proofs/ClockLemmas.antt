@@ -11,13 +11,6 @@ merged_all [] (y ∷ ys) fits = absurd (omega arith)
 merged_all (x ∷ xs) [] fits = refl
 merged_all (x ∷ xs) (y ∷ ys) fits = ap (λ zs. max x y ∷ zs) (merged_all xs ys (omega arith))
 
-pub length-merged_below : (n : ℕ) (xs ys : List ℕ) → length (merged_below n xs ys) ≡ length xs
-unfolding merged_below
-length-merged_below zero xs ys = refl
-length-merged_below (suc n) [] ys = refl
-length-merged_below (suc n) (x ∷ xs) [] = refl
-length-merged_below (suc n) (x ∷ xs) (y ∷ ys) = ap suc (length-merged_below n xs ys)
-
 -- the place that comes next still has its old count
 pub next_place : (n d : ℕ) (xs ys : List ℕ) → get_or (merged_below n xs ys) n d ≡ get_or xs n d
 unfolding merged_below

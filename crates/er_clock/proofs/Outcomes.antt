@@ -1,11 +1,6 @@
 -- What a call came to.
 use Rattle.std.proofs.Common.{Result, Ok, Err, OnOk, OnErr, IsOk}
 
--- what follows from each outcome
-pub either_way : {T E : Type 0} (r : Result T E) (P Q G : Type 0) → OnOk r P → OnErr r Q → (P → G) → (Q → G) → G
-either_way (Ok v) P Q G p q f g = f p
-either_way (Err e) P Q G p q f g = g q
-
 -- a call that can't fail
 pub surely : {T E : Type 0} (r : Result T E) (P : Type 0) → IsOk r → OnOk r P → P
 surely (Ok v) P ok p = p

@@ -1,5 +1,5 @@
 //! Blocks of counts.
-ghost use Rattle.std.specs.Prelude.{◌≡◌, ◌≤◌, ◌<◌, ◌-◌, ◌^◌, ◌==◌, ℕ, suc, max, [], length, get_or, IsTrue, OnOk, OnErr, IfOk, IsOk};
+ghost use Rattle.std.specs.Prelude.{◌≡◌, ◌≤◌, ◌<◌, ◌-◌, ◌^◌, ◌==◌, ℕ, suc, max, [], length, get_or, IsTrue, OnOk, OnErr, IfOk};
 ghost use Rattle.er_order.specs.ClockLists.{merged, ticked};
 ghost use Rattle.er_clock.specs.Clock.{count_in_block};
 ghost use Rattle.er_clock.specs.Inner.Merging.{padded, lengthened, AreWithin};

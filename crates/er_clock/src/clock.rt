@@ -1,6 +1,5 @@
 //! One clock.
-ghost use Rattle.std.specs.Prelude.{◌≡◌, ◌↔◌, ◌≤◌, ◌<◌, ◌-◌, ◌^◌, ℕ, max, length, get_or, Some, IsTrue, OnOk, OnErr, IfOk, IfSome, IsErrOf};
-ghost use Rattle.er_order.specs.Clocks.{covers};
+ghost use Rattle.std.specs.Prelude.{◌≡◌, ◌↔◌, ◌≤◌, ◌<◌, ◌-◌, ◌^◌, ℕ, Some, IsTrue, OnOk, OnErr, IfSome, IsErrOf};
 ghost use Rattle.er_clock.specs.Clock.{count_in, IsZero, Stays, Joins, Ticks};
 ghost use Rattle.er_clock.specs.NoTick.{limit_text, text_of};
 ghost use Rattle.er_clock.specs.declared.clock.NoTick.TheVariants.{OutOfMemory};

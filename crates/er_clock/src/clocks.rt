@@ -1,6 +1,5 @@
 //! The clocks of a list of steps.
-ghost use Rattle.std.specs.Prelude.{◌≡◌, ◌↔◌, ◌≤◌, ◌-◌, ◌^◌, ◌++◌, ◌∷◌, [], ℕ, List, Bool, Some, None, IsTrue, OnOk, OnErr, IsErrOf, is_ok};
-ghost use Rattle.er_event.specs.declared.steps.Mode.{Mode as Modes};
+ghost use Rattle.std.specs.Prelude.{◌≡◌, ◌↔◌, ◌≤◌, ◌-◌, ◌^◌, ◌++◌, ◌∷◌, [], ℕ, List, Some, IsTrue, OnOk, OnErr, IsErrOf};
 ghost use Rattle.er_event.specs.declared.steps.Step.{Step as Steps};
 ghost use Rattle.er_order.specs.Order.{Effect, sync_of, effect_of};
 ghost use Rattle.er_order.specs.Clocks.{OfThread};

@@ -1,20 +1,7 @@
 -- Tests of what a list was made of, and what `retain` keeps.
 use Rattle.std.proofs.Common.{◌≡◌, Bool, true, false, ◌||◌, cond, List, [], ◌∷◌, ◌++◌, filter, map, length, refl, ap, ap₂, subst, ◌∙◌, arith}
-use Rattle.std.specs.List.{list_any, items_where_true}
+use Rattle.std.specs.List.{items_where_true}
 use Rattle.std.specs.List.Retain.{IsFiltered, ReturnsInTurn}
-
-pub any-mapped : {X Y : Type 0} (p : Y → Bool) (f : X → Y) (xs : List X) → list_any (λ x. p (f x)) xs ≡ list_any p (map f xs)
-any-mapped p f [] = refl
-any-mapped p f (x ∷ xs) = ap (λ b. p (f x) || b) (any-mapped p f xs)
-
-map_cond : {X Y : Type 0} (f : X → Y) (b : Bool) (x : X) (xs : List X) → map f (cond b (x ∷ xs) xs) ≡ cond b (f x ∷ map f xs) (map f xs)
-map_cond f true x xs = refl
-map_cond f false x xs = refl
-
-pub filter-mapped : {X Y : Type 0} (p : Y → Bool) (f : X → Y) (xs : List X) → map f (filter (λ x. p (f x)) xs) ≡ filter p (map f xs)
-filter-mapped p f [] = refl
-filter-mapped p f (x ∷ xs) =
-    map_cond f (p (f x)) x (filter (λ x. p (f x)) xs) ∙ ap (λ ys. cond (p (f x)) (f x ∷ ys) ys) (filter-mapped p f xs)
 
 pub map-push : {X Y : Type 0} (f : X → Y) (xs : List X) (x : X) → map f (xs ++ x ∷ []) ≡ map f xs ++ f x ∷ []
 map-push f [] x = refl

@@ -8,7 +8,6 @@ pub mod Maps
 pub mod Noted
 pub mod Places
 pub mod ReasonLemmas
-pub mod Serving
 pub mod StepLemmas
 pub mod KnownLemmas
 pub mod KnownSteps

@@ -1,23 +1,14 @@
 -- The lists of words: one is made, goes on, or goes.
-use Rattle.std.proofs.Common.{◌≡◌, ◌∙◌, ℕ, nat_eq, Bool, true, false, cond, List, [], Some, None, Result, Ok, Err, IfOk, refl, sym, ap, subst, arith}
+use Rattle.std.proofs.Common.{◌≡◌, ◌∙◌, ℕ, nat_eq, true, false, cond, List, [], Some, Result, Ok, Err, IfOk, sym, ap, subst, arith}
 use Rattle.std.proofs.lemmas.Bool.Decides.{nat_tests}
 use Rattle.std.specs.Map.{lookup}
 use Rattle.std.specs.Option.{unwrap_or}
-use borrow.Author.Tests.{eqb-true}
 use Rattle.er_epochs.proofs.Maps.{Puts}
 use Rattle.er_epochs.specs.declared.reads.Tagged.{Tagged}
 use Rattle.er_epochs.specs.Epochs.{Stored}
 use Rattle.er_epochs.specs.Words.{Said, WordLists, list_of, stored_with, stored_beside}
 
 module _ {A : Type 0} where
-  -- an empty list says what no list says
-  pub list_made : (old new : WordLists A) (n : ℕ) → lookup (nat_eq n) old ≡ None → Puts old new n [] → (w : ℕ) → list_of new w ≡ list_of old w
-  list_made old new n absent puts w = ap (λ o. unwrap_or o []) (puts w) ∙ by (nat_eq n w) refl
-    where
-      by : (same : Bool) → nat_eq n w ≡ same → unwrap_or (cond same (Some []) (lookup (nat_eq w) old)) [] ≡ list_of old w
-      by true e = sym (ap (λ o. unwrap_or o []) (ap (λ q. lookup (nat_eq q) old) (sym (eqb-true n w e)) ∙ absent))
-      by false e = refl
-
   -- a list that is found
   pub list_found : (lists : WordLists A) (n : ℕ) (reads : List (Tagged A)) → Some reads ≡ lookup (nat_eq n) lists → reads ≡ list_of lists n
   list_found lists n reads found = ap (λ o. unwrap_or o []) found

@@ -16,12 +16,6 @@ use Rattle.er_epochs.specs.Words.{AllWords, BlockWords, IsLowest, is_place_in, s
 abbrev pub IsNoneBelow : (ℕ → Bool) → ℕ → ℕ → Type 0
 IsNoneBelow test lo place = (i : ℕ) → ((nat_le lo i && nat_lt i place) && test i) ≡ false
 
-pub none_below-start : (test : ℕ → Bool) (lo : ℕ) → IsNoneBelow test lo lo
-none_below-start test lo i = ap (λ b. b && test i) none
-  where
-    none : (nat_le lo i && nat_lt i lo) ≡ false
-    none = grind (arith, nat_tests)
-
 pub none_below-next : (test : ℕ → Bool) (lo place : ℕ) → IsNoneBelow test lo place → test place ≡ false → IsNoneBelow test lo (place + 1)
 none_below-next test lo place none here i = by (nat_eq place i) refl
   where
@@ -48,21 +42,6 @@ lowest_place test lo hi place low high none here = (ap (λ b. b && test place) w
 
     same : (k : ℕ) → k < place → nat_le k hi ≡ nat_lt k place
     same k below = grind (arith, nat_tests)
-
--- or there is none
-pub no_place : (test : ℕ → Bool) (lo hi place : ℕ) → hi < place → IsNoneBelow test lo place → IsLowest (λ i. (nat_le lo i && nat_le i hi) && test i) None
-no_place test lo hi place past none i = by (nat_le i hi) refl
-  where
-    below : nat_le i hi ≡ true → nat_lt i place ≡ true
-    below e = grind (arith, nat_tests)
-
-    and_false : (b : Bool) → (b && false) ≡ false
-    and_false true = refl
-    and_false false = refl
-
-    by : (b : Bool) → nat_le i hi ≡ b → ((nat_le lo i && b) && test i) ≡ false
-    by true e = ap (λ b. (nat_le lo i && b) && test i) (sym (below e)) ∙ none i
-    by false e = ap (λ b. b && test i) (and_false (nat_le lo i))
 
 -- the lowest place in a block is the lowest word of the block
 pub lowest_word : (number : ℕ) (places words : ℕ → Bool) (place : Option ℕ)
@@ -125,9 +104,6 @@ module _ (number : ℕ) (before here both : ℕ → Bool)
 
   lower_block : (k w : ℕ) → k < w → w / 32 < number → k / 32 < number
   lower_block k w below early = omega (arith, below, early)
-
-  lower_or_same : (k w : ℕ) → k < w → number ≡ w / 32 → k / 32 ≤ number
-  lower_or_same k w below at = omega (arith, below, at)
 
   pub lowest_of_both : (first second : Option ℕ) → IsLowest before first → IsLowest here second → IsLowest both (option_or first second)
   lowest_of_both (Some w) second lowest other =

@@ -1,19 +1,17 @@
 -- What may be stored of reads after one more: the list may leave out what the reader's clock covers, and what a later read of the same thread replaces.
-use Rattle.std.proofs.Common.{◌≡◌, ◌∙◌, ℕ, zero, suc, ◌≤◌, ◌<◌, ◌+◌, Bool, true, false, ◌&&◌, ◌||◌, not, nat_eq, cond, List, [], ◌∷◌, ◌++◌, filter, length, get_or, take, map, reverse, slice_set, Option, Some, None, refl, sym, ap, ap₂, subst, arith}
-use Rattle.std.specs.List.{list_any}
-use Rattle.std.specs.Option.{option_map, option_or}
+use Rattle.std.proofs.Common.{◌≡◌, ◌∙◌, ℕ, zero, suc, ◌≤◌, ◌<◌, ◌+◌, Bool, true, false, ◌&&◌, ◌||◌, not, nat_eq, cond, List, [], ◌∷◌, ◌++◌, filter, length, get_or, take, reverse, slice_set, Option, Some, None, refl, sym, ap, ap₂, subst, arith}
+use Rattle.std.specs.Option.{option_or}
 use Rattle.std.proofs.lemmas.Bool.{eqb-true, le-leb, leb-true}
 use Rattle.std.proofs.lemmas.List.{reverse-append, reverse-reverse, take_more}
 use Rattle.std.proofs.lemmas.List.Folds.{find-append}
 use Rattle.er_event.specs.declared.steps.Kind.{Kind}
 use Rattle.er_event.specs.declared.steps.Kind.TheVariants.{Read as reading, Write as writing}
-use Rattle.er_model.specs.Words.{is_writing}
 use Rattle.er_order.specs.Clocks.{Epoch, covers}
-use Rattle.er_order.specs.Following.{Kept, Seen, Reported, is_unordered, write_is_unordered, reports_at}
+use Rattle.er_order.specs.Following.{is_unordered}
 use Rattle.er_order.specs.Keeping.{first_apart, IsNoted}
 use Rattle.er_order.proofs.Keeping.{behind-read, covered-later, noted-filter}
 use Rattle.er_epochs.specs.declared.reads.Tagged.{Tagged}
-use Rattle.er_epochs.specs.Epochs.{Latest, Stored, Accesses, Told, pair_of, is_apart, some_apart, is_raced, is_replaced, stored_by, latest_by, reads_of, with_reads, IsStoredBy}
+use Rattle.er_epochs.specs.Epochs.{Latest, Stored, Accesses, Told, pair_of, is_apart, some_apart, is_replaced, stored_by, latest_by, reads_of, with_reads, IsStoredBy}
 
 module _ {A : Type 0} where
   -- what the definitions make of it may be stored
@@ -55,10 +53,6 @@ module _ {A : Type 0} where
   turned-push xs x = reverse-append xs (x ∷ [])
 
   module _ (clock : ℕ → ℕ) (reads : List (Tagged A)) (x : Tagged A) where
-    -- all of them, and the read behind them
-    pub noted_behind : (was after : List (Tagged A)) → reads ≡ was → after ≡ reads ++ x ∷ [] → IsNoted pair_of clock (reverse was) x (reverse after)
-    noted_behind was after same is = rw (← same, is, turned-push reads x) (record { noted = λ later knows. refl })
-
     -- those that the clock doesn't cover
     pub noted_few : (was after : List (Tagged A)) → reads ≡ was → after ≡ filter (is_apart clock) reads ++ x ∷ [] → IsNoted pair_of clock (reverse was) x (reverse after)
     noted_few was after same is = rw (← same, is, turned-push (filter (is_apart clock) reads) x, filter-turned (is_apart clock) reads) (noted-filter pair_of clock (reverse reads) x)
@@ -161,28 +155,3 @@ module _ {A : Type 0} (clock : ℕ → ℕ) (before left : List (Tagged A)) (cou
 -- the items so far, and the next one
 pub item_next : {X : Type 0} (xs : List X) (k : ℕ) (x : X) → k < length xs → x ≡ get_or xs k x → take (k + 1) xs ≡ take k xs ++ x ∷ []
 item_next xs k x within is = take_more xs k x within ∙ ap (λ y. take k xs ++ y ∷ []) (sym is)
-
--- nothing so far
-pub leaves_none : {A : Type 0} (clock : ℕ → ℕ) (counts : ℕ → Option ℕ) → ((t : ℕ) → counts t ≡ None) → Leaves {A = A} clock [] [] counts
-leaves_none clock counts empty = record {
-  found = λ later has_all. refl;
-  known = λ t n is later none. let clash : None ≡ Some n = sym (empty t) ∙ is in cc;
-}
-
--- what is stored, without the tags
-abbrev pub plain : {A : Type 0} → Stored A → Kept
-plain Told = Reported
-plain (Accesses latest) = Seen (option_map pair_of latest.write) (map pair_of latest.reads)
-
-module _ {A : Type 0} (clock : ℕ → ℕ) where
-  plain_any : (xs : List (Tagged A)) → list_any (is_apart clock) xs ≡ list_any (is_unordered clock) (map pair_of xs)
-  plain_any [] = refl
-  plain_any (x ∷ xs) = ap (λ b. is_apart clock x || b) (plain_any xs)
-
-  plain_write : (o : Option (Tagged A)) → some_apart clock o ≡ write_is_unordered clock (option_map pair_of o)
-  plain_write None = refl
-  plain_write (Some x) = refl
-
-  pub plain-raced : (s : Stored A) (kind : Kind) → is_raced clock s kind ≡ reports_at clock (plain s) kind
-  plain-raced Told kind = refl
-  plain-raced (Accesses latest) kind = ap₂ (λ a b. a || (is_writing kind && b)) (plain_write latest.write) (plain_any latest.reads)

@@ -3,7 +3,7 @@ use Rattle.std.proofs.Common.{◌≡◌, ◌≢◌, ◌∙◌, ◌⊎◌, inl, i
 use Rattle.std.proofs.lemmas.Bool.Decides.{nat_tests}
 use borrow.Author.Tests.{eqb-true, eqb-false}
 use Rattle.er_epochs.specs.declared.word.OrderWord.{OrderWord}
-use Rattle.er_epochs.specs.Words.{IsButForTags, Said, blank, said, word_at, is_place_in}
+use Rattle.er_epochs.specs.Words.{IsButForTags, Said, blank, said, word_at}
 
 -- one more word that says nothing
 pub blank_more : {A : Type 0} (words : List (OrderWord A)) (word : OrderWord A) → said word ≡ blank → ((i : ℕ) → word_at (map said words) i ≡ blank)
@@ -83,16 +83,3 @@ in_block number place within = omega arith
 
 pub at_place : (number place : ℕ) → place < 32 → (number * 32 + place) % 32 ≡ place
 at_place number place within = omega arith
-
--- the word at one of these places is none of those that stand elsewhere
-pub other_word : (number lo hi place w : ℕ) → place < 32 → lo ≤ place → place ≤ hi → is_place_in number lo hi w ≡ false → nat_eq (number * 32 + place) w ≡ false
-other_word number lo hi place w within low high apart = by (nat_eq (number * 32 + place) w) refl
-  where
-    among : is_place_in number lo hi (number * 32 + place) ≡ true
-    among = rw (in_block number place within, at_place number place within) (grind (arith, nat_tests))
-
-    by : (same : Bool) → nat_eq (number * 32 + place) w ≡ same → nat_eq (number * 32 + place) w ≡ false
-    by true e =
-        let both : true ≡ false = sym among ∙ (ap (λ v. is_place_in number lo hi v) (eqb-true (number * 32 + place) w e) ∙ apart) in
-        absurd cc
-    by false e = e

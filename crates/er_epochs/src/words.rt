@@ -5,7 +5,6 @@ ghost use Rattle.er_model.specs.Words.{is_within};
 ghost use Rattle.er_clock.specs.Counts.{count_by};
 ghost use Rattle.er_epochs.specs.Epochs.{is_raced, tag_found, tagged, untouched, Accesses, IsStoredBy};
 ghost use Rattle.er_epochs.specs.Known.{known_of};
-ghost use Rattle.er_epochs.specs.Standing.{Follows};
 ghost use Rattle.er_epochs.specs.declared.word.OrderWord.{OrderWord as Stored};
 ghost use Rattle.er_epochs.specs.Words.{IsButForTags, blank, said, word_at, list_of, stored_among, stored_beside, is_place_in, IsLowest};
 
@@ -46,8 +45,7 @@ impl<A> Model for OrderWords<A> {
 impl<A: Copy> OrderWords<A> {
     /// No word was accessed, and each word will be found by these keys. If whoever chooses the words knows the keys, that can be slow.
     pub fn keyed(alloc: Global, keys: HashKeys) -> Self
-        ensures stored { (w : ℕ) → stored_among result w ≡ Accesses untouched }
-        ensures follows { (tags : ℕ → A) → Follows tags result [] }
+        ensures { (w : ℕ) → stored_among result w ≡ Accesses untouched }
     {
         OrderWords {
             blocks: IndexMap::with_hasher(alloc, NumberHasher::new(keys)),

@@ -1,32 +1,27 @@
 -- What is kept of a word follows from what was kept, by the clock of the accessing thread.
-use Rattle.std.proofs.Common.{◌≡◌, ℕ, zero, suc, ◌<◌, ◌≤◌, Bool, true, false, ◌&&◌, ◌||◌, ◌==◌, not, cond, nat_le, nat_lt, List, [], ◌∷◌, filter, map, slice_get, Option, Some, None, refl, ap, ap₂, sym, ◌∙◌, arith}
+use Rattle.std.proofs.Common.{◌≡◌, ℕ, zero, suc, ◌<◌, ◌≤◌, Bool, true, false, ◌&&◌, ◌||◌, ◌==◌, not, cond, nat_le, List, [], ◌∷◌, filter, map, slice_get, Option, Some, None, refl, ap, ap₂, sym, ◌∙◌, arith}
 use Rattle.std.proofs.lemmas.Bool.{le-leb, lt-leb, eq-eqb, eqb-true, or_left, or_right, and_parts}
 use Rattle.std.specs.List.{list_any}
 use Rattle.er_event.specs.Lockset.{has}
 use Rattle.er_event.specs.declared.addresses.PageRange.{PageRange}
-use Rattle.er_event.specs.declared.steps.Event.{Event}
-use Rattle.er_event.specs.declared.steps.Event.TheVariants.{Acquire, Release, Access, Reuse, IgnoreOn, IgnoreOff, Show, Level, Sync}
 use Rattle.er_event.specs.declared.steps.Kind.{Kind}
 use Rattle.er_event.specs.declared.steps.Kind.TheVariants.{Read as reading, Write as writing}
-use Rattle.er_event.specs.declared.steps.Reply.TheVariants.{Done, Quiet, Race, Ignored}
 use Rattle.er_model.specs.Search.{some_below, every_below, greatest_below}
 use Rattle.er_model.specs.Words.{Mark, Counted, Reused, Shown, Nothing, Reading, reuses, counts, thread_of, writes, era, counted_from, is_writing, is_within}
-use Rattle.er_model.specs.Threads.{accepted, depth}
-use Rattle.er_model.specs.Holdings.{Holdings, holdings, refused_by, holdings_at}
-use Rattle.er_model.specs.Answers.{answer_unless, reading_of}
-use Rattle.er_model.specs.Following.{locks_for, marked}
+use Rattle.er_model.specs.Holdings.{holdings_at}
+use Rattle.er_model.specs.Answers.{reading_of}
+use Rattle.er_model.specs.Following.{marked}
 use Rattle.er_model.proofs.Search.{some_below-none}
-use Rattle.er_model.proofs.Threads.{refusal_at}
 use Rattle.er_model.proofs.AnswersLemmas.{reading-step}
 use Rattle.er_model.proofs.Words.{era-kept, era-reused, era-below}
 use Rattle.er_event.specs.declared.steps.Step.{Step}
-use Rattle.er_order.specs.Order.{Acts, Local, acts_of, happens_before}
+use Rattle.er_order.specs.Order.{Acts, Local, happens_before}
 use Rattle.er_order.specs.Clocks.{Epoch, OfThread, clocks_at, own_count}
-use Rattle.er_order.specs.Races.{Order, is_apart, is_race, had_race, is_reported, order_reply, order_answer, last_write, past_write, latest_from, latest_reads}
-use Rattle.er_order.specs.Following.{Kept, Seen, fresh, epoch_of, write_epoch, kept, kept_at, is_unordered, write_is_unordered, races_with, reports_at, seen_by, kept_by, kept_moved, kept_after, access_answered}
+use Rattle.er_order.specs.Races.{Order, is_apart, is_race, had_race, is_reported, last_write, past_write, latest_from, latest_reads}
+use Rattle.er_order.specs.Following.{Seen, fresh, epoch_of, write_epoch, kept, is_unordered, write_is_unordered, races_with, seen_by, kept_by, kept_moved}
 use Rattle.er_order.proofs.Order.{happens_before-chain}
 use Rattle.er_order.proofs.Searches.{greatest-Some, greatest-none}
-use Rattle.er_order.proofs.StepLemmas.{Agree, agree-steps, decided}
+use Rattle.er_order.proofs.StepLemmas.{Agree, decided}
 use Rattle.er_order.proofs.RaceLemmas.{not-reused, latest-in, latest-empty, race-finds}
 
 pub or_none : (b : Bool) → (b || false) ≡ b
@@ -40,10 +35,6 @@ and_nots false b = refl
 and_false : (b : Bool) → (b && false) ≡ false
 and_false true = refl
 and_false false = refl
-
-and_true : (b : Bool) → (b && true) ≡ b
-and_true true = refl
-and_true false = refl
 
 every-not : (n : ℕ) (p : ℕ → Bool) → every_below n (λ j. not (p j)) ≡ not (some_below n p)
 unfolding every_below some_below
@@ -202,14 +193,6 @@ module _ (acts : Acts) (r : Reading) (agree : Agree acts r) (w k : ℕ) where
     next_had true had = rw (had-step (happens_before acts) r w k stays, had) refl
     next_had false none = rw none (next_seen (is_race (happens_before acts) r w k) none refl)
 
-    report_had : (b : Bool) → had_race (happens_before acts) r w k ≡ b → is_reported (happens_before acts) r w k ≡ reports_at clock (kept acts r w k) kind
-    unfolding kept
-    report_had true had = rw (reported-had (happens_before acts) r w k stays, had) (and_false (is_race (happens_before acts) r w k))
-    report_had false none = rw (reported-had (happens_before acts) r w k stays, none) (and_true (is_race (happens_before acts) r w k) ∙ race-clock none)
-
-    pub report-kept : is_reported (happens_before acts) r w k ≡ reports_at clock (kept acts r w k) kind
-    report-kept = report_had (had_race (happens_before acts) r w k) refl
-
     pub access-kept : kept acts r w (suc k) ≡ kept_by clock (kept acts r w k) t kind
     access-kept = next_had (had_race (happens_before acts) r w k) refl
 
@@ -251,72 +234,6 @@ kept-none acts r w = refl
 
 -- a list of steps
 module _ (steps : List Step) (k : ℕ) (s : Step) (is : slice_get steps k ≡ Some s) where
-  -- a clock is asked for only where the step is an access
-  kept_event : (clock other : ℕ → ℕ) (before : Kept) (w : ℕ) (h : Holdings) (e : Event) → (thread_of (marked h s.thread e) ≡ s.thread → clock ≡ other) →
-      kept_moved clock before w (marked h s.thread e) ≡ kept_moved other before w (marked h s.thread e)
-  unfolding thread_of
-  kept_event clock other before w h (Access kind word site) same = kept_access (nat_lt 0 h.depth) same
-    where
-      kept_access : (b : Bool) → (thread_of (cond b Nothing (Counted s.thread kind word (locks_for h kind))) ≡ s.thread → clock ≡ other) →
-          kept_moved clock before w (cond b Nothing (Counted s.thread kind word (locks_for h kind))) ≡ kept_moved other before w (cond b Nothing (Counted s.thread kind word (locks_for h kind)))
-      kept_access true same = refl
-      kept_access false same = rw (same refl) refl
-  kept_event clock other before w h (Acquire l m) same = refl
-  kept_event clock other before w h (Release l m) same = refl
-  kept_event clock other before w h (Reuse range) same = refl
-  kept_event clock other before w h IgnoreOn same = refl
-  kept_event clock other before w h IgnoreOff same = refl
-  kept_event clock other before w h (Show word) same = refl
-  kept_event clock other before w h (Level n) same = refl
-  kept_event clock other before w h (Sync sync) same = refl
-
   -- its place in the reading
   pub mark-step : reading_of steps k ≡ marked (holdings_at steps s.thread k) s.thread s.event
   mark-step = reading-step steps k s is
-
-  pub kept-step : (w : ℕ) → kept_at steps w (suc k) ≡ kept_after (holdings_at steps s.thread k) (clocks_at (acts_of steps) k (OfThread s.thread)) (kept_at steps w k) w s
-  kept-step w =
-      kept-follows (acts_of steps) (reading_of steps) (agree-steps steps) w k
-      ∙ rw mark-step
-      (kept_event (clocks_at (acts_of steps) k (OfThread (thread_of (marked (holdings_at steps s.thread k) s.thread s.event)))) (clocks_at (acts_of steps) k (OfThread s.thread)) (kept_at steps w k) w (holdings_at steps s.thread k) s.event
-      (λ same. ap (λ t. clocks_at (acts_of steps) k (OfThread t)) same))
-
-  replied_access : (w site : ℕ) (kind : Kind) (b : Bool) → nat_lt 0 (depth (accepted steps k) s.thread) ≡ b →
-      reading_of steps k ≡ cond b Nothing (Counted s.thread kind w (locks_for (holdings_at steps s.thread k) kind)) →
-      cond b Ignored (cond (is_reported (happens_before (acts_of steps)) (reading_of steps) w k) Race Quiet) ≡
-      cond b Ignored (cond (reports_at (clocks_at (acts_of steps) k (OfThread s.thread)) (kept_at steps w k) kind) Race Quiet)
-  replied_access w site kind true ignores at = refl
-  replied_access w site kind false heeds at =
-      rw (report-kept (acts_of steps) (reading_of steps) (agree-steps steps) w k s.thread kind (locks_for (holdings_at steps s.thread k) kind) at) refl
-
-  replied_event : (w site : ℕ) (kind : Kind) → reading_of steps k ≡ marked (holdings_at steps s.thread k) s.thread (Access kind w site) →
-      order_reply steps k s.thread (Access kind w site) ≡ cond (nat_lt 0 (depth (accepted steps k) s.thread)) Ignored (cond (reports_at (clocks_at (acts_of steps) k (OfThread s.thread)) (kept_at steps w k) kind) Race Quiet)
-  unfolding order_reply holdings
-  replied_event w site kind at = replied_access w site kind (nat_lt 0 (depth (accepted steps k) s.thread)) refl at
-
-  pub answer-access : (w site : ℕ) (kind : Kind) → s.event ≡ Access kind w site →
-      order_answer steps k ≡ access_answered (holdings_at steps s.thread k) (clocks_at (acts_of steps) k (OfThread s.thread)) (kept_at steps w k) kind s
-  unfolding order_answer holdings
-  answer-access w site kind event =
-      rw is (rw (refusal_at steps k s.thread s.event)
-      (ap (answer_unless (refused_by (holdings_at steps s.thread k) s.event))
-      (ap (order_reply steps k s.thread) event ∙ replied_event w site kind (mark-step ∙ ap (λ e. marked (holdings_at steps s.thread k) s.thread e) event))))
-
-  other_event : (t : ℕ) (e : Event) → ((w site : ℕ) (kind : Kind) → e ≡ Access kind w site → ⊥) → ((range : PageRange) → e ≡ Reuse range → ⊥) → order_reply steps k t e ≡ Done
-  unfolding order_reply
-  other_event t (Access kind w site) never never_reused = absurd (never w site kind refl)
-  other_event t (Acquire l m) never never_reused = refl
-  other_event t (Release l m) never never_reused = refl
-  other_event t (Reuse range) never never_reused = absurd (never_reused range refl)
-  other_event t IgnoreOn never never_reused = refl
-  other_event t IgnoreOff never never_reused = refl
-  other_event t (Show w) never never_reused = refl
-  other_event t (Level n) never never_reused = refl
-  other_event t (Sync sync) never never_reused = refl
-
-  pub answer-other : ((w site : ℕ) (kind : Kind) → s.event ≡ Access kind w site → ⊥) → ((range : PageRange) → s.event ≡ Reuse range → ⊥) →
-      order_answer steps k ≡ answer_unless (refused_by (holdings_at steps s.thread k) s.event) Done
-  unfolding order_answer holdings
-  answer-other never never_reused =
-      rw is (rw (refusal_at steps k s.thread s.event)
-      (ap (answer_unless (refused_by (holdings_at steps s.thread k) s.event)) (other_event s.thread s.event never never_reused)))

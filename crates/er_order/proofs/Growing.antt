@@ -1,47 +1,23 @@
 -- A list grows by a step, and the latest reads are of distinct threads.
-use Rattle.std.proofs.Common.{◌≡◌, ℕ, zero, suc, ◌<◌, ◌≤◌, Bool, true, false, ◌&&◌, not, cond, List, [], ◌∷◌, ◌++◌, filter, length, refl, ap, sym, ◌∙◌, arith, ⊎_elim, inl, inr, ◌⊎◌}
+use Rattle.std.proofs.Common.{◌≡◌, ℕ, zero, suc, ◌<◌, Bool, true, false, ◌&&◌, not, cond, List, [], ◌∷◌, ◌++◌, filter, length, refl, ap, sym, ◌∙◌, arith, ⊎_elim, inl, inr, ◌⊎◌}
 use Rattle.std.proofs.lemmas.Bool.{and_parts, both_ways, not-true}
 use Rattle.er_event.specs.Lockset.{has}
 use Rattle.er_event.proofs.LocksetLemmas.{has-filtered}
 use Rattle.er_event.specs.declared.steps.Event.TheVariants.{Access}
 use Rattle.er_event.specs.declared.steps.Kind.{Kind}
 use Rattle.er_model.specs.Words.{Reading, writes, counted_from}
-use Rattle.er_event.proofs.Lists.{get_front, get_last}
 use Rattle.er_event.specs.declared.steps.Step.{Step}
-use Rattle.er_model.specs.Answers.{reading_of}
 use Rattle.er_model.specs.Holdings.{holdings_at}
 use Rattle.er_order.specs.Order.{acts_of}
-use Rattle.er_order.specs.Clocks.{Keeper, OfThread, clocks_after, clocks_at}
-use Rattle.er_order.specs.Races.{Order, order_answer, latest_from}
-use Rattle.er_order.specs.Following.{act_by, kept_at, kept_after, access_answered}
+use Rattle.er_order.specs.Clocks.{Keeper, clocks_after, clocks_at}
+use Rattle.er_order.specs.Races.{Order, latest_from}
+use Rattle.er_order.specs.Following.{act_by}
 use Rattle.er_order.proofs.Order.{next-cases}
 use Rattle.er_order.proofs.ClockSteps.{local}
-use Rattle.er_order.proofs.StepLemmas.{some-at, held-front, clocks-front, clocks-grow}
+use Rattle.er_order.proofs.StepLemmas.{clocks-grow}
 use Rattle.er_order.proofs.RaceLemmas.{latest-in}
-use Rattle.er_order.proofs.Following.{kept-none, kept-step, answer-access}
-
-module _ (steps more : List Step) where
-  pub kept-front : (w n : ℕ) → n ≤ length steps → kept_at (steps ++ more) w n ≡ kept_at steps w n
-  kept-front w zero below = kept-none (acts_of (steps ++ more)) (reading_of (steps ++ more)) w ∙ sym (kept-none (acts_of steps) (reading_of steps) w)
-  kept-front w (suc n) below =
-      let at = some-at steps n (omega arith) in
-      kept-step (steps ++ more) n at.0 (get_front steps more n (omega arith) ∙ at.1) w
-      ∙ rw (held-front steps more at.0.thread n (omega arith), clocks-front steps more n (omega arith), kept-front w n (omega arith))
-      (sym (kept-step steps n at.0 at.1 w))
 
 module _ (steps : List Step) (s : Step) where
-  pub kept-grow : (w : ℕ) → kept_at (steps ++ s ∷ []) w (suc (length steps)) ≡
-      kept_after (holdings_at steps s.thread (length steps)) (clocks_at (acts_of steps) (length steps) (OfThread s.thread)) (kept_at steps w (length steps)) w s
-  kept-grow w =
-      kept-step (steps ++ s ∷ []) (length steps) s (get_last steps s) w
-      ∙ rw (clocks-front steps (s ∷ []) (length steps) (omega arith), held-front steps (s ∷ []) s.thread (length steps) (omega arith), kept-front steps (s ∷ []) w (length steps) (omega arith)) refl
-
-  pub answer-grow : (w site : ℕ) (kind : Kind) → s.event ≡ Access kind w site → order_answer (steps ++ s ∷ []) (length steps) ≡
-      access_answered (holdings_at steps s.thread (length steps)) (clocks_at (acts_of steps) (length steps) (OfThread s.thread)) (kept_at steps w (length steps)) kind s
-  answer-grow w site kind event =
-      answer-access (steps ++ s ∷ []) (length steps) s (get_last steps s) w site kind event
-      ∙ rw (clocks-front steps (s ∷ []) (length steps) (omega arith), held-front steps (s ∷ []) s.thread (length steps) (omega arith), kept-front steps (s ∷ []) w (length steps) (omega arith)) refl
-
   -- an access moves no clock
   pub clocks-access : (w site : ℕ) (kind : Kind) → s.event ≡ Access kind w site → (c : Keeper) (u : ℕ) →
       clocks_at (acts_of (steps ++ s ∷ [])) (suc (length steps)) c u ≡ clocks_at (acts_of steps) (length steps) c u

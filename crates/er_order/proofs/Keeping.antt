@@ -1,5 +1,5 @@
 -- Reads that are alike go on to such reads.
-use Rattle.std.proofs.Common.{◌≡◌, ◌∙◌, ℕ, suc, ◌-◌, ◌≤◌, Bool, true, false, ◌||◌, not, cond, List, [], ◌∷◌, ◌++◌, filter, length, is_some, Some, refl, sym, ap, subst, append_assoc, arith}
+use Rattle.std.proofs.Common.{◌≡◌, ℕ, suc, ◌-◌, ◌≤◌, Bool, true, false, ◌||◌, not, cond, List, [], ◌∷◌, ◌++◌, filter, length, is_some, Some, refl, sym, ap, subst, append_assoc, arith}
 use Rattle.std.proofs.lemmas.Bool.{le-leb, leb-true}
 use Rattle.std.specs.List.{list_any, find}
 use Rattle.er_event.proofs.Lists.{length_push}
@@ -7,7 +7,7 @@ use Rattle.er_event.specs.declared.steps.Step.{Step}
 use Rattle.er_order.specs.Order.{acts_of}
 use Rattle.er_order.specs.Clocks.{Epoch, OfThread, clocks_at, own_count, covers}
 use Rattle.er_order.specs.Following.{is_unordered}
-use Rattle.er_order.specs.Keeping.{first_apart, AreAlike, IsNoted}
+use Rattle.er_order.specs.Keeping.{first_apart, IsNoted}
 use Rattle.er_order.proofs.ClockFlows.{behind, behind-sum, knows_all}
 use Rattle.er_order.proofs.StepLemmas.{clocks-front}
 
@@ -59,17 +59,6 @@ module _ {E : Type 0} (epoch : E → Epoch) where
     noted = λ later knows. behind-read later x (filter (λ y. is_unordered clock (epoch y)) before) before (λ covered. drop_covered clock later (knows covered) before);
   }
 
-  pub alike-itself : (steps : List Step) (reads : List E) → AreAlike epoch steps reads reads
-  alike-itself steps reads = record { alike = λ more n t past. refl }
-
-  -- by the clock of a thread at the end of the list
-  pub alike-here : (steps : List Step) (reads others : List E) (t : ℕ) → AreAlike epoch steps reads others
-      → first_apart epoch (clocks_at (acts_of steps) (length steps) (OfThread t)) reads ≡ first_apart epoch (clocks_at (acts_of steps) (length steps) (OfThread t)) others
-  alike-here steps reads others t like =
-      subst (λ (c : ℕ → ℕ). first_apart epoch c reads ≡ first_apart epoch c others)
-      (ap (λ clocks. clocks (OfThread t)) (clocks-front steps [] (length steps) (omega arith)))
-      (like.alike [] (length steps) t (omega arith))
-
 module _ (steps : List Step) (t : ℕ) where
   abbrev clock : ℕ → ℕ
   clock = clocks_at (acts_of steps) (length steps) (OfThread t)
@@ -95,25 +84,3 @@ module _ (steps : List Step) (s : Step) where
       (ap (λ clocks. clocks (OfThread t)) front)
       (knows_all (acts_of (steps ++ (s ∷ more))) (length steps) t (n - length steps) (OfThread u))))
       low v
-
-  module _ {E : Type 0} (epoch : E → Epoch) where
-    pub alike-grow : (reads others : List E) → AreAlike epoch steps reads others → AreAlike epoch grown reads others
-    alike-grow reads others like = record {
-      alike = λ more n t past.
-          subst (λ (all : List Step). first_apart epoch (clocks_at (acts_of all) n (OfThread t)) reads ≡ first_apart epoch (clocks_at (acts_of all) n (OfThread t)) others)
-          (sym (append_assoc steps (s ∷ []) more))
-          (like.alike (s ∷ more) n t (omega (arith, longer, past)));
-    }
-
-    -- one more read
-    pub alike-noted : (t : ℕ) (x : E) → epoch x ≡ (t, clock steps t t) → (stored reads after : List E) → AreAlike epoch steps stored reads → IsNoted epoch (clock steps t) stored x after
-        → AreAlike epoch grown after (x ∷ filter (λ y. is_unordered (clock steps t) (epoch y)) reads)
-    alike-noted t x own stored reads after like noted = record {
-      alike = λ more n u past.
-          let later : ℕ → ℕ = clocks_at (acts_of (grown ++ more)) n (OfThread u) in
-          let knows : covers later (epoch x) ≡ true → (v : ℕ) → clock steps t v ≤ later v =
-          λ covered v. own_then t more n u past (leb-true (clock steps t t) (later t) (subst (λ (e : Epoch). covers later e ≡ true) own covered)) v in
-          noted.noted later knows
-          ∙ behind-read epoch later x stored reads (λ covered. (alike-grow stored reads like).alike more n u past)
-          ∙ sym ((noted-filter epoch (clock steps t) reads x).noted later knows);
-    }

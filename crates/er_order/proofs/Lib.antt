@@ -13,10 +13,8 @@ pub mod ClockFlows
 pub mod Keeping
 pub mod Locality
 pub mod ClockSteps
-pub mod Rivals
 pub mod ReasonLemmas
 pub mod ReasonsGrow
 pub mod Reuses
-pub mod ReusesGrow
 pub mod ByBytes
 pub mod Parts

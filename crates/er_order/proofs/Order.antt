@@ -124,10 +124,6 @@ module _ (acts : Acts) (j : ℕ) where
   reached-or m e =
       ⊎_elim (λ low. inr (happens_before-from m low e)) (λ same. inl (rw same)) (below_or_at j m (let low = reached-from m e in omega arith))
 
-  pub or-reached : (m : ℕ) → (m ≡ j) ⊎ (happens_before acts j m ≡ true) → has (reached acts j (suc m)) m ≡ true
-  or-reached m (inl same) = rw same reached-self
-  or-reached m (inr later) = (happens_before-parts m later).1
-
 -- the laws
 pub happens_before-leads : (acts : Acts) (j k : ℕ) → j < k → leads_from (acts j) (acts k) ≡ true → happens_before acts j k ≡ true
 happens_before-leads acts j k below led = happens_before-from acts j k below (reached-next acts j j k (reached-self acts j) below led)

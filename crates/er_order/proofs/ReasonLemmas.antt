@@ -1,7 +1,6 @@
 -- A reported race is unordered with the access that the search finds: another thread's access of the same word.
 use Rattle.std.proofs.Common.{◌≡◌, ℕ, ◌<◌, ◌≤◌, Bool, true, false, ◌&&◌, ◌||◌, ◌==◌, not, cond, nat_le, is_some, suc, List, slice_get, Option, Some, None, Ok, refl, ap, sym, ◌∙◌, ⊎_elim, inl, inr, ◌⊎◌}
 use Rattle.std.proofs.lemmas.Bool.{eq-eqb, eqb-true, or_left, and_parts, and_from, both_ways, not-true, not_from_false}
-use Rattle.std.specs.List.{find}
 use Rattle.er_event.specs.declared.addresses.PageRange.{PageRange}
 use Rattle.er_event.specs.declared.refusals.Refusal.{Refusal}
 use Rattle.er_event.specs.declared.steps.Event.{Event}
@@ -19,13 +18,11 @@ use Rattle.er_model.proofs.Search.{least_below-Some}
 use Rattle.er_model.proofs.Words.{era-kept}
 use Rattle.er_order.specs.Order.{Effect, Local, sync_of, act_unless, act_after, acts_of, happens_before, leads}
 use Rattle.er_order.specs.Races.{Order, conflicts, had_race, is_race, is_reported, last_use, is_in_use, word_in_use, reuse_reply, order_answer, order_answer_to, order_reply}
-use Rattle.er_order.specs.Reasons.{last_unordered, word_raced_by, word_raced_in, word_raced, use_of, unordered_by, unordered_in, unordered_with, rivals}
-use Rattle.er_order.proofs.Order.{happens_before-leads, happens_before-chain}
+use Rattle.er_order.specs.Reasons.{last_unordered, word_raced_by, word_raced_in, word_raced, use_of, unordered_by, unordered_in, unordered_with}
+use Rattle.er_order.proofs.Order.{happens_before-leads}
 use Rattle.er_order.proofs.Searches.{greatest-Some, greatest-last}
 use Rattle.er_order.proofs.StepLemmas.{agree-steps}
 use Rattle.er_order.proofs.RaceLemmas.{greatest-there, not-reused, race-found}
-use Rattle.er_order.proofs.Following.{reported-had}
-use Rattle.er_order.proofs.Rivals.{reason-finds}
 
 -- which access is answered with a race
 abbrev pub IsReportedAt : List Step → ℕ → Type 0
@@ -82,16 +79,6 @@ module _ (steps : List Step) (k : ℕ) where
   unfolding order_answer
   race-cases race = race_at (slice_get steps k) refl race
 
-  reuse_word : (w : ℕ) → IsReusedAt steps k → word_of (slice_get steps k) ≡ Some w → ⊥
-  reuse_word w told word = let clash = sym (ap word_of told.3 ∙ ap word_in told.4) ∙ word in cc
-
-  pub race-reported : (w : ℕ) → word_of (slice_get steps k) ≡ Some w → order_answer steps k ≡ Ok Race → is_reported (happens_before (acts_of steps)) (reading_of steps) w k ≡ true
-  race-reported w word race =
-      ⊎_elim
-      (λ told. let both : Some told.0 ≡ Some w = sym told.1 ∙ word in let same : told.0 ≡ w = cc in rw (← same) told.2)
-      (λ reused. absurd (reuse_word w reused word))
-      (race-cases race)
-
 -- what the search finds, by its parts
 module _ (order : Order) (r : Reading) (w k : ℕ) where
   pub unordered-parts : (j : ℕ) → last_unordered order r w k ≡ Some j → (j < k) × (conflicts r w j k ≡ true) × (order j k ≡ false)
@@ -128,20 +115,6 @@ module _ (order : Order) (r : Reading) (w k : ℕ) where
   unfolding is_reported
   reported-there told =
       race_there (and_parts (is_race order r w k) (every_below k (λ j. not (counted_from r w (era r w (suc k)) j && is_race order r w j))) told).0
-
-  -- at a race that is reported the era had none
-  pub reported-first : is_reported order r w k ≡ true → (counts (r k) w ≡ true) × (had_race order r w k ≡ false)
-  reported-first told = (counted, not-true (had_race order r w k) parts.1)
-    where
-      counted : counts (r k) w ≡ true
-      counted = let there = reported-there told in (conflict-counts there.0 (unordered-parts there.0 there.1).1).1
-
-      parts : (is_race order r w k ≡ true) × (not (had_race order r w k) ≡ true)
-      parts = and_parts (is_race order r w k) (not (had_race order r w k)) (sym (reported-had order r w k (not-reused (r k) w counted)) ∙ told)
-
-  pub reported-finds : ((i j k : ℕ) → order i j ≡ true → order j k ≡ true → order i k ≡ true) → is_reported order r w k ≡ true →
-      last_unordered order r w k ≡ find (λ j. not (order j k)) (rivals order r w k)
-  reported-finds chain told = let first = reported-first told in reason-finds order r w chain k first.0 first.1
 
 module _ (steps : List Step) (w : ℕ) where
   -- a counted position is an access of the word
@@ -247,11 +220,6 @@ module _ (steps : List Step) (k : ℕ) where
       let there = used_there reused.0 reused.1 reused.2 reused.3 reused.4 reused.5 in
       (there.0, use_at reused.0 reused.1 reused.2 reused.3 reused.4 reused.5 ∙ there.1))
       (race-cases steps k race)
-
-  pub race-finds-it : (w : ℕ) → order_answer steps k ≡ Ok Race → word_of (slice_get steps k) ≡ Some w →
-      unordered_with steps k ≡ find (λ j. not (hb j k)) (rivals hb (reading_of steps) w k)
-  race-finds-it w race word =
-      unordered_at w word ∙ reported-finds hb (reading_of steps) w k (happens_before-chain (acts_of steps)) (race-reported steps k w word race)
 
   -- the word and the access that was found
   abbrev IsUnordered : ℕ → Type 0

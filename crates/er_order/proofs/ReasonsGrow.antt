@@ -14,7 +14,7 @@ use Rattle.er_model.proofs.Search.{some_below-agree, least_below-agree}
 use Rattle.er_model.proofs.Prefixes.{reading-front}
 use Rattle.er_order.specs.Order.{Acts, acts_of, leads_from, with_next, reached, happens_before}
 use Rattle.er_order.specs.Races.{Order, conflicts, is_race, had_race, last_use, is_in_use, word_in_use}
-use Rattle.er_order.specs.Reasons.{last_unordered, word_raced_by, word_raced_in, word_raced, use_of, unordered_by, unordered_in, unordered_with}
+use Rattle.er_order.specs.Reasons.{last_unordered, use_of, unordered_by, unordered_in, unordered_with}
 use Rattle.er_order.proofs.Order.{reached-below}
 use Rattle.er_order.proofs.Searches.{greatest-agree}
 use Rattle.er_order.proofs.StepLemmas.{acts-front}
@@ -128,22 +128,3 @@ module _ (steps more : List Step) (k : ℕ) (below : k < length steps) where
   pub unordered-stays : unordered_with (steps ++ more) k ≡ unordered_with steps k
   unfolding unordered_with
   unordered-stays = ap (unordered_in (steps ++ more) k) (get_front steps more k below) ∙ same_step (slice_get steps k)
-
-  raced_event : (e : Event) → word_raced_by (steps ++ more) k e ≡ word_raced_by steps k e
-  raced_event (Access kind w site) = refl
-  raced_event (Reuse range) = same-in-use range
-  raced_event (Acquire l m) = refl
-  raced_event (Release l m) = refl
-  raced_event IgnoreOn = refl
-  raced_event IgnoreOff = refl
-  raced_event (Show w) = refl
-  raced_event (Level n) = refl
-  raced_event (Sync sync) = refl
-
-  raced_step : (o : Option Step) → word_raced_in (steps ++ more) k o ≡ word_raced_in steps k o
-  raced_step None = refl
-  raced_step (Some s) = raced_event s.event
-
-  pub word-stays : word_raced (steps ++ more) k ≡ word_raced steps k
-  unfolding word_raced
-  word-stays = ap (word_raced_in (steps ++ more) k) (get_front steps more k below) ∙ raced_step (slice_get steps k)

@@ -58,18 +58,6 @@ unfolding greatest_below
 greatest-last zero i j p e below here = absurd (omega arith)
 greatest-last (suc n) i j p e below here = found_last n i j p (p n) refl e below here (λ rest low. greatest-last n i j p rest low here)
 
--- nothing passes where nothing is found
-none_passes : (n i : ℕ) (p : ℕ → Bool) (b : Bool) → p n ≡ b → greatest_below (suc n) p ≡ None → i < suc n → (greatest_below n p ≡ None → i < n → p i ≡ false) → p i ≡ false
-unfolding greatest_below
-none_passes n i p true passes e below rest = let is : Some n ≡ None = rw passes at e in cc
-none_passes n i p false fails e below rest =
-    ⊎_elim (λ low. rest (rw fails at e) low) (λ same. rw same fails) (below_or_at i n below)
-
-pub greatest-None : (n i : ℕ) (p : ℕ → Bool) → greatest_below n p ≡ None → i < n → p i ≡ false
-unfolding greatest_below
-greatest-None zero i p e below = absurd (omega arith)
-greatest-None (suc n) i p e below = none_passes n i p (p n) refl e below (λ rest low. greatest-None n i p rest low)
-
 -- tests that agree below the point find the same
 pub greatest-agree : (n : ℕ) (p q : ℕ → Bool) → ((k : ℕ) → k < n → p k ≡ q k) → greatest_below n p ≡ greatest_below n q
 unfolding greatest_below

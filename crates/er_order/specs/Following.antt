@@ -1,21 +1,15 @@
 -- What is kept of a word for happens-before, and what an access makes of it.
-use Rattle.std.specs.Prelude.{ℕ, suc, nat_lt, ◌==◌, not, Bool, false, ◌&&◌, ◌||◌, cond, List, [], ◌∷◌, filter, map, Option, Some, None, Result}
+use Rattle.std.specs.Prelude.{ℕ, ◌==◌, not, Bool, false, ◌&&◌, ◌||◌, cond, List, [], ◌∷◌, filter, map, Option, Some, None}
 use Rattle.std.specs.List.{list_any}
 use Rattle.er_event.specs.declared.steps.Kind.{Kind}
 use Rattle.er_event.specs.declared.steps.Kind.TheVariants.{Read as reading, Write as writing}
-use Rattle.er_event.specs.declared.refusals.Refusal.{Refusal}
-use Rattle.er_event.specs.declared.steps.Reply.{Reply}
-use Rattle.er_event.specs.declared.addresses.PageRange.{PageRange}
-use Rattle.er_event.specs.declared.steps.Reply.TheVariants.{Done, Quiet, Race, Ignored}
-use Rattle.er_model.specs.Search.{least_below}
 use Rattle.er_model.specs.Words.{Mark, Counted, Reused, Shown, Nothing, Reading, thread_of, is_writing, is_within}
 use Rattle.er_model.specs.Holdings.{Holdings, refused_by}
-use Rattle.er_model.specs.Following.{marked}
-use Rattle.er_model.specs.Answers.{answer_unless, reading_of}
+use Rattle.er_model.specs.Answers.{reading_of}
 use Rattle.er_event.specs.declared.steps.Step.{Step}
 use Rattle.er_order.specs.Order.{Act, Acts, act_unless, acts_of, happens_before}
 use Rattle.er_order.specs.Clocks.{Epoch, own_count, covers}
-use Rattle.er_order.specs.Races.{had_race, last_write, latest_reads, reuse_reply}
+use Rattle.er_order.specs.Races.{had_race, last_write, latest_reads}
 
 -- what the step of a thread with these holdings does to the order
 abbrev pub act_by : Holdings → Step → Option Act
@@ -60,11 +54,6 @@ write_is_unordered clock (Some epoch) = is_unordered clock epoch
 abbrev pub races_with : (ℕ → ℕ) → Option Epoch → List Epoch → Kind → Bool
 races_with clock write reads kind = write_is_unordered clock write || (is_writing kind && list_any (is_unordered clock) reads)
 
--- the access is reported
-abbrev pub reports_at : (ℕ → ℕ) → Kept → Kind → Bool
-reports_at clock Reported kind = false
-reports_at clock (Seen write reads) kind = races_with clock write reads kind
-
 -- the access's epoch in the place of those that the clock covers
 abbrev pub seen_by : (ℕ → ℕ) → Option Epoch → List Epoch → ℕ → Kind → Kept
 seen_by clock write reads t reading = Seen write ((t, clock t) ∷ filter (is_unordered clock) reads)
@@ -81,19 +70,3 @@ kept_moved clock before w (Counted t kind word cover) = cond (word == w) (kept_b
 kept_moved clock before w (Reused range) = cond (is_within w range) fresh before
 kept_moved clock before w (Shown word) = before
 kept_moved clock before w Nothing = before
-
--- after a step by a thread with these holdings and this clock
-abbrev pub kept_after : Holdings → (ℕ → ℕ) → Kept → ℕ → Step → Kept
-kept_after h clock before w step = kept_moved clock before w (marked h step.thread step.event)
-
--- the answer to an access that finds these
-abbrev pub access_answered : Holdings → (ℕ → ℕ) → Kept → Kind → Step → Result Reply Refusal
-access_answered h clock before kind step = answer_unless (refused_by h step.event) (cond (nat_lt 0 h.depth) Ignored (cond (reports_at clock before kind) Race Quiet))
-
--- the lowest word of the range of which a write, by a thread whose clock this is, would be reported
-abbrev pub word_reported : (ℕ → ℕ) → (ℕ → Kept) → PageRange → Option ℕ
-word_reported clock before range = least_below (suc range.hi) (λ w. is_within w range && reports_at clock (before w) writing)
-
--- the answer to a reuse that finds these
-abbrev pub reuse_answered : Holdings → (ℕ → ℕ) → (ℕ → Kept) → PageRange → Step → Result Reply Refusal
-reuse_answered h clock before range step = answer_unless (refused_by h step.event) (cond (nat_lt 0 h.depth) Done (reuse_reply (word_reported clock before range)))

@@ -1,19 +1,12 @@
 -- What a store may keep of a word: other reads than the latest, if from then on each clock finds the same among those as among these.
-use Rattle.std.specs.Prelude.{ℕ, ◌≡◌, ◌≤◌, true, List, ◌∷◌, ◌++◌, length, Option}
+use Rattle.std.specs.Prelude.{ℕ, ◌≡◌, ◌≤◌, true, List, ◌∷◌, Option}
 use Rattle.std.specs.List.{find}
-use Rattle.er_event.specs.declared.steps.Step.{Step}
-use Rattle.er_order.specs.Order.{acts_of}
-use Rattle.er_order.specs.Clocks.{Epoch, OfThread, clocks_at, covers}
+use Rattle.er_order.specs.Clocks.{Epoch, covers}
 use Rattle.er_order.specs.Following.{is_unordered}
 
 -- the first of these that the clock doesn't cover, where each has an epoch
 abbrev pub first_apart : {E : Type 0} → (E → Epoch) → (ℕ → ℕ) → List E → Option E
 first_apart epoch clock reads = find (λ read. is_unordered clock (epoch read)) reads
-
--- after the list and after any longer one, each thread's clock finds the same among these as among those
-pub record AreAlike {E : Type 0} (epoch : E → Epoch) (steps : List Step) (reads others : List E) : Type 0 where
-  pub alike : (more : List Step) (n t : ℕ) → length steps ≤ n
-      → first_apart epoch (clocks_at (acts_of (steps ++ more)) n (OfThread t)) reads ≡ first_apart epoch (clocks_at (acts_of (steps ++ more)) n (OfThread t)) others
 
 -- what may be kept of reads after one more: a clock that has all of the reader's clock, if it covers the read, finds the same as if all were there
 pub record IsNoted {E : Type 0} (epoch : E → Epoch) (clock : ℕ → ℕ) (before : List E) (read : E) (after : List E) : Type 0 where

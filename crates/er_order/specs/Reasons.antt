@@ -1,14 +1,13 @@
 -- Why an access or a reuse is a race by happens-before: the last earlier access that it is unordered with.
-use Rattle.std.specs.Prelude.{ℕ, not, ◌&&◌, cond, List, [], ◌++◌, slice_get, Option, Some, None}
-use Rattle.std.specs.Option.{option_to_list}
+use Rattle.std.specs.Prelude.{ℕ, not, ◌&&◌, List, slice_get, Option, Some, None}
 use Rattle.er_event.specs.declared.steps.Event.{Event}
 use Rattle.er_event.specs.declared.steps.Event.TheVariants.{Access, Reuse}
 use Rattle.er_event.specs.declared.steps.Step.{Step}
 use Rattle.er_model.specs.Search.{greatest_below}
-use Rattle.er_model.specs.Words.{Reading, writes}
+use Rattle.er_model.specs.Words.{Reading}
 use Rattle.er_model.specs.Answers.{reading_of}
 use Rattle.er_order.specs.Order.{acts_of, happens_before}
-use Rattle.er_order.specs.Races.{Order, conflicts, last_use, word_in_use, last_write, latest_reads}
+use Rattle.er_order.specs.Races.{Order, conflicts, last_use, word_in_use}
 
 -- the last earlier access that conflicts with position k and doesn't come before it in order
 unfoldable pub last_unordered : Order → Reading → ℕ → ℕ → Option ℕ
@@ -46,11 +45,3 @@ unordered_in steps k (Some step) = unordered_by steps k step.event
 -- the same of the step at position k
 unfoldable pub unordered_with : List Step → ℕ → Option ℕ
 unordered_with steps k = unordered_in steps k (slice_get steps k)
-
--- of the era's last write and the latest reads since, those that conflict with position k, the last one first
-unfoldable pub rivals : Order → Reading → ℕ → ℕ → List ℕ
-rivals order r w k = cond (writes (r k)) (latest_reads order r w k) [] ++ option_to_list (last_write r w k)
-
--- the latest reads since the era's last write and that write, the last one first: what a reuse at position k is compared with
-unfoldable pub users : Order → Reading → ℕ → ℕ → List ℕ
-users order r w k = latest_reads order r w k ++ option_to_list (last_write r w k)

@@ -1,5 +1,5 @@
 //! The laws of accesses of some bytes of their words: each function does nothing, and its contract is proved of the definitions in `specs/`.
-ghost use Rattle.std.specs.Prelude.{◌≡◌, ◌<◌, ◌≤◌, ◌++◌, ◌||◌, ◌&&◌, not, filter, find, is_some, length, Option, [], ◌∷◌, ℕ, suc, Bool, List, false, IsTrue, IsFalse};
+ghost use Rattle.std.specs.Prelude.{◌≡◌, ◌<◌, ◌≤◌, ◌++◌, ◌||◌, ◌&&◌, not, filter, find, is_some, length, [], ◌∷◌, ℕ, suc, List, false, IsTrue, IsFalse};
 ghost use Rattle.er_model.specs.Words.{Reading, counts, writes, reuses};
 ghost use Rattle.er_event.specs.declared.steps.Step.{Step};
 ghost use Rattle.er_order.specs.Order.{acts_of};

@@ -1,5 +1,5 @@
 //! The laws of order and of its clocks: each function does nothing, and its contract is proved of the definitions in `specs/`.
-ghost use Rattle.std.specs.Prelude.{◌≡◌, ◌<◌, ◌≤◌, ◌++◌, ◌+◌, ◌==◌, ◌&&◌, cond, max, get_or, nat_le, slice_get, length, Option, [], ◌∷◌, ℕ, suc, Bool, List, false, IsTrue};
+ghost use Rattle.std.specs.Prelude.{◌≡◌, ◌<◌, ◌≤◌, ◌++◌, ◌+◌, ◌==◌, ◌&&◌, cond, max, get_or, slice_get, length, Option, [], ◌∷◌, ℕ, suc, Bool, List, false, IsTrue};
 ghost use Rattle.er_event.specs.declared.steps.Event.TheVariants.{Access};
 ghost use Rattle.er_event.specs.declared.steps.Kind.{Kind};
 ghost use Rattle.er_event.specs.declared.steps.Mode.{Mode};

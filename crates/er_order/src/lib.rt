@@ -5,13 +5,13 @@
 //! what the vector clocks of a list are.
 //!
 //! What it promises: order is the least relation that is closed under chains (`order_is_by_chains`); vector clocks decide it
-//! (`clocks_decide_order`), and each step moves a few of them (`a_step_moves_its_clocks`); a race is found from the last write and the
-//! latest reads of a word (`races_are_found`), so that an answer follows step by step (`an_access_follows_its_word`,
-//! `an_ordered_list_grows_by_a_step`); a race is unordered with an earlier access (`a_race_is_unordered_with_an_access`), which is found
-//! among the same ones (`a_reason_is_found`); an era is reported once (`an_era_is_reported_once`); more order gives fewer races, and no
-//! order at all each race that two threads can make (`more_order_fewer_races`, `with_no_order_each_shared_write_races`); a lock that no two
-//! threads hold at once orders what it covers (`a_common_lock_orders`). Accesses of some bytes of a word race
-//! exactly if they have a byte in common (`a_race_has_a_common_byte`). Such a function does nothing: its contract is the law. The cases in `worked_races` and `worked_reasons` are computed from the definitions alone.
+//! (`clocks_decide_order`), and each step moves a few of them (`a_step_moves_its_clocks`); a race is unordered with an earlier access
+//! (`a_race_is_unordered_with_an_access`), which is found from the end of its era on (`an_era_is_searched_from_its_end`) and, once accesses of
+//! no use are gone, among those that are left (`what_is_of_no_use_may_go`); accesses of some bytes of a word race exactly if they have a byte in
+//! common (`a_race_has_a_common_byte`); an era is reported once (`an_era_is_reported_once`); more order gives fewer races, and no order at all
+//! each race that two threads can make (`more_order_fewer_races`, `with_no_order_each_shared_write_races`); a lock that no two threads hold at
+//! once orders what it covers (`a_common_lock_orders`). Such a function does nothing: its contract is the law. The cases in `worked_races` and
+//! `worked_reasons` are computed from the definitions alone.
 #![tactic(auto)]
 
 pub use bytes::{
@@ -23,11 +23,10 @@ pub use laws::{
 };
 pub use locks::a_common_lock_orders;
 pub use races::{
-    a_word_is_local, an_access_follows_its_word, an_era_is_reported_once,
-    an_ordered_list_grows_by_a_step, more_order_fewer_races, races_are_found,
-    the_latest_reads_are_apart, with_no_order_each_shared_write_races,
+    a_word_is_local, an_era_is_reported_once, more_order_fewer_races, the_latest_reads_are_apart,
+    with_no_order_each_shared_write_races,
 };
-pub use reasons::{a_race_is_unordered_with_an_access, a_reason_is_found};
+pub use reasons::a_race_is_unordered_with_an_access;
 pub use worked::{worked_races, worked_reasons};
 
 mod bytes;

@@ -1,50 +1,13 @@
 //! The laws of races by happens-before: each function does nothing, and its contract is proved of the definitions in `specs/`.
-ghost use Rattle.std.specs.Prelude.{◌≡◌, ◌<◌, ◌≤◌, ◌++◌, ◌⊎◌, length, ◌||◌, ◌&&◌, not, slice_get, Option, [], ◌∷◌, ℕ, suc, List, false, IsTrue};
-ghost use Rattle.std.specs.List.{list_any};
-ghost use Rattle.er_model.specs.Answers.{answer_unless, reading_of};
+ghost use Rattle.std.specs.Prelude.{◌≡◌, ◌<◌, ◌≤◌, ◌++◌, ◌⊎◌, ◌||◌, ◌&&◌, slice_get, Option, [], ◌∷◌, ℕ, suc, List, false, IsTrue};
+ghost use Rattle.er_model.specs.Answers.{reading_of};
 ghost use Rattle.er_model.specs.Words.{Reading, counts, thread_of, writes, era, counted_from};
 ghost use Rattle.er_event.specs.Lockset.{has};
-ghost use Rattle.er_event.specs.declared.steps.Event.TheVariants.{Access, Reuse};
 ghost use Rattle.er_event.specs.declared.steps.Step.{Step};
-ghost use Rattle.er_model.specs.Holdings.{refused_by, holdings_at};
 ghost use Rattle.er_order.specs.Order.{Act, Effect, sync_of, acts_of, happens_before};
-ghost use Rattle.er_order.specs.Clocks.{Epoch, OfThread, clocks_at};
-ghost use Rattle.er_order.specs.Races.{Order, is_apart, latest_from, last_write, latest_reads, is_race, had_race, is_reported, word_in_use, order_answer};
-ghost use Rattle.er_order.specs.Following.{reports_at, fresh, kept_at, kept_after, access_answered, word_reported, reuse_answered};
+ghost use Rattle.er_order.specs.Races.{Order, latest_from, is_race, had_race, is_reported};
+ghost use Rattle.er_order.specs.Following.{kept_at};
 ghost use Rattle.er_order.specs.Locality.{clocked_on};
-
-use er_event::{Kind, PageRange, Reply};
-
-/// While an era had no race, one more access is a race exactly if the last write doesn't come before it in order, or if it is a write and
-/// one of the latest reads since doesn't come before it.
-pub fn races_are_found()
-    ensures found { (order : Order) (r : Reading) (w k : ℕ)
-        → ((i j k : ℕ) → IsTrue (order i j) → IsTrue (order j k) → IsTrue (order i k)) → IsTrue (counts (r k) w) → had_race order r w k ≡ false
-        → is_race order r w k ≡ (is_apart order (last_write r w k) k
-        || (writes (r k) && list_any (λ j. not (order j k)) (latest_reads order r w k))) }
-{}
-
-/// The answer to an access or to a reuse, and what is kept of each word, follow from what was kept of the words, the kind of the access, and
-/// its thread's holdings and clock: a reuse is a race if a write of one of its words would be one. Each other event is done, unless its
-/// thread's holdings refuse it.
-pub fn an_access_follows_its_word()
-    ensures answer { (steps : List Step) (k w site : ℕ) (kind : Kind) (step : Step) → slice_get steps k ≡ Option.Some step
-        → step.event ≡ Access kind w site → order_answer steps k
-        ≡ access_answered (holdings_at steps step.thread k) (clocks_at (acts_of steps) k (OfThread step.thread)) (kept_at steps w k) kind step }
-    ensures other { (steps : List Step) (k : ℕ) (step : Step) → slice_get steps k ≡ Option.Some step
-        → ((w site : ℕ) (kind : Kind) → step.event ≡ Access kind w site → ⊥)
-        → ((range : PageRange) → step.event ≡ Reuse range → ⊥) → order_answer steps k
-        ≡ answer_unless (refused_by (holdings_at steps step.thread k) step.event) Reply.Done }
-    ensures reuse { (steps : List Step) (k : ℕ) (range : PageRange) (step : Step) → slice_get steps k ≡ Option.Some step
-        → step.event ≡ Reuse range → order_answer steps k
-        ≡ reuse_answered (holdings_at steps step.thread k) (clocks_at (acts_of steps) k (OfThread step.thread)) (λ w. kept_at steps w k) range step }
-    ensures in_use { (steps : List Step) (k : ℕ) (range : PageRange) (step : Step) → slice_get steps k ≡ Option.Some step
-        → step.event ≡ Reuse range → word_in_use (happens_before (acts_of steps)) (reading_of steps) k range
-        ≡ word_reported (clocks_at (acts_of steps) k (OfThread step.thread)) (λ w. kept_at steps w k) range }
-    ensures kept { (steps : List Step) (k w : ℕ) (step : Step) → slice_get steps k ≡ Option.Some step → kept_at steps w (suc k)
-        ≡ kept_after (holdings_at steps step.thread k) (clocks_at (acts_of steps) k (OfThread step.thread)) (kept_at steps w k) w step }
-    ensures begins { (steps : List Step) (w : ℕ) → kept_at steps w 0 ≡ fresh }
-{}
 
 /// If more steps are in order, no further access is a race.
 pub fn more_order_fewer_races()
@@ -80,21 +43,6 @@ pub fn with_no_order_each_shared_write_races()
         → IsTrue (counted_from (reading_of steps) w (era (reading_of steps) w n) k) → IsTrue (writes (reading_of steps i))
         → (thread_of (reading_of steps i) ≡ thread_of (reading_of steps k) → ⊥)
         → IsTrue (had_race (happens_before (acts_of steps)) (reading_of steps) w n) }
-{}
-
-/// One more step at the end of a list: the answer to an access or to a reuse, and what the step makes of each word. What came before
-/// stays.
-pub fn an_ordered_list_grows_by_a_step()
-    ensures answer { (steps : List Step) (step : Step) (w site : ℕ) (kind : Kind) → step.event ≡ Access kind w site
-        → order_answer (steps ++ step ∷ []) (length steps) ≡ access_answered (holdings_at steps step.thread (length steps))
-        (clocks_at (acts_of steps) (length steps) (OfThread step.thread)) (kept_at steps w (length steps)) kind step }
-    ensures reuse { (steps : List Step) (step : Step) (range : PageRange) → step.event ≡ Reuse range
-        → order_answer (steps ++ step ∷ []) (length steps) ≡ reuse_answered (holdings_at steps step.thread (length steps))
-        (clocks_at (acts_of steps) (length steps) (OfThread step.thread)) (λ w. kept_at steps w (length steps)) range step }
-    ensures kept { (steps : List Step) (step : Step) (w : ℕ) → kept_at (steps ++ step ∷ []) w (suc (length steps))
-        ≡ kept_after (holdings_at steps step.thread (length steps)) (clocks_at (acts_of steps) (length steps) (OfThread step.thread))
-        (kept_at steps w (length steps)) w step }
-    ensures earlier { (steps more : List Step) (w n : ℕ) → n ≤ length steps → kept_at (steps ++ more) w n ≡ kept_at steps w n }
 {}
 
 /// Of two of the latest reads neither comes before the other in order, so they are of two threads.

@@ -1,14 +1,13 @@
 //! The laws of what an unordered access or reuse is unordered with: each function does nothing, and its contract is proved of the definitions.
-ghost use Rattle.std.specs.Prelude.{◌≡◌, ◌<◌, ◌≤◌, ◌++◌, length, not, slice_get, Option, Ok, ℕ, List, false, IsTrue};
-ghost use Rattle.std.specs.List.{find};
+ghost use Rattle.std.specs.Prelude.{◌≡◌, ◌<◌, ◌≤◌, ◌++◌, length, slice_get, Option, Ok, ℕ, List, false, IsTrue};
 ghost use Rattle.er_model.specs.Answers.{reading_of};
 ghost use Rattle.er_model.specs.Explanations.{word_of};
-ghost use Rattle.er_model.specs.Words.{Reading, counts, thread_of, era, counted_from, is_within};
+ghost use Rattle.er_model.specs.Words.{thread_of, era, counted_from, is_within};
 ghost use Rattle.er_event.specs.declared.steps.Event.TheVariants.{Reuse};
 ghost use Rattle.er_event.specs.declared.steps.Step.{Step};
 ghost use Rattle.er_order.specs.Order.{acts_of, happens_before};
-ghost use Rattle.er_order.specs.Races.{Order, conflicts, had_race, order_answer};
-ghost use Rattle.er_order.specs.Reasons.{last_unordered, word_raced, unordered_with, rivals, users};
+ghost use Rattle.er_order.specs.Races.{conflicts, had_race, order_answer};
+ghost use Rattle.er_order.specs.Reasons.{word_raced, unordered_with};
 
 use er_event::{PageRange, Reply};
 
@@ -38,18 +37,4 @@ pub fn a_race_is_unordered_with_an_access()
         → slice_get steps k ≡ Option.Some step → step.event ≡ Reuse range → word_raced steps k ≡ Option.Some w → i < k
         → IsTrue (counted_from (reading_of steps) w (era (reading_of steps) w k) i) → happens_before (acts_of steps) i k ≡ false → i ≤ j }
     ensures stays { (steps more : List Step) (k : ℕ) → k < length steps → unordered_with (steps ++ more) k ≡ unordered_with steps k }
-{}
-
-/// While an era had no race, the access that one more is unordered with is found among its last write and the latest reads since. So it
-/// is at the race that is reported, and at a reuse.
-pub fn a_reason_is_found()
-    ensures found { (order : Order) (r : Reading) (w k : ℕ)
-        → ((i j k : ℕ) → IsTrue (order i j) → IsTrue (order j k) → IsTrue (order i k)) → IsTrue (counts (r k) w) → had_race order r w k ≡ false
-        → last_unordered order r w k ≡ find (λ j. not (order j k)) (rivals order r w k) }
-    ensures reported { (steps : List Step) (k w : ℕ) → order_answer steps k ≡ Ok Reply.Race → word_of (slice_get steps k) ≡ Option.Some w
-        → unordered_with steps k
-        ≡ find (λ j. not (happens_before (acts_of steps) j k)) (rivals (happens_before (acts_of steps)) (reading_of steps) w k) }
-    ensures reuse { (steps : List Step) (k w : ℕ) (step : Step) (range : PageRange) → slice_get steps k ≡ Option.Some step
-        → step.event ≡ Reuse range → word_raced steps k ≡ Option.Some w → unordered_with steps k
-        ≡ find (λ j. not (happens_before (acts_of steps) j k)) (users (happens_before (acts_of steps)) (reading_of steps) w k) }
 {}

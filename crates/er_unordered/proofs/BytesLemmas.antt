@@ -16,14 +16,14 @@ use Rattle.er_model.proofs.Search.{every_below-agree, least_below-agree, some_be
 use Rattle.er_model.specs.Answers.{answer_unless, covering, mark, reading_of}
 use Rattle.er_model.specs.Explanations.{word_in, word_of}
 use Rattle.er_model.specs.Threads.{accepted, is_ignoring, refusal}
-use Rattle.er_model.specs.Words.{Counted, Nothing, Reading, counts, counted_from, era, is_within, writes}
+use Rattle.er_model.specs.Words.{Counted, Nothing, counts, counted_from, era, is_within, writes}
 use Rattle.er_order.proofs.ReasonLemmas.{unordered-parts}
 use Rattle.er_order.proofs.ReasonsGrow.{conflicts-agree, era-agree, had-agree, order-agree}
 use Rattle.er_order.proofs.Searches.{greatest-Some, greatest-agree}
 use Rattle.er_order.proofs.StepLemmas.{acts-front}
 use Rattle.er_order.specs.ByBytes.{Touched, meet, by_bytes, is_in_use_by_bytes, word_in_use_by_bytes, reply_by_bytes, answer_to_by_bytes, answer_by_bytes, unordered_by_bytes_of, unordered_by_bytes_in, unordered_by_bytes}
 use Rattle.er_order.specs.Order.{acts_of, happens_before}
-use Rattle.er_order.specs.Races.{Order, conflicts, had_race, is_race, is_reported, last_use, reuse_reply}
+use Rattle.er_order.specs.Races.{Order, conflicts, is_race, is_reported, last_use, reuse_reply}
 use Rattle.er_order.specs.Reasons.{last_unordered, use_of}
 use Rattle.er_report.specs.Names.{HaveStateNames}
 use Rattle.er_report.specs.Report.{RacesHaveLines, may_race, may_race_at}

@@ -45,7 +45,7 @@ use Rattle.er_epochs.specs.Words.{IsLowest}
 use Rattle.er_epochs.proofs.KnownAnswers.{access-answered, access-named, reuse-answered, reuse-named, other-answered}
 use Rattle.er_epochs.proofs.KnownSteps.{follows-bytes, known-front}
 use Rattle.er_unordered.specs.declared.machine.OrderAnswer.{OrderAnswer}
-use Rattle.er_unordered.specs.Standing.{Ordered, holding, clock_of, known_in, Stands, Changes, IsSame, IsBeyondBy, IsBeyondAfter, is_crowding, crowds_after, answered_by, holds_alone, names_none, reply_by, rival_by, use_found, word_used}
+use Rattle.er_unordered.specs.Standing.{Ordered, holding, clock_of, known_in, Stands, Changes, IsBeyondBy, IsBeyondAfter, is_crowding, crowds_after, answered_by, holds_alone, names_none, reply_by, rival_by, use_found, word_used}
 
 -- an accepted event
 module _ {A : Type 0} (before after : Ordered A) (bytes : Bytes) (tag : A) (t : ℕ) (e : Event) (accepted : refused_by (holding before t) e ≡ None) where
@@ -226,14 +226,6 @@ module _ {A : Type 0} (tags : ℕ → A) (touched : Touched) (before : Ordered A
         words = follows-bytes past step tags touched before.words after.words tag bytes stands.words last own_bytes
             (λ w. subst (λ (clock : ℕ → ℕ). IsKnownMoved clock tag bytes (known_in before w) w (marked (holdings_at past step.thread (length past)) step.thread step.event) (known_in after w)) clock_is
             (subst (λ (h : Holdings). IsKnownMoved (clock_of before step.thread) tag bytes (known_in before w) w (marked h step.thread step.event) (known_in after w)) held_is (changed.words w)));
-      }
-
-  pub stands-still : (after : Ordered A) → IsSame before after → Stands tags touched after past
-  stands-still after same =
-      record {
-        held = λ t. same.held t ∙ stands.held t;
-        clocks = λ k u. same.clocks k u ∙ stands.clocks k u;
-        words = λ w. subst (λ (known : Known A). ServesAs past known (known_at tags touched past w (length past))) (sym (same.words w)) (stands.words w);
       }
 
   module _ (bytes : Bytes) (here : touched (length past) ≡ bytes) where

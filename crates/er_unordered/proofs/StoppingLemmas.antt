@@ -1,5 +1,5 @@
 -- A step that may be beyond a limit is so whatever steps come behind it, and an analyst goes on by a batch or stops in it.
-use Rattle.std.proofs.Common.{◌≡◌, ◌<◌, ◌≤◌, ◌+◌, ◌-◌, ◌∙◌, ◌++◌, ◌||◌, ◌∷◌, [], ℕ, nat_lt, Bool, true, false, cond, List, length, slice_get, slice_index, length-append, take, drop, is_some, Option, Some, None, IfSome, refl, sym, ap, ap₂, subst, arith}
+use Rattle.std.proofs.Common.{◌≡◌, ◌<◌, ◌≤◌, ◌+◌, ◌-◌, ◌∙◌, ◌++◌, ◌||◌, ◌∷◌, [], ℕ, nat_lt, Bool, true, false, cond, List, length, slice_get, length-append, take, drop, is_some, Option, Some, None, IfSome, refl, sym, ap, ap₂, subst, arith}
 use Rattle.std.proofs.lemmas.Bool.{lt-ltb, ltb-true}
 use Rattle.std.proofs.lemmas.Bool.Decides.{nat_tests}
 use Rattle.std.proofs.lemmas.List.{get_or_append_left, take-append-drop}

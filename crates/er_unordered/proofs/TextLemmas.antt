@@ -9,7 +9,7 @@ use Rattle.er_report.specs.Report.{Answering, report_by}
 use Rattle.er_report.specs.declared.report.Because.{Because}
 use Rattle.er_rules.specs.Rules.{Target}
 use Rattle.er_trace.specs.Trace.{Recording}
-use Rattle.er_unordered.specs.Reasons.{order_reasons, order_reasons_if, reasons_with}
+use Rattle.er_unordered.specs.Reasons.{order_reasons, reasons_with}
 use Rattle.er_unordered.specs.Reports.{unordered_report}
 
 reasons-whole : (r : Recording) (touched : Touched) → ((k : ℕ) → touched k ≡ whole) → (k : ℕ) → order_reasons touched r k ≡ reasons_with r (unordered_with r.steps k)

@@ -1,5 +1,5 @@
 -- The first touch of a line or of a later one, from a place on.
-use Rattle.std.proofs.Common.{◌≡◌, ◌<◌, ◌≤◌, ◌+◌, ◌∙◌, ℕ, zero, suc, add-one, nat_le, true, false, List, [], ◌∷◌, drop, find, length, slice_get, Option, Some, None, refl, sym, ap, arith}
+use Rattle.std.proofs.Common.{◌≡◌, ◌<◌, ◌≤◌, ◌+◌, ◌∙◌, ℕ, zero, suc, add-one, List, [], ◌∷◌, drop, length, slice_get, Some, sym, ap, arith}
 use Rattle.er_batch.proofs.TouchLemmas.{nothing, passed, stands}
 use Rattle.er_batch.specs.Touching.{of_line, touch_on}
 use Rattle.er_lines.specs.declared.ready.Touch.{Touch}

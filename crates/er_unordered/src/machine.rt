@@ -2,7 +2,6 @@
 ghost use Rattle.std.specs.Prelude.{◌≡◌, ◌<◌, ℕ, nat_eq, List, ◌++◌, ◌∷◌, [], IfOk, IsErrOf, IsOk, IsTrue, Ok, Err, false, None, OnOk, OnErr, Some, cond, is_some, length, true};
 ghost use Rattle.std.specs.Option.{option_map};
 ghost use Rattle.er_model.specs.Holdings.{refused_by, changed_by, holdings_end};
-ghost use Rattle.er_event.specs.Lockset.{has};
 ghost use Rattle.er_event.specs.declared.steps.Step.{Step as Steps};
 ghost use Rattle.er_held.specs.ThreadLocks.{changes_holdings, holding_among};
 ghost use Rattle.er_clock.specs.declared.clock.Limit.{Limit as Limits};
@@ -52,7 +51,7 @@ impl<A> Model for OrderMachine<A> {
 }
 
 impl<A: Copy> OrderMachine<A> {
-    ghost use Rattle.er_unordered.specs.Standing.{Stands, Changes, IsSame, IsBeyondBy, IsBeyondAfter, crowds_after, wants_nothing, holding, answered_by, holds_alone, names_none};
+    ghost use Rattle.er_unordered.specs.Standing.{Stands, Changes, IsSame, IsBeyondBy, IsBeyondAfter, crowds_after, wants_nothing, holding, answered_by, names_none};
 
     /// A machine that has taken no step, and finds each word and each thread by these keys. Whoever knows them can make it slow.
     pub fn keyed(alloc: Global, keys: HashKeys) -> Self
