@@ -1,5 +1,5 @@
 -- The latest accesses of a word follow from those before, by the clock of the accessing thread, and later steps change nothing of it.
-use Rattle.std.proofs.Common.{◌≡◌, ℕ, ◌<◌, ◌≤◌, true, ◌==◌, not, ◌∷◌, ◌++◌, Some, ap, ◌∙◌}
+use Rattle.std.proofs.Common.{◌≡◌, ℕ, ◌<◌, true, not, Some, ap}
 use Rattle.er_model.specs.Words.{Reading, counts}
 use Rattle.er_order.specs.Order.{Acts, Local, happens_before}
 use Rattle.er_order.specs.Clocks.{OfThread, clocks_at}

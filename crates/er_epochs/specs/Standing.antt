@@ -1,5 +1,5 @@
 -- The lists of steps that what is stored of all words stands for.
-use Rattle.std.specs.Prelude.{ℕ, ◌≡◌, ◌==◌}
+use Rattle.std.specs.Prelude.{ℕ}
 use Rattle.er_model.specs.Words.{Reading, thread_of}
 use Rattle.er_order.specs.Order.{Acts}
 use Rattle.er_order.specs.Clocks.{own_count}
