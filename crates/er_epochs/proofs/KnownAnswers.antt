@@ -25,7 +25,9 @@ use Rattle.er_order.specs.Reasons.{last_unordered, use_of}
 use Rattle.er_order.proofs.Following.{mark-step}
 use Rattle.er_order.proofs.Reuses.{reuse-acts}
 use Rattle.er_order.proofs.StepLemmas.{agree-steps, held-front, clocks-front}
-use Rattle.er_epochs.specs.Known.{AllBytes, finds, known_among, known, known_at, query_of, reuse_query, FollowsBytes}
+use Rattle.er_epochs.specs.Known.{finds, query_of, reuse_query}
+use Rattle.er_epochs.specs.Standing.{known, known_at, FollowsBytes}
+use Rattle.er_epochs.specs.Words.{AllWords, known_among}
 use Rattle.er_epochs.proofs.KnownSteps.{access-found, access-reported, use-found, use-known, serves-finds, known-front}
 
 -- the answer by bytes to a step
@@ -69,7 +71,7 @@ module _ (touched : Touched) (steps : List Step) (k : ℕ) (s : Step) (is : slic
   bytes_unordered = rw is refl
 
 -- behind a list that the words follow
-module _ {A : Type 0} (past : List Step) (s : Step) (tags : ℕ → A) (touched : Touched) (words : AllBytes A) (follows : FollowsBytes tags touched words past) where
+module _ {A : Type 0} (past : List Step) (s : Step) (tags : ℕ → A) (touched : Touched) (words : AllWords A) (follows : FollowsBytes tags touched words past) where
   abbrev longer : List Step
   longer = past ++ s ∷ []
 

@@ -16,9 +16,9 @@ use Rattle.er_order.specs.declared.bytes.Bytes.{Bytes}
 use Rattle.er_order.proofs.ByBytes.{or_neither}
 use Rattle.er_order.proofs.Parts.{find-behind, hit-neither, part-noted}
 use Rattle.er_epochs.specs.declared.reads.Tagged.{Tagged}
-use Rattle.er_epochs.specs.declared.touches.Touch.{Touch}
+use Rattle.er_epochs.specs.declared.byte_accesses.ByteAccess.{ByteAccess}
 use Rattle.er_epochs.specs.Epochs.{Latest, Stored, Accesses, Told, pair_of, is_apart, some_apart, is_raced, latest_by, with_reads, tag_found, IsStoredBy}
-use Rattle.er_epochs.specs.Known.{Known, Since, Raced, part_of, query_of, finds, IsKnownBy, whole_touch, touches_of, known_of}
+use Rattle.er_epochs.specs.Known.{Known, Since, Raced, part_of, query_of, finds, IsKnownBy, whole_access, accesses_of, known_of}
 use Rattle.er_epochs.proofs.Epochs.{map-push}
 use Rattle.er_epochs.proofs.FoundLemmas.{some_raced}
 
@@ -62,19 +62,19 @@ by_true false P Q e p = cc
 
 module _ {A : Type 0} (clock : ℕ → ℕ) where
   -- what is found where no race was told
-  pub found-view : (told : Bool) (list : List (Touch A)) (k : Known A) (query : Query) → cond told Raced (Since list) ≡ k → told ≡ false
-      → option_map (λ touch. touch.access.tag) (first_hit part_of clock query list) ≡ finds clock k query
+  pub found-view : (told : Bool) (list : List (ByteAccess A)) (k : Known A) (query : Query) → cond told Raced (Since list) ≡ k → told ≡ false
+      → option_map (λ one. one.access.tag) (first_hit part_of clock query list) ≡ finds clock k query
   found-view true list k query view untold = cc
   found-view false list k query view untold = ap (λ k. finds clock k query) view
 
-  quiet_hit : (list : List (Touch A)) (query : Query) → is_some (finds clock (Since list) query) ≡ false → is_some (first_hit part_of clock query list) ≡ false
-  quiet_hit list query none = sym (some_mapped (λ touch. touch.access.tag) (first_hit part_of clock query list)) ∙ none
+  quiet_hit : (list : List (ByteAccess A)) (query : Query) → is_some (finds clock (Since list) query) ≡ false → is_some (first_hit part_of clock query list) ≡ false
+  quiet_hit list query none = sym (some_mapped (λ one. one.access.tag) (first_hit part_of clock query list)) ∙ none
 
-  abbrev touch : Tagged A → Kind → Bytes → Touch A
+  abbrev touch : Tagged A → Kind → Bytes → ByteAccess A
   touch access kind bytes = record { access = access; kind = kind; bytes = bytes }
 
   -- one more, behind those of use
-  pub known-noted : (told : Bool) (items after : List (Touch A)) (k : Known A) (access x : Tagged A) (kind : Kind) (bytes : Bytes)
+  pub known-noted : (told : Bool) (items after : List (ByteAccess A)) (k : Known A) (access x : Tagged A) (kind : Kind) (bytes : Bytes)
       → cond told Raced (Since (reverse items)) ≡ k → told ≡ false → access ≡ x → is_some (finds clock k (query_of kind bytes)) ≡ false
       → after ≡ filter (λ old. is_of_use clock (part_of (record { access = access; kind = kind; bytes = bytes })) (part_of old)) items ++ record { access = access; kind = kind; bytes = bytes } ∷ []
       → IsKnownBy clock k (record { access = x; kind = kind; bytes = bytes }) (cond told Raced (Since (reverse after)))
@@ -101,21 +101,21 @@ one_turned f None = refl
 one_turned f (Some x) = refl
 
 module _ {A : Type 0} where
-  pub touches-turned : (write : Option (Tagged A)) (reads : List (Tagged A)) (items : List (Touch A))
-      → items ≡ map (whole_touch writing) (option_to_list write) ++ map (whole_touch reading) reads
-      → reverse items ≡ touches_of (record { write = write; reads = reverse reads })
+  pub touches-turned : (write : Option (Tagged A)) (reads : List (Tagged A)) (items : List (ByteAccess A))
+      → items ≡ map (whole_access writing) (option_to_list write) ++ map (whole_access reading) reads
+      → reverse items ≡ accesses_of (record { write = write; reads = reverse reads })
   touches-turned write reads items is =
-      ap reverse is ∙ reverse-append (map (whole_touch writing) (option_to_list write)) (map (whole_touch reading) reads)
-      ∙ ap₂ (λ xs ys. xs ++ ys) (map_turned (whole_touch reading) reads) (one_turned (whole_touch writing) write)
+      ap reverse is ∙ reverse-append (map (whole_access writing) (option_to_list write)) (map (whole_access reading) reads)
+      ∙ ap₂ (λ xs ys. xs ++ ys) (map_turned (whole_access reading) reads) (one_turned (whole_access writing) write)
 
   -- one more read behind the others
-  pub added-next : (old now after : List (Touch A)) (reads : List (Tagged A)) (n m : ℕ) (item : Tagged A) (touch : Touch A) → take m reads ≡ take n reads ++ item ∷ []
-      → now ≡ old ++ map (whole_touch reading) (take n reads) → touch ≡ whole_touch reading item → after ≡ now ++ touch ∷ []
-      → after ≡ old ++ map (whole_touch reading) (take m reads)
+  pub added-next : (old now after : List (ByteAccess A)) (reads : List (Tagged A)) (n m : ℕ) (item : Tagged A) (touch : ByteAccess A) → take m reads ≡ take n reads ++ item ∷ []
+      → now ≡ old ++ map (whole_access reading) (take n reads) → touch ≡ whole_access reading item → after ≡ now ++ touch ∷ []
+      → after ≡ old ++ map (whole_access reading) (take m reads)
   added-next old now after reads n m item touch next so_far is put =
       put ∙ ap₂ (λ xs x. xs ++ x ∷ []) so_far is
-      ∙ append_assoc old (map (whole_touch reading) (take n reads)) (whole_touch reading item ∷ [])
-      ∙ ap (λ ys. old ++ ys) (sym (ap (map (whole_touch reading)) next ∙ map-push (whole_touch reading) (take n reads) item))
+      ∙ append_assoc old (map (whole_access reading) (take n reads)) (whole_access reading item ∷ [])
+      ∙ ap (λ ys. old ++ ys) (sym (ap (map (whole_access reading)) next ∙ map-push (whole_access reading) (take n reads) item))
 
 -- searches among whole touches
 gated : {X Y : Type 0} (f : X → Y) (p : Y → Bool) (q : X → Bool) (b : Bool) → ((x : X) → p (f x) ≡ (b && q x)) → (xs : List X) → find p (map f xs) ≡ cond b (option_map f (find q xs)) None
@@ -136,27 +136,27 @@ write_gate : (asks in_bytes apart : Bool) → ((true || asks) && (in_bytes && ap
 write_gate asks in_bytes apart = refl
 
 module _ {A : Type 0} (clock : ℕ → ℕ) (query : Query) where
-  abbrev tag : Touch A → A
+  abbrev tag : ByteAccess A → A
   tag touch = touch.access.tag
 
-  first_reads : (reads : List (Tagged A)) → first_hit part_of clock query (map (whole_touch reading) reads) ≡ cond (query.is_write && touches query.bytes whole) (option_map (whole_touch reading) (find (is_apart clock) reads)) None
+  first_reads : (reads : List (Tagged A)) → first_hit part_of clock query (map (whole_access reading) reads) ≡ cond (query.is_write && touches query.bytes whole) (option_map (whole_access reading) (find (is_apart clock) reads)) None
   first_reads reads =
-      gated (whole_touch reading) (λ touch. hits clock query (part_of touch)) (is_apart clock) (query.is_write && touches query.bytes whole)
+      gated (whole_access reading) (λ touch. hits clock query (part_of touch)) (is_apart clock) (query.is_write && touches query.bytes whole)
       (λ x. read_gate query.is_write (touches query.bytes whole) (is_apart clock x)) reads
 
-  first_writes : (writes : List (Tagged A)) → first_hit part_of clock query (map (whole_touch writing) writes) ≡ cond (touches query.bytes whole) (option_map (whole_touch writing) (find (is_apart clock) writes)) None
+  first_writes : (writes : List (Tagged A)) → first_hit part_of clock query (map (whole_access writing) writes) ≡ cond (touches query.bytes whole) (option_map (whole_access writing) (find (is_apart clock) writes)) None
   first_writes writes =
-      gated (whole_touch writing) (λ touch. hits clock query (part_of touch)) (is_apart clock) (touches query.bytes whole)
+      gated (whole_access writing) (λ touch. hits clock query (part_of touch)) (is_apart clock) (touches query.bytes whole)
       (λ x. write_gate query.is_write (touches query.bytes whole) (is_apart clock x)) writes
 
-  first_whole : (latest : Latest A) → first_hit part_of clock query (touches_of latest)
-      ≡ option_or (cond (query.is_write && touches query.bytes whole) (option_map (whole_touch reading) (find (is_apart clock) latest.reads)) None)
-      (cond (touches query.bytes whole) (option_map (whole_touch writing) (find (is_apart clock) (option_to_list latest.write))) None)
+  first_whole : (latest : Latest A) → first_hit part_of clock query (accesses_of latest)
+      ≡ option_or (cond (query.is_write && touches query.bytes whole) (option_map (whole_access reading) (find (is_apart clock) latest.reads)) None)
+      (cond (touches query.bytes whole) (option_map (whole_access writing) (find (is_apart clock) (option_to_list latest.write))) None)
   first_whole latest =
-      find-append (λ touch. hits clock query (part_of touch)) (map (whole_touch reading) latest.reads) (map (whole_touch writing) (option_to_list latest.write))
+      find-append (λ touch. hits clock query (part_of touch)) (map (whole_access reading) latest.reads) (map (whole_access writing) (option_to_list latest.write))
       ∙ ap₂ option_or (first_reads latest.reads) (first_writes (option_to_list latest.write))
 
-  tags_or : (asks : Bool) (o p : Option (Tagged A)) → option_map tag (option_or (cond (asks && true) (option_map (whole_touch reading) o) None) (option_map (whole_touch writing) p)) ≡ option_map (λ access. access.tag) (option_or (cond asks o None) p)
+  tags_or : (asks : Bool) (o p : Option (Tagged A)) → option_map tag (option_or (cond (asks && true) (option_map (whole_access reading) o) None) (option_map (whole_access writing) p)) ≡ option_map (λ access. access.tag) (option_or (cond asks o None) p)
   tags_or true (Some x) p = refl
   tags_or true None (Some y) = refl
   tags_or true None None = refl
@@ -172,7 +172,7 @@ module _ {A : Type 0} (clock : ℕ → ℕ) (query : Query) where
   found-whole Told kind asks meets = refl
   found-whole (Accesses latest) kind asks meets =
       ap (option_map tag) (first_whole latest)
-      ∙ ap₂ (λ wrote here. option_map tag (option_or (cond (wrote && here) (option_map (whole_touch reading) (find (is_apart clock) latest.reads)) None) (cond here (option_map (whole_touch writing) (find (is_apart clock) (option_to_list latest.write))) None))) asks meets
+      ∙ ap₂ (λ wrote here. option_map tag (option_or (cond (wrote && here) (option_map (whole_access reading) (find (is_apart clock) latest.reads)) None) (cond here (option_map (whole_access writing) (find (is_apart clock) (option_to_list latest.write))) None))) asks meets
       ∙ tags_or (is_writing kind) (find (is_apart clock) latest.reads) (find (is_apart clock) (option_to_list latest.write))
       ∙ ap (λ o. option_map (λ access. access.tag) (option_or o (find (is_apart clock) (option_to_list latest.write)))) (find_if (is_writing kind) latest.reads)
       ∙ ap (option_map (λ access. access.tag)) (sym (find-append (is_apart clock) (cond (is_writing kind) latest.reads []) (option_to_list latest.write)))
@@ -182,72 +182,72 @@ covered_useless reading b covered = rw covered refl
 covered_useless writing b covered = rw covered refl
 
 module _ {A : Type 0} (clock : ℕ → ℕ) where
-  pub raced-whole : (latest : Latest A) (kind : Kind) → is_some (first_hit part_of clock (query_of kind whole) (touches_of latest)) ≡ is_raced clock (Accesses latest) kind
+  pub raced-whole : (latest : Latest A) (kind : Kind) → is_some (first_hit part_of clock (query_of kind whole) (accesses_of latest)) ≡ is_raced clock (Accesses latest) kind
   raced-whole latest kind =
-      sym (some_mapped (λ touch. touch.access.tag) (first_hit part_of clock (query_of kind whole) (touches_of latest)))
+      sym (some_mapped (λ one. one.access.tag) (first_hit part_of clock (query_of kind whole) (accesses_of latest)))
       ∙ ap is_some (found-whole clock (query_of kind whole) (Accesses latest) kind refl refl)
       ∙ some_raced clock (Accesses latest) kind
 
   module _ (x : Tagged A) (later : ℕ → ℕ) (query : Query) (knows : covers later (pair_of x) ≡ true → (u : ℕ) → clock u ≤ later u) where
-    none_hit : (kind : Kind) (ys : List (Tagged A)) → list_any (is_apart clock) ys ≡ false → hits later query (part_of (whole_touch writing x)) ≡ false → first_hit part_of later query (map (whole_touch kind) ys) ≡ None
+    none_hit : (kind : Kind) (ys : List (Tagged A)) → list_any (is_apart clock) ys ≡ false → hits later query (part_of (whole_access writing x)) ≡ false → first_hit part_of later query (map (whole_access kind) ys) ≡ None
     none_hit kind [] covered unhit = refl
     none_hit kind (y ∷ ys) covered unhit =
         let parts = or_neither (is_apart clock y) (list_any (is_apart clock) ys) covered in
-        let here : hits later query (part_of (whole_touch kind y)) ≡ false =
-        hit-neither clock later (part_of (whole_touch writing x)) (part_of (whole_touch kind y)) query knows (covered_useless kind (is_apart clock y) parts.0) unhit in
-        ap₂ (λ b rest. cond b (Some (whole_touch kind y)) rest) here (none_hit kind ys parts.1 unhit)
+        let here : hits later query (part_of (whole_access kind y)) ≡ false =
+        hit-neither clock later (part_of (whole_access writing x)) (part_of (whole_access kind y)) query knows (covered_useless kind (is_apart clock y) parts.0) unhit in
+        ap₂ (λ b rest. cond b (Some (whole_access kind y)) rest) here (none_hit kind ys parts.1 unhit)
 
   any_some : (o : Option (Tagged A)) → some_apart clock o ≡ false → list_any (is_apart clock) (option_to_list o) ≡ false
   any_some None none = refl
   any_some (Some x) none = rw none refl
 
   -- a write in the place of all that its thread's clock covers
-  write_noted : (latest : Latest A) (x : Tagged A) → is_raced clock (Accesses latest) writing ≡ false → IsPartNoted part_of clock (touches_of latest) (whole_touch writing x) (whole_touch writing x ∷ [])
+  write_noted : (latest : Latest A) (x : Tagged A) → is_raced clock (Accesses latest) writing ≡ false → IsPartNoted part_of clock (accesses_of latest) (whole_access writing x) (whole_access writing x ∷ [])
   write_noted latest x quiet = record {
     noted = λ later query knows.
-        find-behind (λ touch. hits later query (part_of touch)) (whole_touch writing x) [] (touches_of latest)
+        find-behind (λ touch. hits later query (part_of touch)) (whole_access writing x) [] (accesses_of latest)
         (λ unhit.
         let parts = or_neither (some_apart clock latest.write) (list_any (is_apart clock) latest.reads) quiet in
-        sym (find-append (λ touch. hits later query (part_of touch)) (map (whole_touch reading) latest.reads) (map (whole_touch writing) (option_to_list latest.write))
+        sym (find-append (λ touch. hits later query (part_of touch)) (map (whole_access reading) latest.reads) (map (whole_access writing) (option_to_list latest.write))
         ∙ ap₂ option_or (none_hit x later query knows reading latest.reads parts.1 unhit) (none_hit x later query knows writing (option_to_list latest.write) (any_some latest.write parts.0) unhit)));
   }
 
   -- a read beside the others
   read_noted : (latest : Latest A) (x : Tagged A) (noted : List (Tagged A)) → IsNoted pair_of clock latest.reads x noted
-      → IsPartNoted part_of clock (touches_of latest) (whole_touch reading x) (touches_of (record { write = latest.write; reads = noted }))
+      → IsPartNoted part_of clock (accesses_of latest) (whole_access reading x) (accesses_of (record { write = latest.write; reads = noted }))
   read_noted latest x noted is = record {
     noted = λ later query knows.
         first_whole later query (record { write = latest.write; reads = noted })
-        ∙ ap (λ o. option_or (cond (query.is_write && touches query.bytes whole) (option_map (whole_touch reading) o) None)
-        (cond (touches query.bytes whole) (option_map (whole_touch writing) (find (is_apart later) (option_to_list latest.write))) None)) (is.noted later knows)
+        ∙ ap (λ o. option_or (cond (query.is_write && touches query.bytes whole) (option_map (whole_access reading) o) None)
+        (cond (touches query.bytes whole) (option_map (whole_access writing) (find (is_apart later) (option_to_list latest.write))) None)) (is.noted later knows)
         ∙ sym (first_whole later query (record { write = latest.write; reads = x ∷ latest.reads }));
   }
 
   -- what may be stored of a word that is touched whole says what may be known of it
-  pub known-stored : (stored after : Stored A) (x : Tagged A) (kind : Kind) → IsStoredBy clock stored x kind after → IsKnownBy clock (known_of stored) (whole_touch kind x) (known_of after)
+  pub known-stored : (stored after : Stored A) (x : Tagged A) (kind : Kind) → IsStoredBy clock stored x kind after → IsKnownBy clock (known_of stored) (whole_access kind x) (known_of after)
   known-stored Told after x reading (noted, is, kept) = ap known_of is
   known-stored Told after x writing is = ap known_of is
   known-stored (Accesses latest) after x reading (noted, is, kept) = by (is_raced clock (Accesses latest) reading) refl
     where
-      by : (b : Bool) → is_raced clock (Accesses latest) reading ≡ b → IsKnownBy clock (Since (touches_of latest)) (whole_touch reading x) (known_of after)
+      by : (b : Bool) → is_raced clock (Accesses latest) reading ≡ b → IsKnownBy clock (Since (accesses_of latest)) (whole_access reading x) (known_of after)
       by true raced =
-          by_true (is_some (first_hit part_of clock (query_of reading whole) (touches_of latest))) _ _ (raced-whole latest reading ∙ raced)
+          by_true (is_some (first_hit part_of clock (query_of reading whole) (accesses_of latest))) _ _ (raced-whole latest reading ∙ raced)
           (ap known_of is ∙ ap (λ b. known_of (with_reads (cond b Told (Accesses (latest_by clock latest x reading))) noted)) raced)
       by false quiet =
-          by_false (is_some (first_hit part_of clock (query_of reading whole) (touches_of latest))) _ _ (raced-whole latest reading ∙ quiet) (
-            touches_of (record { write = latest.write; reads = noted }),
+          by_false (is_some (first_hit part_of clock (query_of reading whole) (accesses_of latest))) _ _ (raced-whole latest reading ∙ quiet) (
+            accesses_of (record { write = latest.write; reads = noted }),
             ap known_of is ∙ ap (λ b. known_of (with_reads (cond b Told (Accesses (latest_by clock latest x reading))) noted)) quiet,
             read_noted latest x noted kept,
           )
   known-stored (Accesses latest) after x writing is = by (is_raced clock (Accesses latest) writing) refl
     where
-      by : (b : Bool) → is_raced clock (Accesses latest) writing ≡ b → IsKnownBy clock (Since (touches_of latest)) (whole_touch writing x) (known_of after)
+      by : (b : Bool) → is_raced clock (Accesses latest) writing ≡ b → IsKnownBy clock (Since (accesses_of latest)) (whole_access writing x) (known_of after)
       by true raced =
-          by_true (is_some (first_hit part_of clock (query_of writing whole) (touches_of latest))) _ _ (raced-whole latest writing ∙ raced)
+          by_true (is_some (first_hit part_of clock (query_of writing whole) (accesses_of latest))) _ _ (raced-whole latest writing ∙ raced)
           (ap known_of is ∙ ap (λ b. known_of (cond b Told (Accesses (latest_by clock latest x writing)))) raced)
       by false quiet =
-          by_false (is_some (first_hit part_of clock (query_of writing whole) (touches_of latest))) _ _ (raced-whole latest writing ∙ quiet) (
-            whole_touch writing x ∷ [],
+          by_false (is_some (first_hit part_of clock (query_of writing whole) (accesses_of latest))) _ _ (raced-whole latest writing ∙ quiet) (
+            whole_access writing x ∷ [],
             ap known_of is ∙ ap (λ b. known_of (cond b Told (Accesses (latest_by clock latest x writing)))) quiet,
             write_noted latest x quiet,
           )

@@ -32,16 +32,18 @@ use Rattle.er_order.proofs.Parts.{parts-here, parts-grow, parts-noted, parts-its
 use Rattle.er_order.proofs.RaceLemmas.{not-reused}
 use Rattle.er_order.proofs.StepLemmas.{Agree, agree-steps, some-at, held-front, clocks-front}
 use Rattle.er_epochs.specs.declared.reads.Tagged.{Tagged}
-use Rattle.er_epochs.specs.declared.touches.Touch.{Touch}
+use Rattle.er_epochs.specs.declared.byte_accesses.ByteAccess.{ByteAccess}
 use Rattle.er_epochs.specs.Epochs.{tagged, pair_of}
-use Rattle.er_epochs.specs.Known.{Known, Since, Raced, part_of, query_of, finds, IsKnownBy, AllBytes, known_among, touch_at, kind_of, known, known_at, reuse_query, ServesAs, FollowsBytes, IsKnownMoved}
+use Rattle.er_epochs.specs.Known.{Known, Since, Raced, part_of, query_of, finds, IsKnownBy, reuse_query}
+use Rattle.er_epochs.specs.Standing.{byte_access_at, kind_of, known, known_at, ServesAs, FollowsBytes, IsKnownMoved}
+use Rattle.er_epochs.specs.Words.{AllWords, known_among}
 use Rattle.er_epochs.specs.Standing.{access_at}
 use Rattle.er_epochs.proofs.FollowLemmas.{own-thread}
 use Rattle.er_epochs.proofs.ReasonLemmas.{find-mapped}
 use Rattle.er_epochs.proofs.StepLemmas.{apart-known}
 
 -- what is known after this access, if all accesses are kept
-abbrev pub known_by : {A : Type 0} → (ℕ → ℕ) → Known A → Touch A → Known A
+abbrev pub known_by : {A : Type 0} → (ℕ → ℕ) → Known A → ByteAccess A → Known A
 known_by clock Raced touch = Raced
 known_by clock (Since list) touch = cond (is_some (first_hit part_of clock (query_of touch.kind touch.bytes) list)) Raced (Since (touch ∷ list))
 
@@ -88,10 +90,10 @@ module _ {A : Type 0} (acts : Acts) (r : Reading) (agree : Agree acts r) (tags :
   abbrev order : Order
   order = by_bytes touched (happens_before acts)
 
-  abbrev at : ℕ → Touch A
-  at = touch_at acts r tags touched
+  abbrev at : ℕ → ByteAccess A
+  at = byte_access_at acts r tags touched
 
-  tag_at : (o : Option ℕ) → option_map (λ touch. touch.access.tag) (option_map at o) ≡ option_map tags o
+  tag_at : (o : Option ℕ) → option_map (λ one. one.access.tag) (option_map at o) ≡ option_map tags o
   tag_at None = refl
   tag_at (Some j) = refl
 
@@ -117,7 +119,7 @@ module _ {A : Type 0} (acts : Acts) (r : Reading) (agree : Agree acts r) (tags :
         by : (had : Bool) → finds now (cond had Raced (Since (map at (accesses r w k)))) reuse_query ≡ cond had None (option_map tags (last_use (happens_before acts) r w k))
         by true = refl
         by false =
-            ap (option_map (λ touch. touch.access.tag)) (find-mapped (λ j. not (happens_before acts j k)) (λ touch. hits now reuse_query (part_of touch)) at (accesses r w k) use_hit)
+            ap (option_map (λ one. one.access.tag)) (find-mapped (λ j. not (happens_before acts j k)) (λ touch. hits now reuse_query (part_of touch)) at (accesses r w k) use_hit)
             ∙ tag_at (find (λ j. not (happens_before acts j k)) (accesses r w k))
             ∙ ap (option_map tags) (sym (use-listed r w (happens_before acts) k))
 
@@ -179,7 +181,7 @@ module _ {A : Type 0} (acts : Acts) (r : Reading) (agree : Agree acts r) (tags :
         by : (had : Bool) → finds clock (cond had Raced (Since (map at (accesses r w k)))) query ≡ cond had None (option_map tags (last_unordered order r w k))
         by true = refl
         by false =
-            ap (option_map (λ touch. touch.access.tag)) (find-mapped passes (λ touch. hits clock query (part_of touch)) at (accesses r w k) passes_hit)
+            ap (option_map (λ one. one.access.tag)) (find-mapped passes (λ touch. hits clock query (part_of touch)) at (accesses r w k) passes_hit)
             ∙ tag_at (find passes (accesses r w k))
             ∙ ap (option_map tags) (sym (unordered-listed r w (happens_before acts) k touched counted))
 
@@ -190,7 +192,7 @@ module _ {A : Type 0} (acts : Acts) (r : Reading) (agree : Agree acts r) (tags :
         ∙ unless_had tags (had_race order r w k) (last_unordered order r w k)
         ∙ ap is_some (sym access-found)
 
-    abbrev touch : Touch A
+    abbrev touch : ByteAccess A
     touch = record { access = tagged t (clock t) (tags k); kind = kind; bytes = touched k }
 
     access_known : known acts r tags touched w (suc k) ≡ known_by clock (known acts r tags touched w k) (record { access = tagged t (clock t) (tags k); kind = kind; bytes = touched k })
@@ -289,7 +291,7 @@ pub serves-finds : {A : Type 0} (steps : List Step) (t : ℕ) (stored wanted : K
     → finds (clocks_at (acts_of steps) (length steps) (OfThread t)) stored query ≡ finds (clocks_at (acts_of steps) (length steps) (OfThread t)) wanted query
 serves-finds steps t Raced wanted query is = ap (λ k. finds (clocks_at (acts_of steps) (length steps) (OfThread t)) k query) (sym is)
 serves-finds steps t (Since stored) wanted query (all, is, like) =
-    ap (option_map (λ touch. touch.access.tag)) (parts-here part_of steps stored all t query like)
+    ap (option_map (λ one. one.access.tag)) (parts-here part_of steps stored all t query like)
     ∙ ap (λ k. finds (clocks_at (acts_of steps) (length steps) (OfThread t)) k query) (sym is)
 
 module _ (steps : List Step) (s : Step) where
@@ -303,14 +305,14 @@ module _ (steps : List Step) (s : Step) where
   serves_kept Raced wanted is = is
   serves_kept (Since stored) wanted (all, is, like) = (all, is, parts-grow part_of steps s stored all like)
 
-  serves_access : {A : Type 0} (stored wanted after : Known A) (touch : Touch A) → pair_of touch.access ≡ (s.thread, own s.thread) → ServesAs steps stored wanted → IsKnownBy own stored touch after → ServesAs grown after (known_by own wanted touch)
+  serves_access : {A : Type 0} (stored wanted after : Known A) (touch : ByteAccess A) → pair_of touch.access ≡ (s.thread, own s.thread) → ServesAs steps stored wanted → IsKnownBy own stored touch after → ServesAs grown after (known_by own wanted touch)
   serves_access Raced wanted after touch now is told = rw (told, is) refl
   serves_access {A = A} (Since stored) wanted after touch now (all, is, like) known =
       rw is (by (is_some (first_hit part_of own (query_of touch.kind touch.bytes) stored)) refl (ap is_some (sym (parts-here part_of steps stored all s.thread (query_of touch.kind touch.bytes) like))) known)
     where
       by : (b : Bool) → is_some (first_hit part_of own (query_of touch.kind touch.bytes) stored) ≡ b
           → is_some (first_hit part_of own (query_of touch.kind touch.bytes) all) ≡ is_some (first_hit part_of own (query_of touch.kind touch.bytes) stored)
-          → MatchBool b (after ≡ Raced) ((noted : List (Touch A)) × (after ≡ Since noted) × IsPartNoted part_of own stored touch noted)
+          → MatchBool b (after ≡ Raced) ((noted : List (ByteAccess A)) × (after ≡ Since noted) × IsPartNoted part_of own stored touch noted)
           → ServesAs grown after (cond (is_some (first_hit part_of own (query_of touch.kind touch.bytes) all)) Raced (Since (touch ∷ all)))
       by true here there told = rw (told, there ∙ here) refl
       by false here there (noted, same, kept) = rw (same, there ∙ here) (touch ∷ all, refl, parts-noted part_of steps s s.thread touch now stored all noted like kept)
@@ -337,13 +339,13 @@ module _ (steps : List Step) (s : Step) where
     serves-on Nothing thread is = rw is (serves_kept stored wanted serves)
 
 -- no step yet
-pub follows-none : {A : Type 0} (words : AllBytes A) (tags : ℕ → A) (touched : Touched) → ((w : ℕ) → known_among words w ≡ Since []) → FollowsBytes tags touched words []
+pub follows-none : {A : Type 0} (words : AllWords A) (tags : ℕ → A) (touched : Touched) → ((w : ℕ) → known_among words w ≡ Since []) → FollowsBytes tags touched words []
 follows-none words tags touched none w =
     subst (λ (k : Known _). ServesAs [] k (known_at tags touched [] w 0)) (sym (none w))
     ([], known-none (acts_of []) (reading_of []) tags touched w, parts-itself part_of [] [])
 
 -- one step more
-module _ {A : Type 0} (past : List Step) (s : Step) (tags : ℕ → A) (touched : Touched) (old new : AllBytes A) (tag : A) (bytes : Bytes) where
+module _ {A : Type 0} (past : List Step) (s : Step) (tags : ℕ → A) (touched : Touched) (old new : AllWords A) (tag : A) (bytes : Bytes) where
   pub follows-bytes : FollowsBytes tags touched old past → tags (length past) ≡ tag → touched (length past) ≡ bytes
       → ((w : ℕ) → IsKnownMoved (clocks_at (acts_of past) (length past) (OfThread s.thread)) tag bytes (known_among old w) w (marked (holdings_at past s.thread (length past)) s.thread s.event) (known_among new w))
       → FollowsBytes tags touched new (past ++ s ∷ [])

@@ -12,5 +12,4 @@ pub mod StepLemmas
 pub mod KnownLemmas
 pub mod KnownSteps
 pub mod Split
-pub mod Ended
 pub mod KnownAnswers

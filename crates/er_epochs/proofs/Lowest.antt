@@ -1,16 +1,22 @@
--- The lowest word that a write would be reported on: found place by place in a block, and block by block in a range.
-use Rattle.std.proofs.Common.{◌≡◌, ◌≢◌, ◌∙◌, ℕ, ◌+◌, ◌*◌, ◌<◌, ◌≤◌, ◌/◌, ◌%◌, ◌&&◌, nat_eq, nat_le, nat_lt, Bool, true, false, cond, Option, Some, None, IfSome, refl, sym, ap, true≢false, arith}
+-- The lowest word that a reuse finds in use: found place by place in a block, and block by block in a range.
+use Rattle.std.proofs.Common.{◌≡◌, ◌≢◌, ◌∙◌, ℕ, ◌+◌, ◌*◌, ◌<◌, ◌≤◌, ◌/◌, ◌%◌, ◌&&◌, nat_eq, nat_le, nat_lt, Bool, true, false, cond, [], is_some, Option, Some, None, IfSome, refl, sym, ap, true≢false, arith}
 use Rattle.std.proofs.lemmas.Bool.Decides.{nat_tests}
 use Rattle.std.specs.Option.{option_map, option_or}
 use borrow.Author.Tests.{eqb-true, eqb-false}
 use Rattle.std.specs.Map.{lookup}
 use Rattle.er_event.specs.declared.addresses.PageRange.{PageRange}
-use Rattle.er_event.specs.declared.steps.Kind.TheVariants.{Write}
 use Rattle.er_model.specs.Words.{is_within}
 use Rattle.er_epochs.proofs.Blocks.{AreResetTo, absent_block}
 use Rattle.er_epochs.proofs.Places.{in_block, at_place}
-use Rattle.er_epochs.specs.Epochs.{Accesses, untouched, is_raced, tag_found}
-use Rattle.er_epochs.specs.Words.{AllWords, BlockWords, IsLowest, is_place_in, stored_among, stored_beside, word_among, word_at, word_in_block}
+use Rattle.er_epochs.specs.Known.{Known, Since, finds, reuse_query}
+use Rattle.er_epochs.specs.Words.{AllWords, BlockWords, IsLowest, is_place_in, known_among, known_beside, slot_among, slot_at, slot_in_block}
+
+-- what a reuse finds of a word, and whether it finds something
+abbrev pub use_found : {A : Type 0} → (ℕ → ℕ) → Known A → Option A
+use_found clock k = finds clock k reuse_query
+
+abbrev pub is_used : {A : Type 0} → (ℕ → ℕ) → Known A → Bool
+is_used clock k = is_some (use_found clock k)
 
 -- none of the places from lo on, below this one, passes
 abbrev pub IsNoneBelow : (ℕ → Bool) → ℕ → ℕ → Type 0
@@ -117,9 +123,9 @@ module _ {A : Type 0} where
   -- a block was found
   pub lowest_in_block : (all : AllWords A) (number lo hi : ℕ) (was : BlockWords A) (clock : ℕ → ℕ) (place : Option ℕ)
       → Some was ≡ lookup (nat_eq number) all.blocks → hi < 32
-      → IsLowest (λ i. (nat_le lo i && nat_le i hi) && is_raced clock (stored_beside all.lists (number * 32 + i) (word_at was i)) Write) place
-      → IsLowest (λ w. is_place_in number lo hi w && is_raced clock (stored_among all w) Write) (option_map (λ i. number * 32 + i) place)
-  unfolding stored_among
+      → IsLowest (λ i. (nat_le lo i && nat_le i hi) && is_used clock (known_beside all.lists (number * 32 + i) (slot_at was i))) place
+      → IsLowest (λ w. is_place_in number lo hi w && is_used clock (known_among all w)) (option_map (λ i. number * 32 + i) place)
+  unfolding known_among
   lowest_in_block all number lo hi was clock place found within lowest =
       lowest_word number _ _ place short here else lowest
     where
@@ -127,8 +133,8 @@ module _ {A : Type 0} where
       short_by i true e = grind (arith, nat_tests)
       short_by i false e = grind (arith, nat_tests)
 
-      short : (i : ℕ) → ((nat_le lo i && nat_le i hi) && is_raced clock (stored_beside all.lists (number * 32 + i) (word_at was i)) Write) ≡ true → i < 32
-      short i e = short_by i (is_raced clock (stored_beside all.lists (number * 32 + i) (word_at was i)) Write) e
+      short : (i : ℕ) → ((nat_le lo i && nat_le i hi) && is_used clock (known_beside all.lists (number * 32 + i) (slot_at was i))) ≡ true → i < 32
+      short i e = short_by i (is_used clock (known_beside all.lists (number * 32 + i) (slot_at was i))) e
 
       is_word : (w : ℕ) → number ≡ w / 32 → w ≡ number * 32 + w % 32
       is_word w at = omega (arith, at)
@@ -137,31 +143,31 @@ module _ {A : Type 0} where
       here_in w at = grind (arith, nat_tests)
 
       here : (w : ℕ) → number ≡ w / 32
-          → (is_place_in number lo hi w && is_raced clock (stored_beside all.lists w (word_among all.blocks w)) Write)
-          ≡ ((nat_le lo (w % 32) && nat_le (w % 32) hi) && is_raced clock (stored_beside all.lists (number * 32 + w % 32) (word_at was (w % 32))) Write)
+          → (is_place_in number lo hi w && is_used clock (known_beside all.lists w (slot_among all.blocks w)))
+          ≡ ((nat_le lo (w % 32) && nat_le (w % 32) hi) && is_used clock (known_beside all.lists (number * 32 + w % 32) (slot_at was (w % 32))))
       here w at =
-          ap (λ b. (b && (nat_le lo (w % 32) && nat_le (w % 32) hi)) && is_raced clock (stored_beside all.lists w (word_among all.blocks w)) Write) (here_in w at)
-          ∙ (λ k. (nat_le lo (w % 32) && nat_le (w % 32) hi) && is_raced clock (stored_beside all.lists (is_word w at k) (word_in_block (same_block w at k) (w % 32))) Write)
+          ap (λ b. (b && (nat_le lo (w % 32) && nat_le (w % 32) hi)) && is_used clock (known_beside all.lists w (slot_among all.blocks w))) (here_in w at)
+          ∙ (λ k. (nat_le lo (w % 32) && nat_le (w % 32) hi) && is_used clock (known_beside all.lists (is_word w at k) (slot_in_block (same_block w at k) (w % 32))))
         where
           same_block : (w : ℕ) → number ≡ w / 32 → lookup (nat_eq (w / 32)) all.blocks ≡ Some was
           same_block w at = ap (λ q. lookup (nat_eq q) all.blocks) (sym at) ∙ sym found
 
-      else : (w : ℕ) → nat_eq number (w / 32) ≡ false → (is_place_in number lo hi w && is_raced clock (stored_beside all.lists w (word_among all.blocks w)) Write) ≡ false
-      else w apart = ap (λ b. (b && (nat_le lo (w % 32) && nat_le (w % 32) hi)) && is_raced clock (stored_beside all.lists w (word_among all.blocks w)) Write) apart
+      else : (w : ℕ) → nat_eq number (w / 32) ≡ false → (is_place_in number lo hi w && is_used clock (known_beside all.lists w (slot_among all.blocks w))) ≡ false
+      else w apart = ap (λ b. (b && (nat_le lo (w % 32) && nat_le (w % 32) hi)) && is_used clock (known_beside all.lists w (slot_among all.blocks w))) apart
 
   -- and what is found at its place is found of the word
   pub named_in_block : (all : AllWords A) (number lo hi : ℕ) (was : BlockWords A) (clock : ℕ → ℕ) (place : Option (ℕ × A))
       → Some was ≡ lookup (nat_eq number) all.blocks → hi < 32
-      → IsLowest (λ i. (nat_le lo i && nat_le i hi) && is_raced clock (stored_beside all.lists (number * 32 + i) (word_at was i)) Write) (option_map (λ (found : ℕ × A). found.0) place)
-      → IfSome place (λ found. Some found.1 ≡ tag_found clock (stored_beside all.lists (number * 32 + found.0) (word_at was found.0)) Write)
-      → IfSome {T = ℕ × A} (option_map (λ (found : ℕ × A). (number * 32 + found.0, found.1)) place) (λ found. Some found.1 ≡ tag_found clock (stored_among all found.0) Write)
-  unfolding stored_among
+      → IsLowest (λ i. (nat_le lo i && nat_le i hi) && is_used clock (known_beside all.lists (number * 32 + i) (slot_at was i))) (option_map (λ (found : ℕ × A). found.0) place)
+      → IfSome place (λ found. Some found.1 ≡ use_found clock (known_beside all.lists (number * 32 + found.0) (slot_at was found.0)))
+      → IfSome {T = ℕ × A} (option_map (λ (found : ℕ × A). (number * 32 + found.0, found.1)) place) (λ found. Some found.1 ≡ use_found clock (known_among all found.0))
+  unfolding known_among
   named_in_block all number lo hi was clock None found within lowest named = tt
   named_in_block all number lo hi was clock (Some (i, a)) found within lowest named =
-      named ∙ (λ k. tag_found clock (stored_beside all.lists (number * 32 + i) (word_in_block (same_block k) (sym (at_place number i short) k))) Write)
+      named ∙ (λ k. use_found clock (known_beside all.lists (number * 32 + i) (slot_in_block (same_block k) (sym (at_place number i short) k))))
     where
       short : i < 32
-      short = short_by (is_raced clock (stored_beside all.lists (number * 32 + i) (word_at was i)) Write) lowest.0
+      short = short_by (is_used clock (known_beside all.lists (number * 32 + i) (slot_at was i))) lowest.0
         where
           short_by : (b : Bool) → ((nat_le lo i && nat_le i hi) && b) ≡ true → i < 32
           short_by true e = grind (arith, nat_tests)
@@ -172,19 +178,19 @@ module _ {A : Type 0} where
 
   -- or there is none
   pub none_in_absent : (all : AllWords A) (number lo hi : ℕ) (clock : ℕ → ℕ) → lookup (nat_eq number) all.blocks ≡ None
-      → (w : ℕ) → (is_place_in number lo hi w && is_raced clock (stored_among all w) Write) ≡ false
+      → (w : ℕ) → (is_place_in number lo hi w && is_used clock (known_among all w)) ≡ false
   none_in_absent all number lo hi clock absent w = by (is_place_in number lo hi w) refl (absent_block all number lo hi absent w)
     where
-      by : (b : Bool) → is_place_in number lo hi w ≡ b → stored_among all w ≡ cond (is_place_in number lo hi w) (Accesses untouched) (stored_among all w) → (b && is_raced clock (stored_among all w) Write) ≡ false
-      by true e same = ap (λ kept. is_raced clock kept Write) (same ∙ ap (λ b. cond b (Accesses untouched) (stored_among all w)) e)
+      by : (b : Bool) → is_place_in number lo hi w ≡ b → known_among all w ≡ cond (is_place_in number lo hi w) (Since []) (known_among all w) → (b && is_used clock (known_among all w)) ≡ false
+      by true e same = ap (λ kept. is_used clock kept) (same ∙ ap (λ b. cond b (Since []) (known_among all w)) e)
       by false e same = refl
 
   -- the blocks of a range, one after another
   abbrev pub IsLowestBelow : AllWords A → PageRange → (ℕ → ℕ) → ℕ → Option ℕ → Type 0
-  IsLowestBelow old range clock number found = IsLowest (λ w. (is_within w range && nat_lt (w / 32) number) && is_raced clock (stored_among old w) Write) found
+  IsLowestBelow old range clock number found = IsLowest (λ w. (is_within w range && nat_lt (w / 32) number) && is_used clock (known_among old w)) found
 
   pub lowest_start : (old : AllWords A) (range : PageRange) (clock : ℕ → ℕ) (number : ℕ) → number ≡ range.lo / 32 → IsLowestBelow old range clock number None
-  lowest_start old range clock number is w = ap (λ b. b && is_raced clock (stored_among old w) Write) none
+  lowest_start old range clock number is w = ap (λ b. b && is_used clock (known_among old w)) none
     where
       none : (is_within w range && nat_lt (w / 32) number) ≡ false
       none = grind (arith, nat_tests)
@@ -192,18 +198,18 @@ module _ {A : Type 0} where
   pub lowest_more : (old now : AllWords A) (range : PageRange) (clock : ℕ → ℕ) (number lo hi : ℕ) (first second : Option ℕ)
       → ((w : ℕ) → number ≡ w / 32 → nat_le lo (w % 32) ≡ nat_le range.lo w)
       → ((w : ℕ) → number ≡ w / 32 → nat_le (w % 32) hi ≡ nat_le w range.hi)
-      → ((w : ℕ) → number ≡ w / 32 → stored_among now w ≡ stored_among old w)
+      → ((w : ℕ) → number ≡ w / 32 → known_among now w ≡ known_among old w)
       → IsLowestBelow old range clock number first
-      → IsLowest (λ w. is_place_in number lo hi w && is_raced clock (stored_among now w) Write) second
+      → IsLowest (λ w. is_place_in number lo hi w && is_used clock (known_among now w)) second
       → IsLowestBelow old range clock (number + 1) (option_or first second)
   lowest_more old now range clock number lo hi first second low high as_before found more =
       lowest_of_both number _ _ _ before_none both_before both_here both_none here_else first second found more
     where
-      by_bound : (w : ℕ) (b c : Bool) → nat_lt (w / 32) number ≡ b → b ≡ c → ((is_within w range && nat_lt (w / 32) number) && is_raced clock (stored_among old w) Write) ≡ ((is_within w range && c) && is_raced clock (stored_among old w) Write)
-      by_bound w b c e is = ap (λ b. (is_within w range && b) && is_raced clock (stored_among old w) Write) (e ∙ is)
+      by_bound : (w : ℕ) (b c : Bool) → nat_lt (w / 32) number ≡ b → b ≡ c → ((is_within w range && nat_lt (w / 32) number) && is_used clock (known_among old w)) ≡ ((is_within w range && c) && is_used clock (known_among old w))
+      by_bound w b c e is = ap (λ b. (is_within w range && b) && is_used clock (known_among old w)) (e ∙ is)
 
-      and_none : (w : ℕ) → ((is_within w range && false) && is_raced clock (stored_among old w) Write) ≡ false
-      and_none w = ap (λ b. b && is_raced clock (stored_among old w) Write) (no_more (is_within w range))
+      and_none : (w : ℕ) → ((is_within w range && false) && is_used clock (known_among old w)) ≡ false
+      and_none w = ap (λ b. b && is_used clock (known_among old w)) (no_more (is_within w range))
         where
           no_more : (b : Bool) → (b && false) ≡ false
           no_more true = refl
@@ -212,24 +218,24 @@ module _ {A : Type 0} where
       not_before : (w : ℕ) → number ≤ w / 32 → nat_lt (w / 32) number ≡ false
       not_before w past = grind (arith, nat_tests)
 
-      before_none : (w : ℕ) → number ≤ w / 32 → ((is_within w range && nat_lt (w / 32) number) && is_raced clock (stored_among old w) Write) ≡ false
+      before_none : (w : ℕ) → number ≤ w / 32 → ((is_within w range && nat_lt (w / 32) number) && is_used clock (known_among old w)) ≡ false
       before_none w past = by_bound w false false (not_before w past) refl ∙ and_none w
 
       same_bound : (w : ℕ) → w / 32 < number → nat_lt (w / 32) (number + 1) ≡ nat_lt (w / 32) number
       same_bound w early = grind (arith, nat_tests)
 
       both_before : (w : ℕ) → w / 32 < number
-          → ((is_within w range && nat_lt (w / 32) (number + 1)) && is_raced clock (stored_among old w) Write) ≡ ((is_within w range && nat_lt (w / 32) number) && is_raced clock (stored_among old w) Write)
-      both_before w early = ap (λ b. (is_within w range && b) && is_raced clock (stored_among old w) Write) (same_bound w early)
+          → ((is_within w range && nat_lt (w / 32) (number + 1)) && is_used clock (known_among old w)) ≡ ((is_within w range && nat_lt (w / 32) number) && is_used clock (known_among old w))
+      both_before w early = ap (λ b. (is_within w range && b) && is_used clock (known_among old w)) (same_bound w early)
 
       past_bound : (w : ℕ) → number < w / 32 → nat_lt (w / 32) (number + 1) ≡ false
       past_bound w late = grind (arith, nat_tests)
 
-      both_none : (w : ℕ) → number < w / 32 → ((is_within w range && nat_lt (w / 32) (number + 1)) && is_raced clock (stored_among old w) Write) ≡ false
-      both_none w late = ap (λ b. (is_within w range && b) && is_raced clock (stored_among old w) Write) (past_bound w late) ∙ and_none w
+      both_none : (w : ℕ) → number < w / 32 → ((is_within w range && nat_lt (w / 32) (number + 1)) && is_used clock (known_among old w)) ≡ false
+      both_none w late = ap (λ b. (is_within w range && b) && is_used clock (known_among old w)) (past_bound w late) ∙ and_none w
 
-      here_else : (w : ℕ) → nat_eq number (w / 32) ≡ false → (is_place_in number lo hi w && is_raced clock (stored_among now w) Write) ≡ false
-      here_else w apart = ap (λ b. (b && (nat_le lo (w % 32) && nat_le (w % 32) hi)) && is_raced clock (stored_among now w) Write) apart
+      here_else : (w : ℕ) → nat_eq number (w / 32) ≡ false → (is_place_in number lo hi w && is_used clock (known_among now w)) ≡ false
+      here_else w apart = ap (λ b. (b && (nat_le lo (w % 32) && nat_le (w % 32) hi)) && is_used clock (known_among now w)) apart
 
       at_bound : (w : ℕ) → number ≡ w / 32 → nat_lt (w / 32) (number + 1) ≡ true
       at_bound w at = grind (arith, nat_tests)
@@ -242,16 +248,16 @@ module _ {A : Type 0} where
       and_true false = refl
 
       both_here : (w : ℕ) → number ≡ w / 32
-          → ((is_within w range && nat_lt (w / 32) (number + 1)) && is_raced clock (stored_among old w) Write) ≡ (is_place_in number lo hi w && is_raced clock (stored_among now w) Write)
+          → ((is_within w range && nat_lt (w / 32) (number + 1)) && is_used clock (known_among old w)) ≡ (is_place_in number lo hi w && is_used clock (known_among now w))
       both_here w at =
-          ap (λ b. b && is_raced clock (stored_among old w) Write) (ap (λ b. is_within w range && b) (at_bound w at) ∙ and_true (is_within w range))
-          ∙ (λ k. (sym (low w at) k && sym (high w at) k) && is_raced clock (sym (as_before w at) k) Write)
-          ∙ ap (λ b. (b && (nat_le lo (w % 32) && nat_le (w % 32) hi)) && is_raced clock (stored_among now w) Write) (sym (at_number w at))
+          ap (λ b. b && is_used clock (known_among old w)) (ap (λ b. is_within w range && b) (at_bound w at) ∙ and_true (is_within w range))
+          ∙ (λ k. (sym (low w at) k && sym (high w at) k) && is_used clock (sym (as_before w at) k))
+          ∙ ap (λ b. (b && (nat_le lo (w % 32) && nat_le (w % 32) hi)) && is_used clock (known_among now w)) (sym (at_number w at))
 
   -- where the blocks before this one were reset
   module _ (old now : AllWords A) (range : PageRange) (clock : ℕ → ℕ) (number lo hi : ℕ) (so_far : AreResetTo old now range number) where
-    as_before : (w : ℕ) → number ≡ w / 32 → stored_among now w ≡ stored_among old w
-    as_before w at = so_far w ∙ ap (λ b. cond b (Accesses untouched) (stored_among old w)) (ap (λ b. is_within w range && b) not_before ∙ no_more (is_within w range))
+    as_before : (w : ℕ) → number ≡ w / 32 → known_among now w ≡ known_among old w
+    as_before w at = so_far w ∙ ap (λ b. cond b (Since []) (known_among old w)) (ap (λ b. is_within w range && b) not_before ∙ no_more (is_within w range))
       where
         not_before : nat_lt (w / 32) number ≡ false
         not_before = grind (arith, nat_tests)
@@ -264,31 +270,31 @@ module _ {A : Type 0} where
         → ((w : ℕ) → number ≡ w / 32 → nat_le lo (w % 32) ≡ nat_le range.lo w)
         → ((w : ℕ) → number ≡ w / 32 → nat_le (w % 32) hi ≡ nat_le w range.hi)
         → IsLowestBelow old range clock number first
-        → IsLowest (λ w. is_place_in number lo hi w && is_raced clock (stored_among now w) Write) second
+        → IsLowest (λ w. is_place_in number lo hi w && is_used clock (known_among now w)) second
         → IsLowestBelow old range clock (number + 1) (option_or first second)
     lowest_next first second low high found more = lowest_more old now range clock number lo hi first second low high as_before found more
 
     -- what is found of a word there was found before
-    pub named_before : (found : Option (ℕ × A)) → IsLowest (λ w. is_place_in number lo hi w && is_raced clock (stored_among now w) Write) (option_map (λ (found : ℕ × A). found.0) found)
-        → IfSome found (λ found. Some found.1 ≡ tag_found clock (stored_among now found.0) Write) → IfSome found (λ found. Some found.1 ≡ tag_found clock (stored_among old found.0) Write)
+    pub named_before : (found : Option (ℕ × A)) → IsLowest (λ w. is_place_in number lo hi w && is_used clock (known_among now w)) (option_map (λ (found : ℕ × A). found.0) found)
+        → IfSome found (λ found. Some found.1 ≡ use_found clock (known_among now found.0)) → IfSome found (λ found. Some found.1 ≡ use_found clock (known_among old found.0))
     named_before None lowest named = tt
-    named_before (Some (w, a)) lowest named = named ∙ ap (λ stored. tag_found clock stored Write) (as_before w (in_number (nat_eq number (w / 32)) refl lowest.0))
+    named_before (Some (w, a)) lowest named = named ∙ ap (λ stored. use_found clock stored) (as_before w (in_number (nat_eq number (w / 32)) refl lowest.0))
       where
-        in_number : (b : Bool) → nat_eq number (w / 32) ≡ b → ((b && (nat_le lo (w % 32) && nat_le (w % 32) hi)) && is_raced clock (stored_among now w) Write) ≡ true → number ≡ w / 32
+        in_number : (b : Bool) → nat_eq number (w / 32) ≡ b → ((b && (nat_le lo (w % 32) && nat_le (w % 32) hi)) && is_used clock (known_among now w)) ≡ true → number ≡ w / 32
         in_number true e is = eqb-true number (w / 32) e
         in_number false e is = cc
 
   pub lowest_end : (old : AllWords A) (range : PageRange) (clock : ℕ → ℕ) (number : ℕ) (found : Option ℕ) → range.hi / 32 + 1 ≤ number
-      → IsLowestBelow old range clock number found → IsLowest (λ w. is_within w range && is_raced clock (stored_among old w) Write) found
+      → IsLowestBelow old range clock number found → IsLowest (λ w. is_within w range && is_used clock (known_among old w)) found
   lowest_end old range clock number found past lowest = by found lowest
     where
       all : (w : ℕ) → (is_within w range && nat_lt (w / 32) number) ≡ is_within w range
       all w = grind (arith, nat_tests)
 
-      same : (w : ℕ) → (is_within w range && is_raced clock (stored_among old w) Write) ≡ ((is_within w range && nat_lt (w / 32) number) && is_raced clock (stored_among old w) Write)
-      same w = ap (λ b. b && is_raced clock (stored_among old w) Write) (sym (all w))
+      same : (w : ℕ) → (is_within w range && is_used clock (known_among old w)) ≡ ((is_within w range && nat_lt (w / 32) number) && is_used clock (known_among old w))
+      same w = ap (λ b. b && is_used clock (known_among old w)) (sym (all w))
 
-      by : (found : Option ℕ) → IsLowestBelow old range clock number found → IsLowest (λ w. is_within w range && is_raced clock (stored_among old w) Write) found
+      by : (found : Option ℕ) → IsLowestBelow old range clock number found → IsLowest (λ w. is_within w range && is_used clock (known_among old w)) found
       by (Some w) lowest = (same w ∙ lowest.0, λ k below. same k ∙ lowest.1 k below)
       by None none = λ w. same w ∙ none w
 

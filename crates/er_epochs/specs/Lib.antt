@@ -1,4 +1,4 @@
 pub mod Epochs
+pub mod Known
 pub mod Words
 pub mod Standing
-pub mod Known

@@ -1,10 +1,11 @@
--- What is stored of all words: the words in blocks of 32, and lists of reads beside some of them.
+-- What is kept of all words: the words in blocks of 32, with the accesses of those that were touched in part, and lists of reads beside some of them.
 use Rattle.std.specs.Prelude.{ℕ, ◌≡◌, ◌<◌, ◌+◌, ◌^◌, ◌/◌, ◌%◌, ◌&&◌, nat_eq, nat_le, Bool, true, false, cond, List, [], slice_index_or, Option, Some, None}
 use Rattle.std.specs.Map.{lookup}
 use Rattle.std.specs.Option.{unwrap_or}
 use Rattle.er_epochs.specs.declared.reads.Tagged.{Tagged}
 use Rattle.er_epochs.specs.declared.word.OrderWord.{OrderWord}
 use Rattle.er_epochs.specs.Epochs.{Stored, Accesses, Told, Readers, Alone, access_in, readers_in, reads_beside}
+use Rattle.er_epochs.specs.Known.{Known, known_of}
 
 -- what a word says: whether a race was reported, its last write, and its reads
 pub record Said (A : Type 0) : Type 0 where
@@ -43,35 +44,55 @@ list_of lists w = unwrap_or (lookup (nat_eq w) lists) []
 abbrev pub stored_beside : {A : Type 0} → WordLists A → ℕ → Said A → Stored A
 stored_beside lists w word = stored_with word (list_of lists w)
 
--- the words of a block
-abbrev pub BlockWords : Type 0 → Type 0
-BlockWords A = List (Said A)
+-- the words of a block, and by the places of those that were touched in part what is known of them
+pub record BlockWords (A : Type 0) : Type 0 where
+  pub words : List (Said A)
+  pub split : List (ℕ × Known A)
 
 -- the word at a place
-abbrev pub word_at : {A : Type 0} → BlockWords A → ℕ → Said A
+abbrev pub word_at : {A : Type 0} → List (Said A) → ℕ → Said A
 word_at words place = slice_index_or words place blank
 
+-- what stands at a place: the word, and what is known of it if it was touched in part
+pub record Slot (A : Type 0) : Type 0 where
+  pub word : Said A
+  pub split : Option (Known A)
+
+abbrev pub slot_at : {A : Type 0} → BlockWords A → ℕ → Slot A
+slot_at block place = record { word = word_at block.words place; split = lookup (nat_eq place) block.split }
+
 -- where there is no block, words say nothing
-abbrev pub word_in_block : {A : Type 0} → Option (BlockWords A) → ℕ → Said A
-word_in_block None place = blank
-word_in_block (Some words) place = word_at words place
+abbrev pub vacant : {A : Type 0} → Slot A
+vacant = record { word = blank; split = None }
+
+abbrev pub slot_in_block : {A : Type 0} → Option (BlockWords A) → ℕ → Slot A
+slot_in_block None place = vacant
+slot_in_block (Some block) place = slot_at block place
 
 -- the blocks that are there, by number
 abbrev pub WordBlocks : Type 0 → Type 0
 WordBlocks A = List (ℕ × BlockWords A)
 
 -- the word of this number
-abbrev pub word_among : {A : Type 0} → WordBlocks A → ℕ → Said A
-word_among blocks w = word_in_block (lookup (nat_eq (w / 32)) blocks) (w % 32)
+abbrev pub slot_among : {A : Type 0} → WordBlocks A → ℕ → Slot A
+slot_among blocks w = slot_in_block (lookup (nat_eq (w / 32)) blocks) (w % 32)
+
+-- what is known of it with the list beside it
+abbrev pub known_with : {A : Type 0} → Slot A → List (Tagged A) → Known A
+known_with slot listed = unwrap_or slot.split (known_of (stored_with slot.word listed))
+
+-- what is known of the word of this number with these lists
+abbrev pub known_beside : {A : Type 0} → WordLists A → ℕ → Slot A → Known A
+known_beside lists w slot = known_with slot (list_of lists w)
 
 -- the blocks and the lists that are there
 pub record AllWords (A : Type 0) : Type 0 where
   pub blocks : WordBlocks A
   pub lists : WordLists A
 
--- what is stored of the word
-unfoldable pub stored_among : {A : Type 0} → AllWords A → ℕ → Stored A
-stored_among all w = stored_beside all.lists w (word_among all.blocks w)
+-- what is known of the word
+unfoldable pub known_among : {A : Type 0} → AllWords A → ℕ → Known A
+known_among all w = known_beside all.lists w (slot_among all.blocks w)
 
 -- the word stands in the block of this number, at one of these places
 abbrev pub is_place_in : ℕ → ℕ → ℕ → ℕ → Bool

@@ -5,10 +5,10 @@ ghost use Rattle.er_order.specs.Following.{is_unordered};
 ghost use Rattle.er_order.specs.Keeping.{IsNoted, first_apart};
 ghost use Rattle.er_clock.specs.Counts.{count_by};
 ghost use Rattle.er_epochs.specs.Epochs.{is_apart, is_replaced, pair_of, readers_in, reads_beside, tag_found, tag_of_first, tagged, IsStoredBy};
-ghost use Rattle.er_epochs.specs.Known.{Since, known_of, touches_of};
+ghost use Rattle.er_epochs.specs.Known.{Since, known_of, accesses_of};
 ghost use Rattle.er_epochs.specs.Words.{list_of, said, stored_beside};
 
-use crate::touches::Touches;
+use crate::byte_accesses::ByteAccesses;
 use crate::word::{NONE, OrderWord, SEVERAL};
 use er_clock::{Epoch, ThreadClock};
 use er_event::{Kind, ThreadId};
@@ -93,14 +93,14 @@ impl<A: Copy> Reads<A> {
     }
 
     /// This last write and the reads, as accesses of the whole word. `AllocError`: memory was refused.
-    pub(crate) fn touches(
+    pub(crate) fn byte_accesses(
         &self,
         write: Option<Tagged<A>>,
         alloc: Global,
-    ) -> Result<Touches<A>, AllocError>
-        ensures { IfOk result (λ touches. touches ≡ Since (touches_of (record { write = write; reads = self.now }))) }
+    ) -> Result<ByteAccesses<A>, AllocError>
+        ensures { IfOk result (λ accesses. accesses ≡ Since (accesses_of (record { write = write; reads = self.now }))) }
     {
-        Touches::of_whole(write, &self.reads, alloc)
+        ByteAccesses::of_whole(write, &self.reads, alloc)
     }
 
     /// Notes a read in the clock's epoch. `AllocError`: memory was refused, and the reads are as they were.
@@ -211,12 +211,16 @@ impl<A: Copy> ReadLists<A> {
     }
 
     /// The accesses of the word of this number, as accesses of the whole word. `AllocError`: memory was refused.
-    pub(crate) fn touches(&self, number: u64, word: OrderWord<A>) -> Result<Touches<A>, AllocError>
-        ensures { IfOk result (λ touches. touches ≡ known_of (stored_beside self.now number (said word))) }
+    pub(crate) fn byte_accesses(
+        &self,
+        number: u64,
+        word: OrderWord<A>,
+    ) -> Result<ByteAccesses<A>, AllocError>
+        ensures { IfOk result (λ accesses. accesses ≡ known_of (stored_beside self.now number (said word))) }
     {
         match index_of(&self.lists, word.hint(), number) {
-            Some(index) => word.touches(&self.lists[index], self.alloc),
-            None => word.touches(&Reads::new(self.alloc), self.alloc),
+            Some(index) => word.byte_accesses(&self.lists[index], self.alloc),
+            None => word.byte_accesses(&Reads::new(self.alloc), self.alloc),
         }
     }
 

@@ -9,8 +9,8 @@ ghost use Rattle.er_epochs.specs.Epochs.{access_in, is_raced, reads_beside, read
 ghost use Rattle.er_epochs.specs.Known.{known_of};
 ghost use Rattle.er_epochs.specs.Words.{said, blank, stored_in, IsButForTags};
 
+use crate::byte_accesses::ByteAccesses;
 use crate::reads::{Reads, Tagged, access_by};
-use crate::touches::Touches;
 use er_clock::{Epoch, ThreadClock};
 use er_event::{Kind, ThreadId};
 use er_keys::HashKeys;
@@ -200,15 +200,19 @@ impl<A: Copy> OrderWord<A> {
     }
 
     /// Its accesses, with the list of reads, as accesses of the whole word. `AllocError`: memory was refused.
-    pub(crate) fn touches(self, listed: &Reads<A>, alloc: Global) -> Result<Touches<A>, AllocError>
-        ensures { IfOk result (λ touches. touches ≡ known_of (stored_in self listed.now)) }
+    pub(crate) fn byte_accesses(
+        self,
+        listed: &Reads<A>,
+        alloc: Global,
+    ) -> Result<ByteAccesses<A>, AllocError>
+        ensures { IfOk result (λ accesses. accesses ≡ known_of (stored_in self listed.now)) }
     {
         if self.writer == TOLD {
-            return Ok(Touches::told(alloc));
+            return Ok(ByteAccesses::told(alloc));
         }
         let mut reads = listed.again(alloc)?;
         reads.gather(self.reader, self.read_count, self.read_tag)?;
-        reads.touches(self.last_write(), alloc)
+        reads.byte_accesses(self.last_write(), alloc)
     }
 
     // The last write.

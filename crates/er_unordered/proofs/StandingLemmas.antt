@@ -40,7 +40,9 @@ use Rattle.er_clock.specs.declared.clock.Limit.TheVariants.{Threads}
 use Rattle.er_clock.specs.Crowding.{IsBeyond, crowds, crowds_by}
 use Rattle.er_clock.specs.Standing.{ClockMaps, counts, Moves, StandsForClocksOf}
 use Rattle.er_epochs.specs.Epochs.{tagged}
-use Rattle.er_epochs.specs.Known.{AllBytes, Known, FollowsBytes, IsKnownBy, IsKnownMoved, ServesAs, finds, known_among, known_at, query_of, reuse_query}
+use Rattle.er_epochs.specs.Known.{Known, IsKnownBy, finds, query_of, reuse_query}
+use Rattle.er_epochs.specs.Standing.{FollowsBytes, IsKnownMoved, ServesAs, known_at}
+use Rattle.er_epochs.specs.Words.{AllWords, known_among}
 use Rattle.er_epochs.specs.Words.{IsLowest}
 use Rattle.er_epochs.proofs.KnownAnswers.{access-answered, access-named, reuse-answered, reuse-named, other-answered}
 use Rattle.er_epochs.proofs.KnownSteps.{follows-bytes, known-front}
@@ -111,7 +113,7 @@ ignored before bytes tag t w kind ignores =
     changes before before bytes tag t (Access kind w 0) refl (held_same before t) (clocks_same before.clocks t Local refl) refl (λ v. rw ignores refl)
 
 -- one that is
-pub accessed : {A : Type 0} (before : Ordered A) (words : AllBytes A) (bytes : Bytes) (tag : A) (t w : ℕ) (kind : Kind) (clock : ℕ × Counts) → nat_lt 0 (holding before t).depth ≡ false →
+pub accessed : {A : Type 0} (before : Ordered A) (words : AllWords A) (bytes : Bytes) (tag : A) (t w : ℕ) (kind : Kind) (clock : ℕ × Counts) → nat_lt 0 (holding before t).depth ≡ false →
     clock.0 ≡ t → ((u : ℕ) → count_by clock u ≡ clock_of before t u) →
     IsKnownBy (count_by clock) (known_in before w) (record { access = tagged clock.0 (count_by clock clock.0) tag; kind = kind; bytes = bytes }) (known_among words w) → ((v : ℕ) → (w == v) ≡ false → known_among words v ≡ known_in before v) →
     Changes before (record { thread = t; event = Access kind w 0 }) bytes tag (record { holders = before.holders; clocks = before.clocks; words = words })

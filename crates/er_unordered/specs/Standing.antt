@@ -21,14 +21,16 @@ use Rattle.er_order.specs.declared.bytes.Bytes.{Bytes}
 use Rattle.er_clock.specs.Crowding.{IsBeyond, crowds}
 use Rattle.er_clock.specs.Standing.{ClockMaps, counts, SameCounts, Moves, StandsForClocksOf}
 use Rattle.er_clock.specs.declared.clock.Limit.{Limit}
-use Rattle.er_epochs.specs.Known.{AllBytes, Known, FollowsBytes, IsKnownMoved, finds, known_among, query_of, reuse_query}
+use Rattle.er_epochs.specs.Known.{Known, finds, query_of, reuse_query}
+use Rattle.er_epochs.specs.Standing.{FollowsBytes, IsKnownMoved}
+use Rattle.er_epochs.specs.Words.{AllWords, known_among}
 use Rattle.er_unordered.specs.declared.machine.OrderAnswer.{OrderAnswer}
 
 -- the threads that took something, with their holdings; the clocks; and what is kept of the words
 pub record Ordered (A : Type 0) : Type 0 where
   pub holders : List (ℕ × Holdings)
   pub clocks : ClockMaps
-  pub words : AllBytes A
+  pub words : AllWords A
 
 -- thread t's holdings
 abbrev pub holding : {A : Type 0} → Ordered A → ℕ → Holdings

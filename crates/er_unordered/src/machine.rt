@@ -12,7 +12,7 @@ ghost use Rattle.er_order.specs.declared.bytes.Bytes.{Bytes as Touching};
 ghost use Rattle.er_replay.specs.Wants.{wants_memory};
 
 use er_clock::{Clocks, NoTick};
-use er_epochs::OrderBytes;
+use er_epochs::OrderWords;
 use er_event::{Event, Kind, LockId, Mode, PageRange, Refusal, Reply, Step, ThreadId, Word};
 use er_held::Held;
 use er_keys::HashKeys;
@@ -30,7 +30,7 @@ const AHEAD: usize = 16;
 pub struct OrderMachine<A> {
     holders: Threads,
     clocks: Clocks,
-    words: OrderBytes<A>,
+    words: OrderWords<A>,
 }
 
 /// What a step is answered.
@@ -60,7 +60,7 @@ impl<A: Copy> OrderMachine<A> {
         OrderMachine {
             holders: Threads::new(alloc, keys),
             clocks: Clocks::keyed(alloc, keys),
-            words: OrderBytes::keyed(alloc, keys),
+            words: OrderWords::keyed(alloc, keys),
         }
     }
 

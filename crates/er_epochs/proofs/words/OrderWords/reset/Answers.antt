@@ -1,11 +1,9 @@
 use Rattle.std.proofs.Common.{◌≡◌, ℕ, ◌∙◌, ◌+◌, ◌/◌, ◌≤◌, Option, Some, IfSome, ap, sym, subst, arith}
 use Rattle.std.specs.Option.{option_map}
-use Rattle.er_event.specs.declared.steps.Kind.TheVariants.{Write}
 use Rattle.er_clock.specs.Counts.{count_by}
-use Rattle.er_epochs.specs.Epochs.{tag_found}
-use Rattle.er_epochs.specs.Words.{stored_among}
+use Rattle.er_epochs.specs.Words.{known_among}
 use Rattle.er_epochs.proofs.Blocks.{reset-start, reset-next, reset-end}
-use Rattle.er_epochs.proofs.Lowest.{IsLowestBelow, all_or, found_or, lowest_start, lowest_next, lowest_end, named_before}
+use Rattle.er_epochs.proofs.Lowest.{use_found, IsLowestBelow, all_or, found_or, lowest_start, lowest_next, lowest_end, named_before}
 use Rattle.er_epochs.proofs.words.OrderWords.reset.Goals as goal
 
 pub loop-number-init : goal.loop-number-init
@@ -26,8 +24,8 @@ loop-number-preserved g c = record {
       (lowest_next c.args.self.now c.loop-number.self c.args.range (count_by c.args.clock.now) c.loop-number.number c.first_in.result c.last_in.result c.loop-number.invariant.reset
       (option_map (λ (found : ℕ × g.row.A.Denot). found.0) c.loop-number.found) (option_map (λ (found : ℕ × g.row.A.Denot). found.0) c.empty-next.result) c.first_in.ensures c.last_in.ensures.place c.loop-number.invariant.in_use c.empty-next.ensures.in_use);
   named =
-      subst (λ (o : Option (ℕ × g.row.A.Denot)). IfSome o (λ found. Some found.1 ≡ tag_found (count_by c.args.clock.now) (stored_among c.args.self.now found.0) Write)) (sym c.or-found.ensures)
-      (all_or (λ found. Some found.1 ≡ tag_found (count_by c.args.clock.now) (stored_among c.args.self.now found.0) Write) c.loop-number.found c.empty-next.result c.loop-number.invariant.named
+      subst (λ (o : Option (ℕ × g.row.A.Denot)). IfSome o (λ found. Some found.1 ≡ use_found (count_by c.args.clock.now) (known_among c.args.self.now found.0))) (sym c.or-found.ensures)
+      (all_or (λ found. Some found.1 ≡ use_found (count_by c.args.clock.now) (known_among c.args.self.now found.0)) c.loop-number.found c.empty-next.result c.loop-number.invariant.named
       (named_before c.args.self.now c.loop-number.self c.args.range (count_by c.args.clock.now) c.loop-number.number c.first_in.result c.last_in.result c.loop-number.invariant.reset
       c.empty-next.result c.empty-next.ensures.in_use c.empty-next.ensures.named));
 }

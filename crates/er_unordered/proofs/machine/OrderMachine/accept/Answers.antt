@@ -1,7 +1,7 @@
 use Rattle.std.proofs.Common.{◌≡◌, None, true, refl, ap, sym, subst, rules}
 use Rattle.er_clock.proofs.Outcomes.{on_both}
 use Rattle.er_clock.specs.Crowding.{crowds_by}
-use Rattle.er_epochs.specs.Known.{IsKnownMoved}
+use Rattle.er_epochs.specs.Standing.{IsKnownMoved}
 use Rattle.er_event.specs.declared.steps.Event.TheVariants.{Show, Sync}
 use Rattle.er_model.specs.Words.{Mark}
 use Rattle.er_model.specs.Holdings.{refused_by}

@@ -1,0 +1,10 @@
+use Rattle.std.proofs.Common.{◌∙◌, ap, map, ◌++◌}
+use Rattle.er_event.specs.declared.steps.Kind.TheVariants.{Read}
+use Rattle.er_epochs.specs.Known.{Since, whole_access}
+use Rattle.er_epochs.proofs.KnownLemmas.{touches-turned}
+use Rattle.er_epochs.proofs.byte_accesses.ByteAccesses.of_whole.Goals as goal
+
+pub returns : goal.returns
+returns g c =
+    ap Since (touches-turned c.args.write c.args.reads.now.items c.add_reads.new.accesses.items
+    (c.in_ok-add_reads.ensures ∙ ap (λ xs. xs ++ map (whole_access Read) c.args.reads.now.items) c.in_ok-accesses.ensures))
