@@ -1,7 +1,8 @@
 #!/usr/bin/env python3
 """Texts that were made to take long, or to take much memory: those of `bench/hostile`.
 
-`tests/run` calls `answers`, `costs`, `barriers`, `rules`, `patterns`, `turns`, `second_looks` and `binary_traces`. By itself this file runs all tests.
+`tests/run` calls `answers`, `costs`, `barriers`, `rules`, `patterns`, `turns`, `second_looks`, `binary_traces` and `split_words`. By itself this file runs all
+tests.
 
 - each kind is answered as the references answer it: by locks and by happens-before, with reasons, by several workers, and also if the system gives no
   random bytes to hash by
@@ -14,6 +15,7 @@
 - a second look at a file, for the places of reasons, ends behind the last line that a reason names
 - as many rules of words as there are reuses, none of which takes a reuse, cost in the same way
 - a binary trace of accesses and lock events takes at most 1.3 times the instructions of its text, by each analysis. As text first it would take 1.7 times
+- where accesses touch a part of their words, reuses take by happens-before at most 1.2 times the instructions of reuses where they touch whole words
 - a text that is four times as long takes at most 5.5 times the instructions, as valgrind counts them. What compares each with all others takes up to 16
   times as many, and what keeps all for each does so too
 """
@@ -52,6 +54,8 @@ FREED = 2000
 PATTERNED, MOST_FOR_TWO_BYTES = 500, 16
 # Turns of the threads of a binary trace, each of which takes a lock, writes 8 bytes, reads a word and gives the lock back.
 BINARY_TURNS = 1000
+# Pages with a word that is touched in part.
+SPLIT = 640
 # Lines that no reason names.
 SEEN_ONCE = 20_000
 # What is replayed of each kind: how many there are in the shorter text, and by which options.
@@ -273,6 +277,25 @@ def binary_traces(record):
         record(f"{name}: instructions", of_data <= 1.3 * of_text, f"{of_data}, and {of_text} of its text")
 
 
+def split_words(record):
+    """What a reuse takes is in proportion to the blocks of its range and to the words in it that were touched in part, wherever others are."""
+    for options in (HAPPENS_BEFORE, [*HAPPENS_BEFORE, *EXPLAIN]):
+        counts, sizes = [], []
+        for count in (SPLIT, LONGER * SPLIT):
+            parts, whole = made("split", count), made("split", count, "whole")
+            name, text = f"hostile: {count} split words {' '.join(options)}", trace4.text_of(parts)
+            wanted = b"steps %d, unordered 0, suppressed 0, refused 0\n" % (3 * count + count // 32 * 1024)
+            for data in (parts, whole):
+                found = run([*options, "-"], data, preexec_fn=functools.partial(limited, len(text), options))
+                record(name, found == (wanted, b"", 0), f"{found}"[:300])
+            of_parts, of_whole = instructions([*options, "-"], parts), instructions([*options, "-"], whole)
+            record(f"{name}: instructions", of_parts <= 1.2 * of_whole, f"{of_parts}, and {of_whole} where whole words are touched")
+            counts.append(of_parts)
+            sizes.append(len(parts))
+        longer = sizes[1] / sizes[0] / LONGER
+        record(f"{name}: growth", counts[1] <= MOST_TIMES * longer * counts[0], f"{counts}, {counts[1] / counts[0] / longer:.2f} times as many")
+
+
 def tests(record, preloaded):
     answers(record, preloaded)
     costs(record)
@@ -283,6 +306,7 @@ def tests(record, preloaded):
     long_reuses(record)
     second_looks(record)
     binary_traces(record)
+    split_words(record)
 
 
 if __name__ == "__main__":
