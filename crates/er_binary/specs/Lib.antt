@@ -7,3 +7,4 @@ pub mod Meaning
 pub mod States
 pub mod Texts
 pub mod Touches
+pub mod ByText

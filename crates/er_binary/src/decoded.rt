@@ -55,7 +55,8 @@ impl<R> Decoded<R> {
     ghost use Rattle.er_binary.specs.Decoded.{IsFresh, TouchesFresh, is_binary, is_noting, names_of, source_of, to_come, to_touch};
     ghost use Rattle.er_lines.specs.Touches.{HasHanded};
 
-    /// A reader of what the other one gives. It notes nothing of what accesses touch: each counts as touching its whole word.
+    /// A reader of what the other one gives. It notes nothing of what accesses touch: each counts as touching its whole word, until
+    /// [`note_touches`](Decoded::note_touches) is called.
     pub fn new(alloc: Global, inner: R) -> Decoded<R>
         ensures source { source_of result ≡ inner }
         ensures fresh { IsFresh result }
@@ -63,30 +64,19 @@ impl<R> Decoded<R> {
         ensures noting { is_noting result ≡ false }
         ensures touches { TouchesFresh result }
     {
-        Decoded::with_notes(alloc, inner, false)
-    }
-
-    /// The same, which also notes what accesses touch that don't touch their whole word, if that is asked for. What is noted is to be handed out
-    /// now and then: see [`hand_out`](Decoded::hand_out).
-    pub fn with_notes(alloc: Global, inner: R, notes: bool) -> Decoded<R>
-        ensures source { source_of result ≡ inner }
-        ensures fresh { IsFresh result }
-        ensures form { is_binary result ≡ false }
-        ensures noting { is_noting result ≡ notes }
-        ensures touches { TouchesFresh result }
-    {
         Decoded {
             inner,
             alloc,
             form: Form::Unknown,
-            is_noting: notes,
+            is_noting: false,
             first: [0; 8],
             held: 0,
             given: 0,
         }
     }
 
-    /// Has what accesses touch noted, unless it has read the beginning of a binary trace: then all stays as it is.
+    /// Has what accesses touch noted that don't touch their whole word, unless it has read the beginning of a binary trace: then all stays as it
+    /// is. What is noted is to be handed out now and then: see [`hand_out`](Decoded::hand_out).
     pub fn note_touches(&mut self)
         ensures noting { is_noting self.new ≡ cond (is_binary self.old) (is_noting self.old) true }
         ensures text { (bytes : List ℕ) → to_come self.new bytes ≡ to_come self.old bytes }

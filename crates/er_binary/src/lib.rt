@@ -5,7 +5,7 @@
 //!
 //! What it promises, by the names of clauses: what a new `Decoded` gives is the text that the bytes of its reader mean (`fresh`), in whatever
 //! pieces they come and it is asked for. The text of a damaged trace ends in a line that says at which byte the damage is. A [`Listener`] hears the
-//! records that the text is made of. One that is asked to notes what accesses touch that don't touch their whole word (`with_notes`).
+//! records that the text is made of. One that is asked to notes what accesses touch that don't touch their whole word (`note_touches`).
 //!
 //! ```
 //! let mut reader = Decoded::new(alloc, b"eraser trace 1\n".as_slice());

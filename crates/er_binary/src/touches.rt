@@ -132,18 +132,10 @@ impl Notes {
         ensures line { result ≡ true → self.old.is_on ≡ true → self.new.line ≡ passed_by self.old.line (said_by state.now says).lines }
         ensures refused { result ≡ false → (self.new.touches.items ≡ self.old.touches.items) × (self.new.line ≡ self.old.line) }
     {
-        !self.is_on || self.note_said(state.said_by(says))
-    }
-
-    // The same of what a record says.
-    fn note_said(&mut self, said: Said) -> bool
-        requires few { said.words ≤ 5 }
-        requires below { said.address + said.size < 2 ^ 63 }
-        ensures on { self.new.is_on ≡ self.old.is_on }
-        ensures touches { result ≡ true → self.old.is_on ≡ true → self.new.touches.items ≡ self.old.touches.items ++ touches_said self.old.line said }
-        ensures line { result ≡ true → self.old.is_on ≡ true → self.new.line ≡ passed_by self.old.line said.lines }
-        ensures refused { result ≡ false → (self.new.touches.items ≡ self.old.touches.items) × (self.new.line ≡ self.old.line) }
-    {
+        if !self.is_on {
+            return true;
+        }
+        let said = state.said_by(says);
         match self.make_room() {
             Ok(()) => {
                 self.follow(said);

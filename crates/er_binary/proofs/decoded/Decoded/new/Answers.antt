@@ -1,6 +1,6 @@
 use Rattle.std.proofs.Common.{refl}
 use Rattle.er_binary.specs.Decoded.{to_come, to_touch}
-use Rattle.er_binary.proofs.decoded.Decoded.with_notes.Goals as goal
+use Rattle.er_binary.proofs.decoded.Decoded.new.Goals as goal
 
 pub returns-clause-fresh : goal.returns-clause-fresh
 unfolding to_come
