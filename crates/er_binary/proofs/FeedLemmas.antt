@@ -1,5 +1,5 @@
 -- The line feeds of the text of a record.
-use Rattle.std.proofs.Common.{◌≡◌, ◌==◌, ◌&&◌, ◌||◌, ◌⊎◌, ℕ, zero, suc, ◌+◌, ◌-◌, ◌*◌, ◌/◌, ◌%◌, ◌<◌, ◌≤◌, Bool, true, false, not, cond, nat_le, nat_lt, List, [], ◌∷◌, ◌++◌, count_by, codes, decimal, drop, length, take, unwrap_or, Option, Some, None, IfSome, if◌then◌else◌, refl, sym, ap, ◌∙◌, arith, inl, inr}
+use Rattle.std.proofs.Common.{◌≡◌, ◌==◌, ◌&&◌, ◌||◌, ◌⊎◌, ℕ, zero, suc, ◌+◌, ◌-◌, ◌*◌, ◌/◌, ◌%◌, ◌<◌, ◌≤◌, Bool, true, false, not, cond, nat_le, nat_lt, List, [], ◌∷◌, ◌++◌, count_by, codes, decimal, drop, length, take, unwrap_or, Option, Some, None, IfSome, if◌then◌else◌, refl, sym, ap, ◌∙◌, arith, drop-drop, inl, inr}
 use Rattle.std.specs.Char.{digit_char}
 use Rattle.std.specs.Fmt.{digit_glyph, digits, digits_onto}
 use Rattle.std.specs.List.{list_all}
@@ -16,7 +16,7 @@ use Rattle.er_binary.specs.Meaning.{Taken, take_record, take_said}
 use Rattle.er_binary.specs.Nodes.{node_at}
 use Rattle.er_binary.specs.Numbers.{address_word, name_at, number}
 use Rattle.er_binary.specs.Records.{body_len, record_at}
-use Rattle.er_binary.specs.States.{address_of, after, is_access, is_event, is_note_byte, is_place, is_right, may_come, node_of}
+use Rattle.er_binary.specs.States.{address_of, after, is_access, is_note_byte, is_place, is_right, may_come, node_of}
 use Rattle.er_binary.specs.Texts.{access_lines, access_verb, feed, lost_text, operand, site, text_of, thread_does, verb, word, words_of}
 use Rattle.er_binary.specs.Touches.{lines_of}
 use Rattle.er_binary.specs.declared.records.Access.{Access}
@@ -39,7 +39,7 @@ feeds_two a b = sum_by-append (λ x. cond (is_end x) 1 0) a b
 
 -- another byte in front
 other_first : (byte : ℕ) (bytes : List ℕ) → is_end byte ≡ false → feeds (byte ∷ bytes) ≡ feeds bytes
-other_first byte bytes other = feeds_one byte bytes ∙ ap (λ (b : Bool). cond b 1 0 + feeds bytes) other
+other_first byte bytes other = let same : feeds (byte ∷ bytes) ≡ 0 + feeds bytes = feeds_one byte bytes ∙ ap (λ (b : Bool). cond b 1 0 + feeds bytes) other in omega (arith, same)
 
 -- bytes that pass a test that a line feed doesn't pass
 none_passed : (p : ℕ → Bool) (bytes : List ℕ) → ((b : ℕ) → p b ≡ true → is_end b ≡ false) → list_all p bytes ≡ true → feeds bytes ≡ 0
@@ -118,13 +118,11 @@ does_feeds s v named none = two_none (name_at s.threads (unwrap_or s.thread 0)) 
 site_feeds : (s : State) (node : ℕ) → AreNamed s → feeds (site s node) ≡ 0
 site_feeds s node named =
     let place = (node_at s.nodes (node_at s.nodes node).shown).place in
-    either_feeds (node == 0) [] (word (name_at s.places place)) 0 refl (word_feeds _ (at_feeds is_place s.places place place_feeds named.2))
+    either_feeds (node == 0) [] (word (name_at s.places place)) 0 refl (word_feeds (name_at s.places place) (at_feeds is_place s.places place place_feeds named.2))
 
 -- a line
 line_feeds : (a b : List ℕ) → feeds a ≡ 0 → feeds b ≡ 0 → feeds (a ++ b ++ feed) ≡ 1
-line_feeds a b one two =
-    let last : feeds feed ≡ 1 = refl in
-    omega (arith, feeds_two a (b ++ feed), feeds_two b feed, one, two, last)
+line_feeds a b one two = feeds_two (a ++ b) feed ∙ ap (λ (n : ℕ). n + 1) (two_none a b one two)
 
 -- an access has one for each word
 words_feeds : (s : State) (v : List ℕ) (node first count : ℕ) → AreNamed s → feeds v ≡ 0 → feeds (access_lines s v node first count) ≡ count
@@ -134,8 +132,10 @@ words_feeds s v node first (suc count) named none =
     let does = thread_does s v in
     let address = address_word (4 * first) in
     let rest = access_lines s v node (first + 1) count in
-    let behind : feeds (address ++ site s node ++ feed) ≡ 1 = line_feeds address (site s node) (address_feeds (4 * first)) (site_feeds s node named) in
-    omega (arith, feeds_two (does ++ address ++ site s node ++ feed) rest, feeds_two does (address ++ site s node ++ feed), behind, does_feeds s v named none, words_feeds s v node (first + 1) count named none)
+    let front : feeds (does ++ address) ≡ 0 = two_none does address (does_feeds s v named none) (address_feeds (4 * first)) in
+    let line : feeds (does ++ address ++ site s node ++ feed) ≡ 1 = line_feeds (does ++ address) (site s node) front (site_feeds s node named) in
+    let all : feeds ((does ++ address ++ site s node ++ feed) ++ rest) ≡ feeds (does ++ address ++ site s node ++ feed) + feeds rest = feeds_two (does ++ address ++ site s node ++ feed) rest in
+    omega (arith, all, line, words_feeds s v node (first + 1) count named none)
 
 verb_feeds : (writes : Bool) → feeds (if writes then codes "write" else codes "read") ≡ 0
 verb_feeds true = refl
@@ -146,14 +146,15 @@ event_feeds : (s : State) (v behind : List ℕ) → AreNamed s → feeds v ≡ 0
 event_feeds s v behind named none other = line_feeds (thread_does s v) behind (does_feeds s v named none) other
 
 lock_event : (s : State) (v : List ℕ) (n : ℕ) → AreNamed s → feeds v ≡ 0 → feeds (thread_does s v ++ word (name_at s.locks n) ++ feed) ≡ 1
-lock_event s v n named none = event_feeds s v (word (name_at s.locks n)) named none (word_feeds _ (at_feeds is_lock_name s.locks n lock_feeds named.1))
+lock_event s v n named none = event_feeds s v (word (name_at s.locks n)) named none (word_feeds (name_at s.locks n) (at_feeds is_lock_name s.locks n lock_feeds named.1))
 
 thread_event : (s : State) (v : List ℕ) (n : ℕ) → AreNamed s → feeds v ≡ 0 → feeds (thread_does s v ++ word (name_at s.threads n) ++ feed) ≡ 1
-thread_event s v n named none = event_feeds s v (word (name_at s.threads n)) named none (word_feeds _ (at_feeds is_name s.threads n name_feeds named.0))
+thread_event s v n named none = event_feeds s v (word (name_at s.threads n)) named none (word_feeds (name_at s.threads n) (at_feeds is_name s.threads n name_feeds named.0))
 
 reuse_event : (s : State) (n : ℕ) (body : List ℕ) → AreNamed s → feeds (thread_does s (codes "reuse") ++ (address_word (number body) ++ word (decimal n) ++ site s s.node) ++ feed) ≡ 1
 reuse_event s n body named =
-    event_feeds s (codes "reuse") _ named refl (two_none (address_word (number body)) _ (address_feeds (number body)) (two_none (word (decimal n)) (site s s.node) (word_feeds (decimal n) (decimal_feeds n)) (site_feeds s s.node named)))
+    let front = two_none (address_word (number body)) (word (decimal n)) (address_feeds (number body)) (word_feeds (decimal n) (decimal_feeds n)) in
+    event_feeds s (codes "reuse") (address_word (number body) ++ word (decimal n) ++ site s s.node) named refl (two_none (address_word (number body) ++ word (decimal n)) (site s s.node) front (site_feeds s s.node named))
 
 note_line : (body : List ℕ) → list_all is_note_byte body ≡ true → feeds (codes "# " ++ body ++ feed) ≡ 1
 note_line body are = line_feeds (codes "# ") body refl (none_passed is_note_byte body note_other are)
@@ -213,17 +214,25 @@ other_lined s k n len body behind t named right (inl same) text state lines = re
 other_lined s k n len body behind t named right (inr is) text state lines =
     record { named = rw state (after_named s k n body behind right named); lines = inr (ap (λ (u : State). u.ended) (state ∙ ap (λ (l : Kind). after s l n body) is.0), is.1) }
 
-said_lined : (s : State) (len : ℕ) (rest : List ℕ) (r : Record) → AreNamed s → IfSome (take_said s len rest r) (λ t. IsLined t (drop (t.len - len) rest))
-said_lined s len rest (said.Access a) named = some_if _ (is_access s a) _ (λ may. record {
+said_lined : (s : State) (len : ℕ) (all : List ℕ) (r : Record) → AreNamed s → IfSome (take_said s len (drop len all) r) (λ t. IsLined t (drop t.len all))
+said_lined s len all (said.Access a) named = some_if _ (is_access s a) _ (λ may. record {
   named = named;
   lines = inl (words_feeds s (access_verb a) (node_of s a) (address_of s a / 4) (words_of (address_of s a) a.size) named (verb_feeds a.writes));
 })
-said_lined s len rest (said.Other k n) named =
+said_lined s len all (said.Other k n) named =
+    let rest = drop len all in
     let size = body_len k n in
     let body = take size rest in
     let behind = drop size rest in
     none_if _ (nat_lt (length rest) size || not (may_come s k n body behind)) _ (λ may.
     let comes = or_false (nat_lt (length rest) size) (may_come s k n body behind) may in
     let right = (and_parts _ (is_right s k n body behind) comes).1 in
-    let more : len + size - len ≡ size = omega arith in
-    rw more (other_lined s k n len body behind _ named right (kind_counted s k n body behind named right) refl refl refl))
+    rw (← drop-drop size len all) (other_lined s k n len body behind _ named right (kind_counted s k n body behind named right) refl refl refl))
+
+head_lined : (s : State) (all : List ℕ) (o : Option Head) → AreNamed s → IfSome (option_and_then (λ head. take_said s head.len (drop head.len all) head.says) o) (λ t. IsLined t (drop t.len all))
+head_lined s all None named = tt
+head_lined s all (Some head) named = said_lined s head.len all head.says named
+
+pub record_lined : (s : State) (all : List ℕ) → AreNamed s → IfSome (take_record s all) (λ t. IsLined t (drop t.len all))
+unfolding take_record
+record_lined s all named = head_lined s all (record_at all) named

@@ -4,10 +4,12 @@ pub mod HexLemmas
 pub mod LaterLaws
 pub mod LineLemmas
 pub mod DecoderLaws
+pub mod FeedLemmas
 pub mod FillLemmas
 pub mod MeaningLaws
 pub mod NameLemmas
 pub mod NotesLaws
+pub mod NumberedLaws
 pub mod NumberLemmas
 pub mod TakingLaws
 pub mod TextLemmas

@@ -1,5 +1,6 @@
-//! The law of what accesses touch: the function does nothing, and its contract is proved of the definitions in `specs/`.
-ghost use Rattle.std.specs.Prelude.{◌+◌, ◌*◌, ◌/◌, ◌<◌, ◌≤◌, ◌↔◌, ℕ, List};
+//! Laws of what accesses touch: the functions do nothing, and their contracts are proved of the definitions in `specs/`.
+ghost use Rattle.std.specs.Prelude.{◌≡◌, ◌+◌, ◌*◌, ◌/◌, ◌<◌, ◌≤◌, ◌↔◌, ℕ, List};
+ghost use Rattle.er_binary.specs.ByText.{touches_by_text};
 ghost use Rattle.er_binary.specs.Meaning.{touches};
 ghost use Rattle.er_binary.specs.States.{address_of};
 ghost use Rattle.er_binary.specs.Texts.{words_of};
@@ -16,4 +17,9 @@ pub fn a_touch_says_which_bytes_of_a_word()
         ((touch.first ≤ i) × (i ≤ touch.last)) ↔ ((address_of s a ≤ byte) × (byte < address_of s a + a.size)) }
     ensures words { (bytes : List ℕ) → AreOfWords (touches bytes) }
     ensures order { (bytes : List ℕ) → AreInOrder (touches bytes) }
+{}
+
+/// What is said of a line of a trace names it by a number that is one more than the line feeds before it in the text, as far as lines are counted.
+pub fn a_line_has_the_number_of_the_line_feeds_before_it()
+    ensures { (bytes : List ℕ) → touches bytes ≡ touches_by_text bytes }
 {}
