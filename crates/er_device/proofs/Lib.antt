@@ -1,3 +1,1 @@
 pub mod WrittenLemmas
-pub mod PrefixLemmas
-pub mod ReadLemmas

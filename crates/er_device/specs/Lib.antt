@@ -1,4 +1,1 @@
 pub mod Device
-pub mod Prefix
-pub mod Keeping
-pub mod Inner

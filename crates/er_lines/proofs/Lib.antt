@@ -13,3 +13,5 @@ pub mod SpelledLemmas
 pub mod SaidLemmas
 pub mod ReadingLaws
 pub mod ReadyLaws
+pub mod PrefixLemmas
+pub mod PrefixReads

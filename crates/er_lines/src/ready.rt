@@ -125,6 +125,10 @@ impl<R: Read> Shortcut<R> for ByText {
     }
 }
 
+/// Takes no line either, and hands out what the reader knows of accesses: a [`Prefix`](crate::Prefix), a [`Keeping`](crate::Keeping) or what was kept.
+#[derive(Clone, Copy)]
+pub struct AsText;
+
 /// How many bytes the text of a line takes, its LF included, by its verb and its names.
 #[inline(always)]
 pub fn ready_width(verb: ReadyVerb, address: u64, thread: &[u8], name: &[u8]) -> u64

@@ -133,10 +133,6 @@ pub record IsOutput {F : Type 0} (remaining : F → Option (List ℕ)) (replay :
   pub first : KeepFirst replay.max_races found left
   pub shown : AreShown remaining replay names rules left bytes
 
--- what the accesses of a trace touch in a replay: of one that is kept for a second look, whole words
-abbrev pub touches_in : Replay → Option (List Touch) → Option (List Touch)
-touches_in replay touches = cond replay.until_fault (Some []) touches
-
 -- how many accesses and reuses a report by happens-before has
 abbrev pub races_in : Option Report → ℕ
 races_in None = 0

@@ -1,5 +1,5 @@
 //! One command line, run over a reader and its writers.
-ghost use Rattle.std.specs.Prelude.{◌≡◌, ◌≤◌, ◌^◌, ◌||◌, ℕ, Bool, List, Option, [], false, true, codes, IfOk, IfErr, IfSome, IsOk, ◌&&◌, not};
+ghost use Rattle.std.specs.Prelude.{◌≡◌, ◌≤◌, ◌^◌, ◌||◌, ℕ, Bool, List, Option, [], false, true, codes, IfOk, IfErr, IfSome, IsOk};
 ghost use Rattle.std.specs.Io.KnownBytes.{Keeps};
 ghost use Rattle.er_binary.specs.Decoded.{IsFresh, source_of};
 ghost use Rattle.er_binary.specs.Meaning.{meant};
@@ -7,14 +7,13 @@ ghost use Rattle.er_device.specs.Device.{inner_of, has_failed};
 ghost use Rattle.er_exit.specs.Lines.{fault_line};
 ghost use Rattle.er_exit.specs.Statuses.{fault_status};
 ghost use Rattle.er_exit.specs.Writes.{GetsLine, LeavesOutput};
-ghost use Rattle.er_report.specs.Reports.{asks_order};
 ghost use Rattle.er_request.specs.Words.{IsUsual, names_hints, names_progress, names_until_fault, prints_input, replays_input};
 ghost use Rattle.er_rules.specs.Rules.{targets_of};
 ghost use Rattle.er_text.specs.Ending.{IsEndingOf};
 ghost use Rattle.er_triage.specs.Notes.{AreNotes};
 ghost use Rattle.eraser.specs.Notes.{AddsNotesOn, GetsNotes, GetsTextNotes};
 ghost use Rattle.eraser.specs.Printing.{PrintsTo};
-ghost use Rattle.eraser.specs.Replays.{AreOptionsOf, ComesTo, EndsAs, EndsUsually, FailsAs, IsEndOf, headed_part, touches_in};
+ghost use Rattle.eraser.specs.Replays.{AreOptionsOf, ComesTo, EndsAs, EndsUsually, FailsAs, IsEndOf, headed_part};
 
 use crate::merging::{merge_files, merge_for};
 use crate::meter::Meter;
@@ -86,7 +85,7 @@ where
 {
     match read_request(rt.alloc(), words, on_terminal) {
         Ok(Request::Replay(mut asked)) => {
-            note_touches(input, notes_touches(&asked));
+            note_touches(input, asked.analysis.asks_order());
             let replayed = run_asked(
                 rt,
                 &mut asked,
@@ -121,13 +120,6 @@ where
             status
         }
     }
-}
-
-// Whether what accesses touch is noted in the standard input. The text that is kept for the lines before a fault has nothing of it.
-fn notes_touches(replay: &Replay<'_>) -> bool
-    ensures { result ≡ (asks_order replay.now.analysis && not replay.now.until_fault) }
-{
-    replay.analysis.asks_order() && !replay.until_fault
 }
 
 // Runs a replay behind the merge of its reports, if there are some.
@@ -181,7 +173,7 @@ where
     ensures end { IfOk result (IsEndOf replay.now) }
     ensures usual { IsUsual replay.now → IfSome (I.remaining (inner_of input.old)) (λ text. EndsUsually text (has_failed input.new) (has_failed output.new) (O.contents (inner_of output.old)) (O.contents (inner_of output.new)) result) }
     ensures text { replay.now.trace.now ≡ codes "-" → IfOk result (λ ended. IfSome (I.remaining (inner_of input.old)) (λ text. IsEndingOf text ended.ending)) }
-    ensures ends { replay.now.trace.now ≡ codes "-" → replay.now.suppressions.items ≡ [] → IfOk result (λ ended. IfSome (I.remaining (inner_of input.old)) (λ text. EndsAs R.File.remaining replay.now text (touches_in replay.now (S.touches (inner_of input.old))) [] (O.contents (inner_of output.old)) (O.contents (inner_of output.new)) ended)) }
+    ensures ends { replay.now.trace.now ≡ codes "-" → replay.now.suppressions.items ≡ [] → IfOk result (λ ended. IfSome (I.remaining (inner_of input.old)) (λ text. EndsAs R.File.remaining replay.now text (S.touches (inner_of input.old)) [] (O.contents (inner_of output.old)) (O.contents (inner_of output.new)) ended)) }
     ensures fails { replay.now.trace.now ≡ codes "-" → replay.now.suppressions.items ≡ [] → replay.now.until_fault ≡ false → IfErr result (λ cut. IfSome (I.remaining (inner_of input.old)) (λ text. FailsAs R.File.remaining replay.now text (S.touches (inner_of input.old)) [] (O.contents (inner_of output.old)) (O.contents (inner_of output.new)) cut.fault)) }
     ensures nothing { replay.now.until_fault ≡ false → IfErr result (λ cut. LeavesOutput (O.contents (inner_of output.old)) (O.contents (inner_of output.new)) cut.fault) }
     ensures unwatched { replay.now.progress ≡ false → Keeps (P.contents (inner_of progress.old)) (P.contents (inner_of progress.new)) }

@@ -2,21 +2,21 @@
 //!
 //! It has two passes. The first replays the text as ever. If it ends in a fault of the text, the lines before that one are read again by a
 //! reader that ends there, and are replayed as any other text.
-ghost use Rattle.std.specs.Prelude.{◌≡◌, ◌≤◌, [], false, None, Some, codes, IfOk, IfErr, IfSome};
+ghost use Rattle.std.specs.Prelude.{◌≡◌, ◌≤◌, [], false, None, codes, IfOk, IfErr, IfSome};
 ghost use Rattle.er_device.specs.Device.{inner_of, has_failed};
 ghost use Rattle.er_exit.specs.Statuses.{fault_status};
 ghost use Rattle.er_exit.specs.Lines.{fault_line};
 ghost use Rattle.er_exit.specs.Writes.{GetsLine, LeavesOutput};
 ghost use Rattle.er_rules.specs.Rules.{targets_of};
 ghost use Rattle.er_text.specs.Ending.{IsEndingOf};
-ghost use Rattle.eraser.specs.Replays.{EndsAs, FailsAs, FailsFor, IsEndOf, IsRunAs, touches_in};
+ghost use Rattle.eraser.specs.Replays.{EndsAs, FailsAs, FailsFor, IsEndOf, IsRunAs};
 
 use crate::replaying::{Ended, Job, notes_of, replay_from};
 use crate::traces::{Directly, note_touches, open_trace};
 use er_damage::Damage;
-use er_device::{Device, Keeping, Prefix};
+use er_device::Device;
 use er_exit::{Fault, Trouble, advise, is_ordinary, put, report_fault};
-use er_lines::{ByText, Shortcut};
+use er_lines::{AsText, Keeping, Kept, Prefix, Shortcut};
 use er_request::Replay;
 use er_run::Watch;
 use er_text::TextFault;
@@ -44,7 +44,7 @@ enum Again<'a> {
     /// In the ordinary file of this path.
     File(&'a str),
     /// In memory.
-    Kept(&'a [u8]),
+    Kept(&'a Kept),
 }
 
 /// Writes the notes, then the damage, and then the fault with what helps people. If a write fails, the rest is left out.
@@ -103,7 +103,7 @@ where
     requires output { has_failed output.old ≡ false }
     ensures end { IfOk result (IsEndOf job.entry.replay.now) }
     ensures text { job.entry.replay.now.trace.now ≡ codes "-" → IfOk result (λ ended. IfSome (I.remaining (inner_of input.old)) (λ text. IsEndingOf text ended.ending)) }
-    ensures ends { job.entry.replay.now.trace.now ≡ codes "-" → IsRunAs job.entry.replay.now job.entry.options.now job.entry.heading.now → IfOk result (λ ended. IfSome (I.remaining (inner_of input.old)) (λ text. EndsAs R.File.remaining job.entry.replay.now text (touches_in job.entry.replay.now (S.touches (inner_of input.old))) (targets_of job.entry.suppressions.now) (O.contents (inner_of output.old)) (O.contents (inner_of output.new)) ended)) }
+    ensures ends { job.entry.replay.now.trace.now ≡ codes "-" → IsRunAs job.entry.replay.now job.entry.options.now job.entry.heading.now → IfOk result (λ ended. IfSome (I.remaining (inner_of input.old)) (λ text. EndsAs R.File.remaining job.entry.replay.now text (S.touches (inner_of input.old)) (targets_of job.entry.suppressions.now) (O.contents (inner_of output.old)) (O.contents (inner_of output.new)) ended)) }
     ensures fails { job.entry.replay.now.trace.now ≡ codes "-" → job.entry.replay.now.until_fault ≡ false → IsRunAs job.entry.replay.now job.entry.options.now job.entry.heading.now → IfErr result (λ cut. IfSome (I.remaining (inner_of input.old)) (λ text. FailsAs R.File.remaining job.entry.replay.now text (S.touches (inner_of input.old)) (targets_of job.entry.suppressions.now) (O.contents (inner_of output.old)) (O.contents (inner_of output.new)) cut.fault)) }
     ensures unfailed { job.entry.replay.now.trace.now ≡ codes "-" → job.entry.replay.now.until_fault ≡ false → IfOk result (λ ended. (has_failed input.new ≡ false) × (has_failed output.new ≡ false)) }
     ensures failed { job.entry.replay.now.trace.now ≡ codes "-" → job.entry.replay.now.until_fault ≡ false → IfErr result (λ cut. FailsFor (has_failed input.new) (has_failed output.new) cut.fault) }
@@ -113,7 +113,7 @@ where
     let replay = job.replay;
     if replay.trace == "-" {
         if replay.until_fault {
-            return replay_keeping(rt, job, input, output, watcher);
+            return replay_keeping(rt, job, input, shortcut, output, watcher);
         }
         return match replay_from(rt, job, input, shortcut, output, watcher) {
             Ok(ended) => Ok(ended),
@@ -124,12 +124,12 @@ where
         Ok(trace) => Device::new(trace),
         Err(fault) => return Err(cut_by(rt.alloc(), fault)),
     };
+    note_touches(&mut source, replay.analysis.asks_order());
     if replay.until_fault && !is_ordinary(rt, replay.trace) {
-        let replayed = replay_keeping(rt, job, &mut source, output, watcher);
+        let replayed = replay_keeping(rt, job, &mut source, &Directly, output, watcher);
         drop(source);
         return replayed;
     }
-    note_touches(&mut source, replay.analysis.asks_order());
     let Ok(_) = source.read(&mut []) else {
         drop(source);
         return Err(cut_by(rt.alloc(), Fault::Read));
@@ -157,31 +157,39 @@ where
 
 // Replays what is read only once, and keeps it for the lines before a fault. Without memory to keep it, a fault of the text becomes a want
 // of memory.
-fn replay_keeping<R: Files + AllocGlobal + Threads + Wait + Sync, D: Read, O: Write, V: Watch>(
+fn replay_keeping<R, D, S, O, V>(
     rt: &R,
     job: Job<'_>,
     source: &mut Device<D>,
+    shortcut: &S,
     output: &mut Device<O>,
     watcher: &mut V,
 ) -> Result<Ended, Cut>
-    requires source { has_failed source.old ≡ false }
+where
+    R: Files + AllocGlobal + Threads + Wait + Sync,
+    D: Read,
+    S: Shortcut<D>,
+    O: Write,
+    V: Watch,
     requires output { has_failed output.old ≡ false }
     ensures end { IfOk result (IsEndOf job.entry.replay.now) }
     ensures text { IfOk result (λ ended. IfSome (D.remaining (inner_of source.old)) (λ text. IsEndingOf text ended.ending)) }
-    ensures ends { IsRunAs job.entry.replay.now job.entry.options.now job.entry.heading.now → IfOk result (λ ended. IfSome (D.remaining (inner_of source.old)) (λ text. EndsAs R.File.remaining job.entry.replay.now text (Some []) (targets_of job.entry.suppressions.now) (O.contents (inner_of output.old)) (O.contents (inner_of output.new)) ended)) }
+    ensures ends { IsRunAs job.entry.replay.now job.entry.options.now job.entry.heading.now → IfOk result (λ ended. IfSome (D.remaining (inner_of source.old)) (λ text. EndsAs R.File.remaining job.entry.replay.now text (S.touches (inner_of source.old)) (targets_of job.entry.suppressions.now) (O.contents (inner_of output.old)) (O.contents (inner_of output.new)) ended)) }
 {
-    let mut keeping = Device::new(Keeping::new(rt.alloc(), source));
-    let first = replay_from(rt, job, &mut keeping, &ByText, output, watcher);
-    let kept = keeping.into_inner().into_kept();
+    let mut keeping = Device::new(Keeping::new(rt.alloc(), source.inner_mut(), shortcut));
+    let first = replay_from(rt, job, &mut keeping, &AsText, output, watcher);
+    // What its accesses touch that nobody asked for before the fault is kept too.
+    let rest = AsText.hand_out(keeping.inner_mut(), &mut Vec::new(rt.alloc()));
+    let kept = keeping.into_inner().into_kept().filter(|_| rest.is_ok());
     match (first, kept) {
         (Ok(ended), kept) => {
             drop(kept);
             Ok(ended)
         }
-        (Err(fault), Some(text)) => {
-            let again = Again::Kept(&text);
+        (Err(fault), Some(kept)) => {
+            let again = Again::Kept(&kept);
             let cut = replay_before(rt, job, fault, again, output, watcher);
-            drop(text);
+            drop(kept);
             Err(cut)
         }
         (Err(Fault::Text(_)), None) => Err(cut_by(rt.alloc(), Fault::Memory)),
@@ -226,14 +234,16 @@ fn replay_lines<R: Files + AllocGlobal + Threads + Wait + Sync, O: Write, V: Wat
     }
     match again {
         Again::File(path) => {
-            let mut source = Device::new(Prefix::new(open_trace(rt, path)?, lines));
-            let replayed = replay_from(rt, job, &mut source, &ByText, output, watcher);
+            let mut trace = Device::new(open_trace(rt, path)?);
+            note_touches(&mut trace, job.replay.analysis.asks_order());
+            let mut source = Device::new(Prefix::new(trace.into_inner(), &Directly, lines));
+            let replayed = replay_from(rt, job, &mut source, &AsText, output, watcher);
             drop(source);
             replayed
         }
-        Again::Kept(text) => {
-            let mut source = Device::new(Prefix::new(text, lines));
-            replay_from(rt, job, &mut source, &ByText, output, watcher)
+        Again::Kept(kept) => {
+            let mut source = Device::new(Prefix::new(kept.again(), &AsText, lines));
+            replay_from(rt, job, &mut source, &AsText, output, watcher)
         }
     }
 }

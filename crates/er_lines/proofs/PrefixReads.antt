@@ -2,9 +2,9 @@
 use Rattle.std.proofs.Common.{◌≡◌, ℕ, ◌<◌, ◌≤◌, Option, Some, None, option_map, List, [], ◌++◌, length, take, ap, sym, ◌∙◌, refl, arith}
 use Rattle.std.proofs.Math.Seq.{take-take, length-take-le}
 use Rattle.std.specs.Io.KnownBytes.{Consumes, IsAtEnd}
-use Rattle.er_device.specs.Prefix.{first_lines}
-use Rattle.er_device.specs.Inner.Lines.{lines_behind}
-use Rattle.er_device.proofs.PrefixLemmas.{no_lines, first_lines_append, first_lines_begin, first_lines_within, first_lines_some}
+use Rattle.er_lines.specs.Prefix.{first_lines}
+use Rattle.er_lines.specs.Inner.Prefixes.{lines_behind}
+use Rattle.er_lines.proofs.PrefixLemmas.{no_lines, first_lines_append, first_lines_begin, first_lines_within, first_lines_some}
 
 -- known bytes of no lines
 pub none_left : (lines : ℕ) (known : Option (List ℕ)) → lines ≡ 0 → IsAtEnd (option_map (first_lines lines) known)

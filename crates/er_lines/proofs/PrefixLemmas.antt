@@ -2,15 +2,16 @@
 use Rattle.std.proofs.Common.{◌≡◌, ℕ, zero, suc, ◌+◌, ◌-◌, ◌==◌, ◌<◌, ◌≤◌, Bool, true, false, cond, if◌then◌else◌, List, [], ◌∷◌, ◌++◌, length, take, count_by, ap, sym, ◌∙◌, refl, arith}
 use Rattle.std.proofs.lemmas.Bool.Decides.{nat_tests}
 use Rattle.std.proofs.lemmas.List.Sums.{sum_by-cons}
-use Rattle.er_device.specs.Prefix.{first_lines, is_feed}
-use Rattle.er_device.specs.Inner.Lines.{lines_behind}
+use Rattle.er_lines.specs.Lines.{is_end}
+use Rattle.er_lines.specs.Prefix.{first_lines}
+use Rattle.er_lines.specs.Inner.Prefixes.{lines_behind}
 
 -- how many lines are left behind one byte
 abbrev behind : ℕ → Bool → ℕ
 behind lines feed = if feed then lines - 1 else lines
 
-count_step : (byte : ℕ) (bytes : List ℕ) → count_by is_feed (byte ∷ bytes) ≡ cond (is_feed byte) 1 0 + count_by is_feed bytes
-count_step byte bytes = sum_by-cons (λ x. cond (is_feed x) 1 0) byte bytes
+count_step : (byte : ℕ) (bytes : List ℕ) → count_by is_end (byte ∷ bytes) ≡ cond (is_end byte) 1 0 + count_by is_end bytes
+count_step byte bytes = sum_by-cons (λ x. cond (is_end x) 1 0) byte bytes
 
 -- of no lines there are no bytes
 pub no_lines : (lines : ℕ) (bytes : List ℕ) → lines ≡ 0 → first_lines lines bytes ≡ []
@@ -18,7 +19,7 @@ no_lines lines [] none = refl
 no_lines lines (byte ∷ bytes) none = let same : (lines == 0) ≡ true = grind (arith, nat_tests) in rw same refl
 
 -- a line that is left takes the next byte
-some_lines : (lines byte : ℕ) (bytes : List ℕ) → 0 < lines → first_lines lines (byte ∷ bytes) ≡ byte ∷ first_lines (behind lines (is_feed byte)) bytes
+some_lines : (lines byte : ℕ) (bytes : List ℕ) → 0 < lines → first_lines lines (byte ∷ bytes) ≡ byte ∷ first_lines (behind lines (is_end byte)) bytes
 some_lines lines byte bytes some = let other : (lines == 0) ≡ false = grind (arith, nat_tests) in rw other refl
 
 left_behind : (lines more : ℕ) (feed : Bool) → behind lines feed - more ≡ lines - (cond feed 1 0 + more)
@@ -26,8 +27,8 @@ left_behind lines more true = omega arith
 left_behind lines more false = omega arith
 
 -- the lines that are left behind a byte and the bytes after it
-behind_step : (lines byte : ℕ) (bytes : List ℕ) → lines_behind bytes (behind lines (is_feed byte)) ≡ lines_behind (byte ∷ bytes) lines
-behind_step lines byte bytes = left_behind lines (count_by is_feed bytes) (is_feed byte) ∙ ap (λ (count : ℕ). lines - count) (sym (count_step byte bytes))
+behind_step : (lines byte : ℕ) (bytes : List ℕ) → lines_behind bytes (behind lines (is_end byte)) ≡ lines_behind (byte ∷ bytes) lines
+behind_step lines byte bytes = left_behind lines (count_by is_end bytes) (is_end byte) ∙ ap (λ (count : ℕ). lines - count) (sym (count_step byte bytes))
 
 none_behind : (lines : ℕ) (bytes : List ℕ) → lines ≡ 0 → lines_behind bytes lines ≡ 0
 none_behind lines bytes none = omega arith
@@ -38,9 +39,9 @@ first_lines_append lines [] back = let same : lines_behind [] lines ≡ lines = 
 first_lines_append zero (byte ∷ front) back = sym (no_lines (lines_behind (byte ∷ front) 0) back (none_behind 0 (byte ∷ front) refl))
 first_lines_append (suc lines) (byte ∷ front) back =
     let some : 0 < suc lines = omega arith in
-    let more = first_lines_append (behind (suc lines) (is_feed byte)) front back in
+    let more = first_lines_append (behind (suc lines) (is_end byte)) front back in
     rw (some_lines (suc lines) byte (front ++ back) some, some_lines (suc lines) byte front some)
-    (ap (λ (xs : List ℕ). byte ∷ xs) (more ∙ ap (λ (n : ℕ). first_lines (behind (suc lines) (is_feed byte)) front ++ first_lines n back) (behind_step (suc lines) byte front)))
+    (ap (λ (xs : List ℕ). byte ∷ xs) (more ∙ ap (λ (n : ℕ). first_lines (behind (suc lines) (is_end byte)) front ++ first_lines n back) (behind_step (suc lines) byte front)))
 
 -- they are a beginning of the piece
 pub first_lines_begin : (lines : ℕ) (bytes : List ℕ) → take (length (first_lines lines bytes)) bytes ≡ first_lines lines bytes
@@ -48,14 +49,14 @@ first_lines_begin lines [] = refl
 first_lines_begin zero (byte ∷ bytes) = refl
 first_lines_begin (suc lines) (byte ∷ bytes) =
     let some : 0 < suc lines = omega arith in
-    rw (some_lines (suc lines) byte bytes some) (ap (λ (xs : List ℕ). byte ∷ xs) (first_lines_begin (behind (suc lines) (is_feed byte)) bytes))
+    rw (some_lines (suc lines) byte bytes some) (ap (λ (xs : List ℕ). byte ∷ xs) (first_lines_begin (behind (suc lines) (is_end byte)) bytes))
 
 pub first_lines_within : (lines : ℕ) (bytes : List ℕ) → length (first_lines lines bytes) ≤ length bytes
 first_lines_within lines [] = omega arith
 first_lines_within zero (byte ∷ bytes) = omega arith
 first_lines_within (suc lines) (byte ∷ bytes) =
     let some : 0 < suc lines = omega arith in
-    let more = first_lines_within (behind (suc lines) (is_feed byte)) bytes in
+    let more = first_lines_within (behind (suc lines) (is_end byte)) bytes in
     rw (some_lines (suc lines) byte bytes some) (omega arith)
 
 more_behind : (lines count : ℕ) (feed : Bool) → cond feed 1 0 + count < lines → count < behind lines feed
@@ -63,12 +64,12 @@ more_behind lines count true less = omega arith
 more_behind lines count false less = omega arith
 
 -- a piece with fewer line feeds is among them whole
-pub first_lines_all : (lines : ℕ) (bytes : List ℕ) → count_by is_feed bytes < lines → length (first_lines lines bytes) ≡ length bytes
+pub first_lines_all : (lines : ℕ) (bytes : List ℕ) → count_by is_end bytes < lines → length (first_lines lines bytes) ≡ length bytes
 first_lines_all lines [] fewer = refl
 first_lines_all lines (byte ∷ bytes) fewer =
     let some : 0 < lines = omega arith in
-    let less : cond (is_feed byte) 1 0 + count_by is_feed bytes < lines = omega (arith, count_step byte bytes, fewer) in
-    let more = first_lines_all (behind lines (is_feed byte)) bytes (more_behind lines (count_by is_feed bytes) (is_feed byte) less) in
+    let less : cond (is_end byte) 1 0 + count_by is_end bytes < lines = omega (arith, count_step byte bytes, fewer) in
+    let more = first_lines_all (behind lines (is_end byte)) bytes (more_behind lines (count_by is_end bytes) (is_end byte) less) in
     rw (some_lines lines byte bytes some) (omega arith)
 
 -- a line that is left has a byte of each piece that has one

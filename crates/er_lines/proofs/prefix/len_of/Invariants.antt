@@ -1,7 +1,7 @@
 -- What the lines take from the place reached on.
 use Rattle.std.proofs.Common.{◌≡◌, length, drop, ◌+◌}
-use Rattle.er_device.specs.Prefix.{first_lines}
-use Rattle.er_device.proofs.prefix.len_of.Given as goal
+use Rattle.er_lines.specs.Prefix.{first_lines}
+use Rattle.er_lines.proofs.prefix.len_of.Given as goal
 
 abbrev pub invariant-loop-place : goal.invariant-loop-place
 invariant-loop-place l = record {

@@ -1,10 +1,10 @@
 -- What was read is cut to the lines that were left.
 use Rattle.std.proofs.Common.{◌<◌, ◌≤◌, length, take, arith, sym}
 use Rattle.std.proofs.Math.Seq.{length-take-le}
-use Rattle.er_device.specs.Prefix.{cut_off}
-use Rattle.er_device.proofs.PrefixLemmas.{first_lines_within}
-use Rattle.er_device.proofs.ReadLemmas.{none_left, nothing_read, lines_read, end_read}
-use Rattle.er_device.proofs.prefix.PrefixRead.read.Goals as goal
+use Rattle.er_lines.specs.Prefix.{cut_off}
+use Rattle.er_lines.proofs.PrefixLemmas.{first_lines_within}
+use Rattle.er_lines.proofs.PrefixReads.{none_left, nothing_read, lines_read, end_read}
+use Rattle.er_lines.proofs.prefix.PrefixRead.read.Goals as goal
 
 pub returns-then-self-eq0-clause-bytes : goal.returns-then-self-eq0-clause-bytes
 returns-then-self-eq0-clause-bytes g c = (
@@ -15,7 +15,7 @@ returns-then-self-eq0-clause-bytes g c = (
 pub returns-clause-bound : goal.returns-clause-bound
 returns-clause-bound g c =
     let count = c.in_ok-count.count in
-    let buffer = c.read.new.buf in
+    let buffer = c.read.new.buffer in
     let fits = c.in_ok-count.ensures.bound.0 in
     let within : c.pass.result ≤ length buffer = omega (arith, first_lines_within c.args.self.now.lines (take count buffer), length-take-le count buffer fits, c.pass.ensures.count, fits) in
     (within, sym (length-take-le c.pass.result buffer within))
@@ -23,7 +23,7 @@ returns-clause-bound g c =
 pub returns-clause-bytes : goal.returns-clause-bytes
 returns-clause-bytes g c =
     let count = c.in_ok-count.count in
-    let buffer = c.read.new.buf in
+    let buffer = c.read.new.buffer in
     let lines = c.args.self.now.lines in
     let left = c.pass.new.self.lines in
     let fits = c.in_ok-count.ensures.bound.0 in

@@ -1,7 +1,7 @@
 -- Where no line is left, none of the bytes behind belongs to one.
 use Rattle.std.proofs.Common.{length, drop, ap, arith}
-use Rattle.er_device.proofs.PrefixLemmas.{no_lines}
-use Rattle.er_device.proofs.prefix.len_of.Goals as goal
+use Rattle.er_lines.proofs.PrefixLemmas.{no_lines}
+use Rattle.er_lines.proofs.prefix.len_of.Goals as goal
 
 pub returns-then-left-eq0 : goal.returns-then-left-eq0
 returns-then-left-eq0 c =

@@ -1,2 +1,0 @@
--- How lines are counted while a reader goes on.
-pub mod Lines
