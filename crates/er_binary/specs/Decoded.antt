@@ -1,5 +1,6 @@
 -- What a reader of a trace of any form still gives, and what it notes of accesses.
 use Rattle.std.specs.Prelude.{◌≡◌, ℕ, Bool, true, false, cond, List, [], ◌++◌, Option, Some, drop, option_map, take}
+use Rattle.er_device.specs.Keeping.{kept_source}
 use Rattle.er_lines.specs.declared.ready.NameKind.{NameKind}
 use Rattle.er_binary.specs.Inner.Decoders.{still, to_note}
 use Rattle.er_binary.specs.Meaning.{meant, touches}
@@ -11,7 +12,7 @@ use Rattle.er_lines.specs.declared.ready.Touch.{Touch}
 
 -- the reader that it reads
 abbrev pub source_of : {R : Type 0} → Decoded R → R
-source_of decoded = decoded.inner
+source_of decoded = kept_source decoded.inner
 
 -- by what its first bytes were found to begin, these bytes, and those of them that are not given yet
 abbrev pub to_come_by : Form → List ℕ → List ℕ → List ℕ → List ℕ

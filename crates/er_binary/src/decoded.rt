@@ -6,6 +6,7 @@ ghost use Rattle.std.specs.Io.KnownBytes.{Keeps, ReadConsumes};
 use crate::decoder::{Decoder, copy_front, fill};
 use crate::names::Names;
 use crate::state::State;
+use er_device::Keeping;
 use er_lines::{NameKind, ReadyLine, Shortcut, Touch};
 use std::alloc::{AllocError, Global};
 use std::io;
@@ -38,7 +39,7 @@ enum Form {
 /// of what it wraps failed, or there was no memory.
 #[derive(Drop)]
 pub struct Decoded<R> {
-    inner: R,
+    inner: Keeping<R>,
     alloc: Global,
     form: Form,
     // Whether what accesses touch is noted.
@@ -65,7 +66,7 @@ impl<R> Decoded<R> {
         ensures touches { TouchesFresh result }
     {
         Decoded {
-            inner,
+            inner: Keeping::new(inner),
             alloc,
             form: Form::Unknown,
             is_noting: false,
@@ -85,6 +86,18 @@ impl<R> Decoded<R> {
         ensures names { names_of self.new ≡ names_of self.old }
     {
         self.is_noting = true;
+    }
+
+    /// Keeps the bytes that it reads from now on, to be read again: see [`kept`](Shortcut::kept).
+    pub fn keep(&mut self)
+        ensures noting { is_noting self.new ≡ is_noting self.old }
+        ensures text { (bytes : List ℕ) → to_come self.new bytes ≡ to_come self.old bytes }
+        ensures touches { (bytes : List ℕ) → to_touch self.new bytes ≡ to_touch self.old bytes }
+        ensures source { source_of self.new ≡ source_of self.old }
+        ensures names { names_of self.new ≡ names_of self.old }
+        ensures form { is_binary self.new ≡ is_binary self.old }
+    {
+        self.inner.begin(self.alloc);
     }
 
     // Whether it notes what accesses touch.
@@ -266,6 +279,10 @@ impl<R: Read> Shortcut<Decoded<R>> for Directly {
             Form::Binary(decoder) => decoder.state.name(kind, number),
             _ => b"".as_slice(),
         }
+    }
+
+    fn kept<'a>(&self, reader: &'a Decoded<R>) -> Option<&'a [u8]> {
+        reader.inner.kept()
     }
 }
 

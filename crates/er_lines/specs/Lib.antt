@@ -10,6 +10,5 @@ pub mod Reading
 pub mod Ready
 pub mod Taking
 pub mod Touches
-pub mod Keeping
 pub mod Prefix
 pub mod Inner

@@ -9,8 +9,7 @@
 //! and 1,025 bytes are taken from the reader (`taken`, `most`). What a [`Shortcut`] says of the bytes that accesses touch stays with the reader until it
 //! is handed out (`touches`).
 //!
-//! For a second look at a text a [`Prefix`] gives the first lines of another reader alone, to the byte, and then ends (`remaining`). A text that can be read
-//! only once is read through [`Keeping`], which gives all that its reader gives (`bytes`), and keeps all of it or nothing (`kept`).
+//! For a second look at a text a [`Prefix`] gives the first lines of another reader alone, to the byte, and then ends (`remaining`).
 //!
 //! ```
 //! let mut reader = Device::new(b"t1 write 0x1000\n".as_slice());
@@ -27,20 +26,18 @@
 pub use bytes::{is_ascii, is_comment, line_len, says_something, split_at_space};
 pub use classes::{class_of, is_name_byte};
 pub use faults::{ReadFault, TextFault, TextKind, fault_at};
-pub use keeping::{Again, Keeping, Kept};
 pub use lines::{FrontLine, LineReader};
 pub use naming::{
     is_lock_name, is_name, is_site_name, lock_name_of, name_of, name_text, site_text,
 };
 pub use numbers::{hex_digit, number_of, put_hex, put_number, value_in};
-pub use prefix::Prefix;
-pub use ready::{AsText, ByText, NameKind, ReadyLine, ReadyVerb, Shortcut, Touch, ready_width};
+pub use prefix::{ByPrefix, Prefix};
+pub use ready::{ByText, NameKind, ReadyLine, ReadyVerb, Shortcut, Touch, ready_width};
 pub use words::{Words, number, split_words};
 
 mod bytes;
 mod classes;
 mod faults;
-mod keeping;
 mod lines;
 mod naming;
 mod numbers;

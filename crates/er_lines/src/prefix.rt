@@ -7,7 +7,7 @@ ghost use Rattle.er_lines.specs.Prefix.{cut_off, first_lines, lines_left};
 ghost use Rattle.er_lines.specs.Inner.Prefixes.{lines_behind};
 ghost use Rattle.er_lines.specs.Touches.{StaysKnown};
 
-use crate::ready::{AsText, NameKind, ReadyLine, Shortcut, Touch};
+use crate::ready::{NameKind, ReadyLine, Shortcut, Touch};
 use std::alloc::AllocError;
 use std::io;
 use std::io::Read;
@@ -50,8 +50,8 @@ impl<'s, R, S> Prefix<'s, R, S> {
     }
 }
 
-/// How many line feeds there are.
-pub(crate) fn feeds_in(bytes: &[u8]) -> u64
+// How many line feeds there are.
+fn feeds_in(bytes: &[u8]) -> u64
     ensures { result ≡ count_by is_end bytes.now }
 {
     bytes.iter().filter(|byte| **byte == b'\n').count() as u64
@@ -89,7 +89,11 @@ impl<R: Read, S: Shortcut<R>> Read for Prefix<'_, R, S> {
     }
 }
 
-impl<R: Read, S: Shortcut<R>> Shortcut<Prefix<'_, R, S>> for AsText {
+/// Takes no line of it, and hands out what the other reader has to hand out.
+#[derive(Clone, Copy)]
+pub struct ByPrefix;
+
+impl<R: Read, S: Shortcut<R>> Shortcut<Prefix<'_, R, S>> for ByPrefix {
     ghost names_of = { λ prefix kind number. [] };
 
     ghost touches = { λ prefix. S.touches (cut_off prefix) };
@@ -112,5 +116,9 @@ impl<R: Read, S: Shortcut<R>> Shortcut<Prefix<'_, R, S>> for AsText {
 
     fn name<'a>(&self, _prefix: &'a Prefix<'_, R, S>, _kind: NameKind, _number: u64) -> &'a [u8] {
         b"".as_slice()
+    }
+
+    fn kept<'a>(&self, _prefix: &'a Prefix<'_, R, S>) -> Option<&'a [u8]> {
+        None
     }
 }

@@ -56,7 +56,7 @@ pub struct Touch {
     pub last: u8,
 }
 
-/// Takes lines from a reader before they are text, and hands out what their accesses touch.
+/// Takes lines from a reader before they are text, and hands out what their accesses touch and what the reader keeps.
 pub trait Shortcut<R: Read> {
     ghost use Rattle.std.specs.Prelude.{Option};
     ghost use Rattle.er_lines.specs.declared.ready.NameKind.{NameKind};
@@ -95,6 +95,9 @@ pub trait Shortcut<R: Read> {
     /// The name of a number, and no bytes if it has none, until the reader changes.
     fn name<'a>(&self, reader: &'a R, kind: NameKind, number: u64) -> &'a [u8]
         ensures { result.now ≡ names_of reader.now kind number };
+
+    /// The bytes that it was read from, if the reader keeps them.
+    fn kept<'a>(&self, reader: &'a R) -> Option<&'a [u8]>;
 }
 
 /// Takes no line: everything comes as text, and each access touches its whole word.
@@ -123,11 +126,11 @@ impl<R: Read> Shortcut<R> for ByText {
     fn name<'a>(&self, _reader: &'a R, _kind: NameKind, _number: u64) -> &'a [u8] {
         b"".as_slice()
     }
-}
 
-/// Takes no line either, and hands out what the reader knows of accesses: a [`Prefix`](crate::Prefix), a [`Keeping`](crate::Keeping) or what was kept.
-#[derive(Clone, Copy)]
-pub struct AsText;
+    fn kept<'a>(&self, _reader: &'a R) -> Option<&'a [u8]> {
+        None
+    }
+}
 
 /// How many bytes the text of a line takes, its LF included, by its verb and its names.
 #[inline(always)]

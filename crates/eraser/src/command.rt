@@ -18,7 +18,7 @@ ghost use Rattle.eraser.specs.Replays.{AreOptionsOf, ComesTo, EndsAs, EndsUsuall
 use crate::merging::{merge_files, merge_for};
 use crate::meter::Meter;
 use crate::replaying::{Ended, Job, notes_of};
-use crate::traces::{Directly, explain_step, note_touches, print_trace};
+use crate::traces::{Directly, explain_step, prepare, print_trace};
 use crate::until::{Cut, cut_by, replay_trace, report_cut, trace_path};
 use clap::error::ErrorKind;
 use er_binary::Decoded;
@@ -85,7 +85,7 @@ where
 {
     match read_request(rt.alloc(), words, on_terminal) {
         Ok(Request::Replay(mut asked)) => {
-            note_touches(input, asked.analysis.asks_order());
+            prepare(input, asked.analysis.asks_order(), asked.until_fault);
             let replayed = run_asked(
                 rt,
                 &mut asked,

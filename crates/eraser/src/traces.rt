@@ -37,16 +37,19 @@ pub(crate) fn open_trace<R: Files + AllocGlobal>(
     Ok(Decoded::new(rt.alloc(), file))
 }
 
-/// Has what accesses touch noted, if that is asked for. Whoever reads then has it handed out now and then.
-pub(crate) fn note_touches<D>(source: &mut Device<Decoded<D>>, asks: bool)
+/// Has what accesses touch noted, and the bytes of the trace kept, if that is asked for. Whoever reads then has handed out what is noted now and then.
+pub(crate) fn prepare<D>(source: &mut Device<Decoded<D>>, notes: bool, keeps: bool)
     ensures text { (bytes : List ℕ) → to_come (inner_of source.new) bytes ≡ to_come (inner_of source.old) bytes }
     ensures source { source_of (inner_of source.new) ≡ source_of (inner_of source.old) }
     ensures failed { has_failed source.new ≡ has_failed source.old }
-    ensures noting { asks ≡ true → is_noting (inner_of source.new) ≡ cond (is_binary (inner_of source.old)) (is_noting (inner_of source.old)) true }
-    ensures unasked { asks ≡ false → source.new ≡ source.old }
+    ensures noting { notes ≡ true → is_noting (inner_of source.new) ≡ cond (is_binary (inner_of source.old)) (is_noting (inner_of source.old)) true }
+    ensures unasked { notes ≡ false → keeps ≡ false → source.new ≡ source.old }
 {
-    if asks {
+    if notes {
         source.inner_mut().note_touches();
+    }
+    if keeps {
+        source.inner_mut().keep();
     }
 }
 

@@ -12,11 +12,12 @@ ghost use Rattle.er_text.specs.Ending.{IsEndingOf};
 ghost use Rattle.eraser.specs.Replays.{EndsAs, FailsAs, FailsFor, IsEndOf, IsRunAs};
 
 use crate::replaying::{Ended, Job, notes_of, replay_from};
-use crate::traces::{Directly, note_touches, open_trace};
+use crate::traces::{Directly, open_trace, prepare};
+use er_binary::Decoded;
 use er_damage::Damage;
 use er_device::Device;
 use er_exit::{Fault, Trouble, advise, is_ordinary, put, report_fault};
-use er_lines::{AsText, Keeping, Kept, Prefix, Shortcut};
+use er_lines::{ByPrefix, Prefix, Shortcut};
 use er_request::Replay;
 use er_run::Watch;
 use er_text::TextFault;
@@ -38,13 +39,13 @@ pub(crate) struct Cut {
     pub(crate) fault: Fault,
 }
 
-/// The lines of a text that can be read again.
+/// A trace that can be read again.
 #[derive(Clone, Copy)]
 enum Again<'a> {
-    /// In the ordinary file of this path.
+    /// The ordinary file of this path.
     File(&'a str),
-    /// In memory.
-    Kept(&'a Kept),
+    /// What was read of a stream.
+    Kept(&'a [u8]),
 }
 
 /// Writes the notes, then the damage, and then the fault with what helps people. If a write fails, the rest is left out.
@@ -112,11 +113,12 @@ where
 {
     let replay = job.replay;
     if replay.trace == "-" {
-        if replay.until_fault {
-            return replay_keeping(rt, job, input, shortcut, output, watcher);
-        }
         return match replay_from(rt, job, input, shortcut, output, watcher) {
             Ok(ended) => Ok(ended),
+            Err(fault) if replay.until_fault => {
+                let again = shortcut.kept(input.inner()).map(Again::Kept);
+                Err(replay_before(rt, job, fault, again, output, watcher))
+            }
             Err(fault) => Err(cut_by(rt.alloc(), fault)),
         };
     }
@@ -124,18 +126,14 @@ where
         Ok(trace) => Device::new(trace),
         Err(fault) => return Err(cut_by(rt.alloc(), fault)),
     };
-    note_touches(&mut source, replay.analysis.asks_order());
-    if replay.until_fault && !is_ordinary(rt, replay.trace) {
-        let replayed = replay_keeping(rt, job, &mut source, &Directly, output, watcher);
-        drop(source);
-        return replayed;
-    }
+    let is_kept = replay.until_fault && !is_ordinary(rt, replay.trace);
+    prepare(&mut source, replay.analysis.asks_order(), is_kept);
     let Ok(_) = source.read(&mut []) else {
         drop(source);
         return Err(cut_by(rt.alloc(), Fault::Read));
     };
-    // A binary trace says its text in far fewer bytes, so it has no limit that nobody asked for.
-    let options = match source.inner().is_binary() {
+    // A binary trace says its text in far fewer bytes, so it has no limit that nobody asked for, unless they are kept.
+    let options = match source.inner().is_binary() && !is_kept {
         true => job.options.with_byte_limit(replay.binary_limit).unwrap(),
         false => *job.options,
     };
@@ -143,72 +141,36 @@ where
         options: &options,
         ..job
     };
-    let replayed = replay_from(rt, job, &mut source, &Directly, output, watcher);
-    drop(source);
-    match replayed {
+    let replayed = match replay_from(rt, job, &mut source, &Directly, output, watcher) {
         Ok(ended) => Ok(ended),
         Err(fault) if replay.until_fault => {
-            let again = Again::File(replay.trace);
+            let again = match is_kept {
+                true => Directly.kept(source.inner()).map(Again::Kept),
+                false => Some(Again::File(replay.trace)),
+            };
             Err(replay_before(rt, job, fault, again, output, watcher))
         }
         Err(fault) => Err(cut_by(rt.alloc(), fault)),
-    }
+    };
+    drop(source);
+    replayed
 }
 
-// Replays what is read only once, and keeps it for the lines before a fault. Without memory to keep it, a fault of the text becomes a want
-// of memory.
-fn replay_keeping<R, D, S, O, V>(
-    rt: &R,
-    job: Job<'_>,
-    source: &mut Device<D>,
-    shortcut: &S,
-    output: &mut Device<O>,
-    watcher: &mut V,
-) -> Result<Ended, Cut>
-where
-    R: Files + AllocGlobal + Threads + Wait + Sync,
-    D: Read,
-    S: Shortcut<D>,
-    O: Write,
-    V: Watch,
-    requires output { has_failed output.old ≡ false }
-    ensures end { IfOk result (IsEndOf job.entry.replay.now) }
-    ensures text { IfOk result (λ ended. IfSome (D.remaining (inner_of source.old)) (λ text. IsEndingOf text ended.ending)) }
-    ensures ends { IsRunAs job.entry.replay.now job.entry.options.now job.entry.heading.now → IfOk result (λ ended. IfSome (D.remaining (inner_of source.old)) (λ text. EndsAs R.File.remaining job.entry.replay.now text (S.touches (inner_of source.old)) (targets_of job.entry.suppressions.now) (O.contents (inner_of output.old)) (O.contents (inner_of output.new)) ended)) }
-{
-    let mut keeping = Device::new(Keeping::new(rt.alloc(), source.inner_mut(), shortcut));
-    let first = replay_from(rt, job, &mut keeping, &AsText, output, watcher);
-    // What its accesses touch that nobody asked for before the fault is kept too.
-    let rest = AsText.hand_out(keeping.inner_mut(), &mut Vec::new(rt.alloc()));
-    let kept = keeping.into_inner().into_kept().filter(|_| rest.is_ok());
-    match (first, kept) {
-        (Ok(ended), kept) => {
-            drop(kept);
-            Ok(ended)
-        }
-        (Err(fault), Some(kept)) => {
-            let again = Again::Kept(&kept);
-            let cut = replay_before(rt, job, fault, again, output, watcher);
-            drop(kept);
-            Err(cut)
-        }
-        (Err(Fault::Text(_)), None) => Err(cut_by(rt.alloc(), Fault::Memory)),
-        (Err(fault), None) => Err(cut_by(rt.alloc(), fault)),
-    }
-}
-
-// If the fault is one of the text, replays the lines before it. A text that ends there may lack its line `end`: that is no damage of these
+// If the fault is one of the text, replays the lines before it. Without memory to keep the trace, it becomes a want of memory. A text that ends there may lack its line `end`: that is no damage of these
 // lines, so if it is all that a strict replay finds, they have their report.
 fn replay_before<R: Files + AllocGlobal + Threads + Wait + Sync, O: Write, V: Watch>(
     rt: &R,
     job: Job<'_>,
     fault: Fault,
-    again: Again<'_>,
+    again: Option<Again<'_>>,
     output: &mut Device<O>,
     watcher: &mut V,
 ) -> Cut {
     let Fault::Text(first) = fault else {
         return cut_by(rt.alloc(), fault);
+    };
+    let Some(again) = again else {
+        return cut_by(rt.alloc(), Fault::Memory);
     };
     let lines = first.line.saturating_sub(1);
     let options = job.options.with_strict(false);
@@ -234,18 +196,44 @@ fn replay_lines<R: Files + AllocGlobal + Threads + Wait + Sync, O: Write, V: Wat
     }
     match again {
         Again::File(path) => {
-            let mut trace = Device::new(open_trace(rt, path)?);
-            note_touches(&mut trace, job.replay.analysis.asks_order());
-            let mut source = Device::new(Prefix::new(trace.into_inner(), &Directly, lines));
-            let replayed = replay_from(rt, job, &mut source, &AsText, output, watcher);
-            drop(source);
-            replayed
+            replay_first(rt, job, lines, open_trace(rt, path)?, output, watcher)
         }
-        Again::Kept(kept) => {
-            let mut source = Device::new(Prefix::new(kept.again(), &AsText, lines));
-            replay_from(rt, job, &mut source, &AsText, output, watcher)
+        Again::Kept(bytes) => {
+            replay_first(
+                rt,
+                job,
+                lines,
+                Decoded::new(rt.alloc(), bytes),
+                output,
+                watcher,
+            )
         }
     }
+}
+
+// Replays the first lines of the text that a trace means.
+fn replay_first<R, D, O, V>(
+    rt: &R,
+    job: Job<'_>,
+    lines: u64,
+    mut trace: Decoded<D>,
+    output: &mut Device<O>,
+    watcher: &mut V,
+) -> Result<Ended, Fault>
+where
+    R: Files + AllocGlobal + Threads + Wait + Sync,
+    D: Read + Drop,
+    O: Write,
+    V: Watch,
+    requires output { has_failed output.old ≡ false }
+{
+    if job.replay.analysis.asks_order() {
+        trace.note_touches();
+    }
+    let mut source = Device::new(Prefix::new(trace, &Directly, lines));
+    let replayed = replay_from(rt, job, &mut source, &ByPrefix, output, watcher);
+    drop(source);
+    replayed
 }
 
 // What is damaged in lines, and not in how the text ends behind them.

@@ -17,12 +17,12 @@ use Rattle.eraser.proofs.command.command.Goals as goal
 pub returns-in-Ok-Replay-clause-usual : goal.returns-in-Ok-Replay-clause-usual
 returns-in-Ok-Replay-clause-usual g c input =
     let asked : IsUsual c.in-Ok-Replay.asked × (c.in-Ok-Replay.asked.hints ≡ c.args.on_terminal) = (rw c.in-Ok-Replay.field-0-is at c.in-Ok-Replay.ensures.asks) input in
-    let decoded = inner_of c.note_touches.new.source in
+    let decoded = inner_of c.prepare.new.source in
     let known = g.I.Read.remaining (source_of decoded) in
     let P : Bool → List ℕ → Type 0 = λ people text. ComesTo people text (has_failed c.run_asked-replayed.new.input) (has_failed c.run_asked-replayed.new.output) (g.O.Write.contents (inner_of c.args.output.now)) (g.O.Write.contents (inner_of c.run_asked-replayed.new.output))
     (g.E.Write.contents (inner_of c.args.errors.now)) (g.E.Write.contents (inner_of c.end_replay-status.new.errors)) (has_failed c.end_replay-status.new.errors) c.end_replay-status.result in
-    subst (λ (o : Option (List ℕ)). IfSome o (λ bytes. P c.args.on_terminal (meant bytes))) (ap g.I.Read.remaining c.note_touches.ensures.source)
-    (of-bytes known (to_come decoded) meant (P c.args.on_terminal) (λ bytes. c.note_touches.ensures.text bytes ∙ c.requires.fresh bytes)
+    subst (λ (o : Option (List ℕ)). IfSome o (λ bytes. P c.args.on_terminal (meant bytes))) (ap g.I.Read.remaining c.prepare.ensures.source)
+    (of-bytes known (to_come decoded) meant (P c.args.on_terminal) (λ bytes. c.prepare.ensures.text bytes ∙ c.requires.fresh bytes)
     (for-text (option_map (to_come decoded) known) (λ text ends. subst (λ people. P people text) (c.run_asked-replayed.ensures.same.0 ∙ asked.1) (c.end_replay-status.ensures.usual text _ _ _ _ ends))
     (c.run_asked-replayed.ensures.usual asked.0)))
 
