@@ -156,8 +156,9 @@ where
     replayed
 }
 
-// If the fault is one of the text, replays the lines before it. Without memory to keep the trace, it becomes a want of memory. A text that ends there may lack its line `end`: that is no damage of these
-// lines, so if it is all that a strict replay finds, they have their report.
+// If the fault is one of the text, replays the lines before it; without memory to keep what was read of a stream, it becomes a want of memory.
+// A text that ends there may lack its line `end`: that is no damage of these lines, so if it is all that a strict replay finds, they have their
+// report.
 fn replay_before<R: Files + AllocGlobal + Threads + Wait + Sync, O: Write, V: Watch>(
     rt: &R,
     job: Job<'_>,
@@ -194,46 +195,25 @@ fn replay_lines<R: Files + AllocGlobal + Threads + Wait + Sync, O: Write, V: Wat
     if output.failed() {
         return Err(Fault::Write);
     }
+    let (notes, directly) = (job.replay.analysis.asks_order(), Directly);
     match again {
         Again::File(path) => {
-            replay_first(rt, job, lines, open_trace(rt, path)?, output, watcher)
+            let mut trace = Device::new(open_trace(rt, path)?);
+            prepare(&mut trace, notes, false);
+            let mut source = Device::new(Prefix::new(trace.into_inner(), &directly, lines));
+            let replayed = replay_from(rt, job, &mut source, &ByPrefix, output, watcher);
+            drop(source);
+            replayed
         }
         Again::Kept(bytes) => {
-            replay_first(
-                rt,
-                job,
-                lines,
-                Decoded::new(rt.alloc(), bytes),
-                output,
-                watcher,
-            )
+            let mut trace = Device::new(Decoded::new(rt.alloc(), bytes));
+            prepare(&mut trace, notes, false);
+            let mut source = Device::new(Prefix::new(trace.into_inner(), &directly, lines));
+            let replayed = replay_from(rt, job, &mut source, &ByPrefix, output, watcher);
+            drop(source);
+            replayed
         }
     }
-}
-
-// Replays the first lines of the text that a trace means.
-fn replay_first<R, D, O, V>(
-    rt: &R,
-    job: Job<'_>,
-    lines: u64,
-    mut trace: Decoded<D>,
-    output: &mut Device<O>,
-    watcher: &mut V,
-) -> Result<Ended, Fault>
-where
-    R: Files + AllocGlobal + Threads + Wait + Sync,
-    D: Read + Drop,
-    O: Write,
-    V: Watch,
-    requires output { has_failed output.old ≡ false }
-{
-    if job.replay.analysis.asks_order() {
-        trace.note_touches();
-    }
-    let mut source = Device::new(Prefix::new(trace, &Directly, lines));
-    let replayed = replay_from(rt, job, &mut source, &ByPrefix, output, watcher);
-    drop(source);
-    replayed
 }
 
 // What is damaged in lines, and not in how the text ends behind them.
