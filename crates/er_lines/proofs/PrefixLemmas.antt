@@ -1,7 +1,8 @@
 -- The first lines of a text, taken piece by piece.
-use Rattle.std.proofs.Common.{◌≡◌, ℕ, zero, suc, ◌+◌, ◌-◌, ◌==◌, ◌<◌, ◌≤◌, Bool, true, false, cond, if◌then◌else◌, List, [], ◌∷◌, ◌++◌, length, take, count_by, ap, sym, ◌∙◌, refl, arith}
+use Rattle.std.proofs.Common.{◌≡◌, ℕ, zero, suc, ◌+◌, ◌-◌, ◌==◌, ◌<◌, ◌≤◌, Bool, true, false, cond, if◌then◌else◌, List, [], ◌∷◌, ◌++◌, length, drop, take, count_by, ap, sym, ◌∙◌, refl, arith}
 use Rattle.std.proofs.lemmas.Bool.Decides.{nat_tests}
-use Rattle.std.proofs.lemmas.List.Sums.{sum_by-cons}
+use Rattle.std.proofs.lemmas.List.{take-append-drop}
+use Rattle.std.proofs.lemmas.List.Sums.{sum_by-append, sum_by-cons}
 use Rattle.er_lines.specs.Lines.{is_end}
 use Rattle.er_lines.specs.Prefix.{first_lines}
 use Rattle.er_lines.specs.Inner.Prefixes.{lines_behind}
@@ -59,20 +60,13 @@ first_lines_within (suc lines) (byte ∷ bytes) =
     let more = first_lines_within (behind (suc lines) (is_end byte)) bytes in
     rw (some_lines (suc lines) byte bytes some) (omega arith)
 
-more_behind : (lines count : ℕ) (feed : Bool) → cond feed 1 0 + count < lines → count < behind lines feed
-more_behind lines count true less = omega arith
-more_behind lines count false less = omega arith
-
--- a piece with fewer line feeds is among them whole
-pub first_lines_all : (lines : ℕ) (bytes : List ℕ) → count_by is_end bytes < lines → length (first_lines lines bytes) ≡ length bytes
-first_lines_all lines [] fewer = refl
-first_lines_all lines (byte ∷ bytes) fewer =
-    let some : 0 < lines = omega arith in
-    let less : cond (is_end byte) 1 0 + count_by is_end bytes < lines = omega (arith, count_step byte bytes, fewer) in
-    let more = first_lines_all (behind lines (is_end byte)) bytes (more_behind lines (count_by is_end bytes) (is_end byte) less) in
-    rw (some_lines lines byte bytes some) (omega arith)
-
 -- a line that is left has a byte of each piece that has one
 pub first_lines_some : (lines : ℕ) (bytes : List ℕ) → 0 < lines → length (first_lines lines bytes) ≡ 0 → bytes ≡ []
 first_lines_some lines [] some none = refl
 first_lines_some lines (byte ∷ bytes) some none = absurd (omega (arith, rw (some_lines lines byte bytes some) at none))
+
+-- the line feeds of a beginning are among them
+pub feeds_within : (n : ℕ) (bytes : List ℕ) → count_by is_end (take n bytes) ≤ count_by is_end bytes
+feeds_within n bytes =
+    let all : count_by is_end (take n bytes ++ drop n bytes) ≡ count_by is_end (take n bytes) + count_by is_end (drop n bytes) = sum_by-append (λ x. cond (is_end x) 1 0) (take n bytes) (drop n bytes) in
+    omega (arith, all, ap (λ (t : List ℕ). count_by is_end t) (take-append-drop n bytes))

@@ -1,8 +1,7 @@
 //! A reader that ends before a line.
-ghost use Rattle.std.specs.Prelude.{◌≡◌, [], count_by, length, option_map};
+ghost use Rattle.std.specs.Prelude.{◌≡◌, [], length, option_map};
 ghost use Rattle.std.specs.Io.{ReadsAtMost};
 ghost use Rattle.std.specs.Io.KnownBytes.{ReadConsumes};
-ghost use Rattle.er_lines.specs.Lines.{is_end};
 ghost use Rattle.er_lines.specs.Prefix.{cut_off, first_lines, lines_left};
 ghost use Rattle.er_lines.specs.Inner.Prefixes.{lines_behind};
 ghost use Rattle.er_lines.specs.Touches.{StaysKnown};
@@ -39,38 +38,16 @@ impl<'s, R, S> Prefix<'s, R, S> {
         ensures lines { self.new.lines ≡ lines_behind bytes.now self.old.lines }
         ensures inner { self.new.inner ≡ self.old.inner }
     {
-        let feeds = feeds_in(bytes);
-        let lines = self.lines;
-        if feeds < lines {
-            self.lines = lines - feeds;
-            return bytes.len();
+        for (place, byte) in bytes.iter().enumerate() {
+            if self.lines == 0 {
+                return place;
+            }
+            if *byte == b'\n' {
+                self.lines -= 1;
+            }
         }
-        self.lines = 0;
-        len_of(lines, bytes)
+        bytes.len()
     }
-}
-
-// How many line feeds there are.
-fn feeds_in(bytes: &[u8]) -> u64
-    ensures { result ≡ count_by is_end bytes.now }
-{
-    bytes.iter().filter(|byte| **byte == b'\n').count() as u64
-}
-
-// How many bytes the first lines have.
-fn len_of(lines: u64, bytes: &[u8]) -> usize
-    ensures { result ≡ length (first_lines lines bytes.now) }
-{
-    let mut left = lines;
-    for (place, byte) in bytes.iter().enumerate() {
-        if left == 0 {
-            return place;
-        }
-        if *byte == b'\n' {
-            left -= 1;
-        }
-    }
-    bytes.len()
 }
 
 impl<R: Read, S: Shortcut<R>> Read for Prefix<'_, R, S> {

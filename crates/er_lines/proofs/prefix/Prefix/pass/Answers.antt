@@ -1,10 +1,13 @@
--- A piece with fewer line feeds than lines are left belongs to them whole.
-use Rattle.std.proofs.Common.{◌<◌, sym, count_by, arith}
-use Rattle.er_lines.specs.Lines.{is_end}
-use Rattle.er_lines.proofs.PrefixLemmas.{first_lines_all}
+-- Where no line is left, none of the bytes behind belongs to one.
+use Rattle.std.proofs.Common.{length, drop, ap, arith}
+use Rattle.er_lines.proofs.PrefixLemmas.{feeds_within, no_lines}
 use Rattle.er_lines.proofs.prefix.Prefix.pass.Goals as goal
 
-pub returns-then-feeds-lines-clause-count : goal.returns-then-feeds-lines-clause-count
-returns-then-feeds-lines-clause-count g c =
-    let fewer : count_by is_end c.args.bytes.now < c.args.self.now.lines = omega (arith, c.feeds_in-feeds.ensures, c.if-feeds-lines.true) in
-    sym (first_lines_all c.args.self.now.lines c.args.bytes.now fewer)
+pub returns-then-self-eq0-clause-count : goal.returns-then-self-eq0-clause-count
+returns-then-self-eq0-clause-count g c =
+    let none = ap length (no_lines c.loop-place.self.lines (drop c.loop-place.place c.args.bytes.now) c.if-self-eq0.true) in
+    omega (arith, none, c.loop-place.invariant.rest)
+
+pub returns-then-self-eq0-clause-lines : goal.returns-then-self-eq0-clause-lines
+returns-then-self-eq0-clause-lines g c =
+    omega (arith, feeds_within c.loop-place.place c.args.bytes.now, c.loop-place.invariant.left, c.if-self-eq0.true)
