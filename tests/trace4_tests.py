@@ -6,7 +6,8 @@
 - random traces of texts 1 to 3, examples and worked traces, as trace 4 with random lengths, blocks and records that say nothing: `eraser print` gives
   the text, and replays give the same report, by path and by standard input, with each option of a report and several workers; by happens-before, if
   each access touches whole words
-- the report by happens-before of accesses that touch parts of their words is that of tests/order_reference.py by bytes
+- the report by happens-before of accesses that touch parts of their words is that of tests/order_reference.py by bytes, also with --until-fault, of a
+  whole trace and of the lines before a fault
 - random trees of calls and facts: the reports by site by each analysis, the JSON and the SARIF of a file show the calls that led to accesses, and what
   raced, as their second readings say; from standard input, from a FIFO and with --until-fault they show neither
 - the last 256 blocks of memory are known to a report, and no block before them; facts that say nothing of a block
@@ -128,6 +129,14 @@ def touch(data):
     return trace
 
 
+# How a trace is replayed up to a fault.
+UNTIL_FAULT = {
+    "from standard input": lambda data, options: run(["replay", "--until-fault", *options, "-"], data),
+    "from a FIFO": lambda data, options: run_fifo(data, "--until-fault", *options),
+    "of a file": lambda data, options: run_file(None, data, "--until-fault", *options),
+}
+
+
 def by_bytes(record):
     """The report by happens-before of a trace that says bytes. Some reports have fewer races than those of their texts."""
     fewer = 0
@@ -138,8 +147,14 @@ def by_bytes(record):
             for options in ([], ["--explain"], ["--workers", "3"]):
                 wanted = analysis_tests.expected(plain, None, analysis, "--explain" in options)
                 options = [*options, "--analysis", analysis]
-                for way, found in (("standard input", run(["replay", *options, "-"], data)), ("a file", run_file(None, data, *options)), ("a file, up to a fault", run_file(None, data, "--until-fault", *options))):
+                for way, found in (("standard input", run(["replay", *options, "-"], data)), ("a file", run_file(None, data, *options)), ("a file, up to a fault", run_file(None, data, "--until-fault", *options)),
+                    ("standard input, up to a fault", run(["replay", "--until-fault", *options, "-"], data))):
                     record(f"trace 4: bytes of {name} from {way} {' '.join(options)}", found == wanted, f"{found}, {wanted}"[:1500])
+                # A byte behind the end is a fault: the lines before it are replayed a second time.
+                way, found = list(UNTIL_FAULT.items())[at % 3]
+                output, errors, status = found(data + b"\0", options)
+                is_told = errors.endswith(b": after end\n") and status == 2
+                record(f"trace 4: bytes of {name} before a fault, {way} {' '.join(options)}", output == wanted[0] and is_told, f"{output} {errors} {status}, {wanted}"[:1500])
         fewer += run(["replay", "--analysis", "happens-before", "-"], data)[0] != run(["replay", "--analysis", "happens-before", "-"], plain)[0]
     record("trace 4: bytes make fewer races", fewer > 10, f"{fewer}")
 

@@ -58,10 +58,8 @@ impl Nodes {
     pub(crate) fn get(&self, n: u64) -> Node
         ensures { result ≡ node_at self.now n }
     {
-        match self.items.get(n.saturating_sub(1) as usize) {
-            Some(node) => *node,
-            None => NO_NODE,
-        }
+        let place = n.saturating_sub(1) as usize;
+        self.items.get(place).copied().unwrap_or(NO_NODE)
     }
 
     pub(crate) fn push(&mut self, node: Node) -> Put

@@ -85,10 +85,7 @@ pub fn record_at(bytes: &[u8]) -> Option<Head>
     ensures within { IfSome result (λ head. (1 ≤ head.len) × (head.len ≤ length bytes.now)) }
     ensures sized { IfSome result (λ head. IsSized head.says) }
 {
-    if bytes.is_empty() {
-        return None;
-    }
-    let tag = bytes[0];
+    let tag = *bytes.first()?;
     if tag < 128 {
         access_at(tag, bytes)
     } else {

@@ -136,13 +136,11 @@ impl Notes {
             return true;
         }
         let said = state.said_by(says);
-        match self.make_room() {
-            Ok(()) => {
-                self.follow(said);
-                true
-            }
-            Err(_) => false,
-        }
+        let Ok(()) = self.make_room() else {
+            return false;
+        };
+        self.follow(said);
+        true
     }
 
     /// Goes on behind so many lines of no access, if they are counted.
