@@ -1,4 +1,4 @@
-//! Laws of what accesses touch: the functions do nothing, and their contracts are proved of the definitions in `specs/`.
+//! The law of what accesses touch: the function does nothing, and its contract is proved of the definitions in `specs/`.
 ghost use Rattle.std.specs.Prelude.{◌≡◌, ◌+◌, ◌*◌, ◌/◌, ◌<◌, ◌≤◌, ◌↔◌, ℕ, List};
 ghost use Rattle.er_binary.specs.ByText.{touches_by_text};
 ghost use Rattle.er_binary.specs.Meaning.{touches};
@@ -10,16 +10,12 @@ ghost use Rattle.er_binary.specs.declared.records.Record.TheVariants as says;
 ghost use Rattle.er_binary.specs.declared.state.State.{State};
 
 /// What an access touches of one of its words are those bytes of the word that it is of. What is said of a trace is of bytes of words, and in the
-/// order of lines, none of which has two, as far as lines are counted.
+/// order of lines, none of which has two, as far as lines are counted. The number of a line is one more than the line feeds before it in the text.
 pub fn a_touch_says_which_bytes_of_a_word()
     ensures bytes { (s : State) (a : Access) (line k i : ℕ) → 1 ≤ a.size → k < words_of (address_of s a) a.size → i < 4
         → let touch = touch_at line (said_by s (says.Access a)) k in let byte = 4 * (address_of s a / 4 + k) + i in
         ((touch.first ≤ i) × (i ≤ touch.last)) ↔ ((address_of s a ≤ byte) × (byte < address_of s a + a.size)) }
     ensures words { (bytes : List ℕ) → AreOfWords (touches bytes) }
     ensures order { (bytes : List ℕ) → AreInOrder (touches bytes) }
-{}
-
-/// What is said of a line of a trace names it by a number that is one more than the line feeds before it in the text, as far as lines are counted.
-pub fn a_line_has_the_number_of_the_line_feeds_before_it()
-    ensures { (bytes : List ℕ) → touches bytes ≡ touches_by_text bytes }
+    ensures numbers { (bytes : List ℕ) → touches bytes ≡ touches_by_text bytes }
 {}

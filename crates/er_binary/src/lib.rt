@@ -16,9 +16,7 @@
 #![tactic(auto)]
 
 pub use decoded::{Decoded, Directly, Listener};
-pub use laws::{
-    a_line_has_the_number_of_the_line_feeds_before_it, a_touch_says_which_bytes_of_a_word,
-};
+pub use laws::a_touch_says_which_bytes_of_a_word;
 pub use names::{Names, number};
 pub use records::{Access, Head, Kind, Record, record_at};
 pub use state::State;
