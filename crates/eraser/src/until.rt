@@ -141,19 +141,25 @@ where
         options: &options,
         ..job
     };
-    let replayed = match replay_from(rt, job, &mut source, &Directly, output, watcher) {
-        Ok(ended) => Ok(ended),
+    match replay_from(rt, job, &mut source, &Directly, output, watcher) {
+        Ok(ended) => {
+            drop(source);
+            Ok(ended)
+        }
         Err(fault) if replay.until_fault => {
             let again = match is_kept {
                 true => Directly.kept(source.inner()).map(Again::Kept),
                 false => Some(Again::File(replay.trace)),
             };
-            Err(replay_before(rt, job, fault, again, output, watcher))
+            let cut = replay_before(rt, job, fault, again, output, watcher);
+            drop(source);
+            Err(cut)
         }
-        Err(fault) => Err(cut_by(rt.alloc(), fault)),
-    };
-    drop(source);
-    replayed
+        Err(fault) => {
+            drop(source);
+            Err(cut_by(rt.alloc(), fault))
+        }
+    }
 }
 
 // If the fault is one of the text, replays the lines before it; without memory to keep what was read of a stream, it becomes a want of memory.
