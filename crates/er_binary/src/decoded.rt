@@ -56,8 +56,7 @@ impl<R> Decoded<R> {
     ghost use Rattle.er_binary.specs.Decoded.{IsFresh, TouchesFresh, is_binary, is_noting, names_of, source_of, to_come, to_touch};
     ghost use Rattle.er_lines.specs.Touches.{HasHanded};
 
-    /// A reader of what the other one gives. It notes nothing of what accesses touch: each counts as touching its whole word, until
-    /// [`note_touches`](Decoded::note_touches) is called.
+    /// A reader of what the other one gives. It notes nothing of what accesses touch: each counts as touching its whole word.
     pub fn new(alloc: Global, inner: R) -> Decoded<R>
         ensures source { source_of result ≡ inner }
         ensures fresh { IsFresh result }

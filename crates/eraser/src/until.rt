@@ -162,9 +162,8 @@ where
     }
 }
 
-// If the fault is one of the text, replays the lines before it; without memory to keep what was read of a stream, it becomes a want of memory.
-// A text that ends there may lack its line `end`: that is no damage of these lines, so if it is all that a strict replay finds, they have their
-// report.
+// If the fault is one of the text, replays the lines before it. Without memory to keep a stream it becomes a want of memory. A text that ends there
+// may lack its line `end`: that is no damage of these lines, so if it is all that a strict replay finds, they have their report.
 fn replay_before<R: Files + AllocGlobal + Threads + Wait + Sync, O: Write, V: Watch>(
     rt: &R,
     job: Job<'_>,
