@@ -1,5 +1,5 @@
 -- The line feeds of the text of a record.
-use Rattle.std.proofs.Common.{◌≡◌, ◌==◌, ◌&&◌, ◌||◌, ◌⊎◌, ℕ, zero, suc, ◌+◌, ◌-◌, ◌*◌, ◌/◌, ◌%◌, ◌<◌, ◌≤◌, Bool, true, false, not, cond, nat_le, nat_lt, List, [], ◌∷◌, ◌++◌, count_by, codes, decimal, drop, length, take, unwrap_or, Option, Some, None, IfSome, if◌then◌else◌, refl, sym, ap, ◌∙◌, arith, drop-drop, inl, inr}
+use Rattle.std.proofs.Common.{◌≡◌, ◌==◌, ◌&&◌, ◌||◌, ◌⊎◌, ℕ, zero, suc, ◌+◌, ◌*◌, ◌/◌, ◌%◌, ◌<◌, Bool, true, false, not, cond, nat_le, nat_lt, List, [], ◌∷◌, ◌++◌, count_by, codes, decimal, drop, length, take, unwrap_or, Option, Some, None, IfSome, if◌then◌else◌, refl, sym, ap, ◌∙◌, arith, drop-drop, inl, inr}
 use Rattle.std.specs.Char.{digit_char}
 use Rattle.std.specs.Fmt.{digit_glyph, digits, digits_onto}
 use Rattle.std.specs.List.{list_all}
@@ -17,9 +17,8 @@ use Rattle.er_binary.specs.Nodes.{node_at}
 use Rattle.er_binary.specs.Numbers.{address_word, name_at, number}
 use Rattle.er_binary.specs.Records.{body_len, record_at}
 use Rattle.er_binary.specs.States.{address_of, after, is_access, is_note_byte, is_place, is_right, may_come, node_of}
-use Rattle.er_binary.specs.Texts.{access_lines, access_verb, feed, lost_text, operand, site, text_of, thread_does, verb, word, words_of}
+use Rattle.er_binary.specs.Texts.{access_lines, access_verb, feed, site, text_of, thread_does, word, words_of}
 use Rattle.er_binary.specs.Touches.{lines_of}
-use Rattle.er_binary.specs.declared.records.Access.{Access}
 use Rattle.er_binary.specs.declared.records.Head.{Head}
 use Rattle.er_binary.specs.declared.records.Kind.{Kind}
 use Rattle.er_binary.specs.declared.records.Kind.TheVariants as kind

@@ -1,5 +1,5 @@
 -- What is noted later is of words, and of later lines in their order.
-use Rattle.std.proofs.Common.{◌==◌, ℕ, zero, suc, ◌+◌, ◌-◌, ◌<◌, ◌≤◌, ◌^◌, Bool, true, false, cond, not, List, [], ◌∷◌, length, take, drop, nat_lt, Option, Some, None, IfSome, arith}
+use Rattle.std.proofs.Common.{◌==◌, ℕ, zero, suc, ◌+◌, ◌-◌, ◌<◌, ◌^◌, Bool, true, false, cond, not, List, [], ◌∷◌, length, take, drop, nat_lt, Option, Some, None, IfSome, arith}
 use Rattle.std.specs.Str.{bytes_eq}
 use Rattle.er_binary.specs.Inner.Decoders.{all_blocks, all_content, all_records, undecoded}
 use Rattle.er_binary.specs.Meaning.{Taken, as_touches, blocks, checksum, content, is_bad_len, magic, past, records, spot_at, take_record, then_more, touches, touches_behind}
