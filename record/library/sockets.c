@@ -73,6 +73,12 @@ static int find_peer(int file, struct sockaddr *address, socklen_t *size)
     return -1;
 }
 
+/* The same number at both ends. A sum of the two would be that of other ends, too: of the ports 1 and 4 as of 2 and 3. */
+static uint64_t number_of_ends(uint64_t one, uint64_t other)
+{
+    return one < other ? mixed(one, &other, sizeof other) : mixed(other, &one, sizeof one);
+}
+
 /* A connection is one object, whichever end somebody uses: it has the same two addresses at both. A datagram is of the address that it is sent to. */
 static struct channel channel_of(int file, address_of target)
 {
@@ -82,7 +88,7 @@ static struct channel channel_of(int file, address_of target)
     bool is_connection = type == SOCK_STREAM || type == SOCK_SEQPACKET;
     uint64_t number = is_connection ? number_at(file, find_peer, true) : number_at(file, target, false);
     if (is_connection && number)
-        number += number_at(file, getsockname, true);
+        number = number_of_ends(number, number_at(file, getsockname, true));
     errno = error;
     return channel_by(number);
 }

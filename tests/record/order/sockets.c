@@ -1,4 +1,5 @@
-/* What threads hand over by sockets and by an epoll. Who receives comes after who sent, and not after who could send nothing, or sent elsewhere. */
+/* What threads hand over by sockets and by an epoll. Who receives comes after who sent, and not after who could send nothing, or sent elsewhere. What is
+ * elsewhere may have much the same addresses. */
 #define _GNU_SOURCE
 #include "../meet.h"
 
@@ -126,13 +127,16 @@ static void run(int number)
     number == 0 ? send_all() : take_all();
 }
 
-/* A connection between two sockets of this host. */
-static void connect_two(int *two)
+/* A connection between two sockets of a host that no other process has, and with it these ports. Of all connections, the two ports have one sum. */
+static void connect_two(int *two, int number)
 {
-    struct sockaddr_in address = {.sin_family = AF_INET, .sin_addr.s_addr = htonl(INADDR_LOOPBACK)};
+    enum { FIRST = 20000, LAST = FIRST + 15 };
+    struct sockaddr_in address = {.sin_family = AF_INET, .sin_addr.s_addr = htonl(INADDR_LOOPBACK + (in_addr_t)getpid())}, own = address;
+    address.sin_port = htons((in_port_t)(FIRST + number));
+    own.sin_port = htons((in_port_t)(LAST - number));
     int listening = bound(AF_INET, SOCK_STREAM, &address, sizeof address);
     check(listen(listening, 1) == 0);
-    two[1] = socket(AF_INET, SOCK_STREAM, 0);
+    two[1] = bound(AF_INET, SOCK_STREAM, &own, sizeof own);
     check(connect(two[1], (struct sockaddr *)&address, sizeof address) == 0);
     two[0] = accept(listening, NULL, NULL);
     check(two[0] >= 0);
@@ -141,18 +145,21 @@ static void connect_two(int *two)
 
 int main(void)
 {
-    connect_two(stream);
-    connect_two(parts);
-    connect_two(ending);
-    connect_two(narrow);
-    connect_two(other);
+    connect_two(stream, 0);
+    connect_two(parts, 1);
+    connect_two(ending, 2);
+    connect_two(narrow, 3);
+    connect_two(other, 4);
     check(shutdown(narrow[1], SHUT_WR) == 0);
     place = (struct sockaddr_in){.sin_family = AF_INET, .sin_addr.s_addr = htonl(INADDR_ANY)};
     datagram[0] = bound(AF_INET, SOCK_DGRAM, &place, sizeof place);
     place.sin_addr.s_addr = htonl(INADDR_LOOPBACK);
     datagram[1] = socket(AF_INET, SOCK_DGRAM, 0);
-    six_place = (struct sockaddr_in6){.sin6_family = AF_INET6};
-    heard = bound(AF_INET6, SOCK_STREAM, &six_place, sizeof six_place);
+    /* A port alone is one object, of whatever type: so another one. */
+    do {
+        six_place = (struct sockaddr_in6){.sin6_family = AF_INET6};
+        heard = bound(AF_INET6, SOCK_STREAM, &six_place, sizeof six_place);
+    } while (six_place.sin6_port == place.sin_port);
     check(listen(heard, 1) == 0);
     six_place_as_four = (struct sockaddr_in){.sin_family = AF_INET, .sin_port = six_place.sin6_port, .sin_addr.s_addr = htonl(INADDR_LOOPBACK)};
     check(socketpair(AF_UNIX, SOCK_STREAM, 0, pair) == 0);
