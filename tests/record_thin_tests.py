@@ -6,6 +6,7 @@ new use of it in between.
 - the rule, by a second reading of it: random traces have the same races with and without their repeats, and so has a recorded one
 - what the writer's thin.c leaves out of random recordings is a repeat, and doesn't change a race (`tests/record/thin/any.c`)
 - what the library's repeats.c finds repeated by random threads is a repeat, whenever others note their events (`tests/record/thin/notes.c`)
+- what ends all that threads know may be interrupted at any instruction, and left there by a jump (`tests/record/thin/raises.c`)
 - an access that comes when the recorder was interrupted at any instruction is there (`tests/record/thin/steps.c`)
 - the programs of tests/record and tests/record/order race at the same lines when they are recorded so
 - `tests/record/thin/repeats.c`: a comment READS n or WRITES n says how many words of a line are left
@@ -30,6 +31,7 @@ from record_tests import RUN, SOURCES, WORKERS, Findings, build, command, marked
 
 # Programs of tests/record that end otherwise than by themselves, need something else beside them, or have no race and no words to compare.
 OTHERS = ("ends", "loads", "plugin", "busy", "jumps", "empty", "sizes")
+SANITIZED = ("-fsanitize=address,undefined", "-fno-sanitize-recover=all")
 
 
 def without_repeats(lines):
@@ -122,6 +124,15 @@ def random_traces(findings, pool):
     findings.check("a thread that is joined and goes on", is_right, f"{rule_fault(goes_on)}")
 
 
+def build_with(folder, findings, name, part, *options):
+    """A program of tests/record/thin that is linked with a source of the recorder's."""
+    program = folder / name
+    words = ["gcc", "-std=gnu11", "-O1", "-g", "-Wall", "-Wextra", *options]
+    built = command([*words, SOURCES / f"thin/{name}.c", record_tests.TOP / "record" / part, "-o", program])
+    findings.check(f"{name} with {part} is built", built.returncode == 0 and built.stderr == "", built.stderr)
+    return program
+
+
 def writer_fault(program, seed):
     """What differs in the reports of a random recording without what the writer leaves out, and how many lines that is."""
     done = command([program, str(seed), str(random.Random(seed).choice([30, 100, 300]))])
@@ -134,23 +145,20 @@ def writer_fault(program, seed):
 
 
 def writer(folder, findings, pool):
-    program = folder / "any"
-    built = command(["gcc", "-std=gnu11", "-O1", "-g", "-Wall", "-Wextra", "-fsanitize=address,undefined", "-fno-sanitize-recover=all",
-                     SOURCES / "thin/any.c", record_tests.TOP / "record/writer/thin.c", "-o", program])
-    findings.check("the writer's part is built", built.returncode == 0 and built.stderr == "", built.stderr)
+    program = build_with(folder, findings, "any", "writer/thin.c", *SANITIZED)
     found = list(pool.map(lambda seed: writer_fault(program, seed), range(100)))
     findings.check("random recordings without what the writer leaves out", not any(fault for fault, _ in found), next((fault for fault, _ in found if fault), ""))
     findings.check("the writer leaves something out", sum(count for _, count in found) > 1000, f"{sum(count for _, count in found)}")
 
 
 def library(folder, findings, pool):
-    program = folder / "notes"
-    built = command(["gcc", "-std=gnu11", "-O1", "-g", "-Wall", "-Wextra", "-mcx16", "-fsanitize=address,undefined", "-fno-sanitize-recover=all",
-                     SOURCES / "thin/notes.c", record_tests.TOP / "record/library/repeats.c", "-o", program])
-    findings.check("the library's part is built", built.returncode == 0 and built.stderr == "", built.stderr)
+    program = build_with(folder, findings, "notes", "library/repeats.c", "-mcx16", *SANITIZED)
     found = list(pool.map(lambda seed: command([program, str(seed), "3000"]), range(100)))
     findings.check("random threads without what the library finds repeated", all(done.returncode == 0 for done in found), next((f"{done}" for done in found if done.returncode), ""))
     findings.check("the library finds repeats", sum(int(done.stdout or 0) for done in found) > 1000, f"{found[0]}")
+    done = command([build_with(folder, findings, "raises", "library/repeats.c", "-mcx16")])
+    is_right = done.returncode == 0 and all(int(count) > 10 for count in done.stdout.split())
+    findings.check("what is known is forgotten with an interrupt at each instruction", is_right, f"{done}")
 
 
 def interrupted(folder, findings):

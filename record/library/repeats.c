@@ -39,14 +39,24 @@ static bool replace(union note *note, const union note *old, const union note *n
 #endif
 }
 
-/* Who notes an access now has its ticket already. Either it sees that the floor rises, or its ticket is below the new one. */
+static void raise_to(_Atomic uint64_t *value, uint64_t least)
+{
+    for (uint64_t old = atomic_load(value); old < least && !atomic_compare_exchange_weak(value, &old, least);)
+        ;
+}
+
+/* An event with a ticket above the new floor was drawn after this raise began. So who notes it sees that the last raise isn't over, or the floor of that one, which
+ * began no earlier. A handler may leave a raise by a jump: then it is over once a later one is. */
 void notes_forget_all(struct notes *notes, struct ring *ring)
 {
-    atomic_fetch_add(&notes->rising, 1);
-    uint64_t tail = atomic_load(&ring->tail), floor = atomic_load(&notes->floor);
-    while (floor < tail && !atomic_compare_exchange_weak(&notes->floor, &floor, tail))
-        ;
-    atomic_fetch_sub(&notes->rising, 1);
+    uint64_t number = atomic_fetch_add(&notes->begun, 1) + 1;
+    raise_to(&notes->floor, atomic_load(&ring->tail));
+    raise_to(&notes->ended, number);
+}
+
+static bool is_floor_up(const struct notes *notes)
+{
+    return atomic_load(&notes->begun) == atomic_load(&notes->ended);
 }
 
 static void change(struct notes *notes, struct doer doer, uint64_t ticket, uint64_t unit, uint64_t touched)
@@ -55,7 +65,7 @@ static void change(struct notes *notes, struct doer doer, uint64_t ticket, uint6
     do {
         old.event = atomic_load_explicit(&note->event, memory_order_relaxed);
         old.bytes = atomic_load_explicit(&note->bytes, memory_order_relaxed);
-        bool goes_on = touched && old.bytes >> BYTES_BITS == unit && !atomic_load(&notes->rising) && is_own_note(notes, doer, old.event);
+        bool goes_on = touched && old.bytes >> BYTES_BITS == unit && is_floor_up(notes) && is_own_note(notes, doer, old.event);
         bool is_late = old.event >> THREAD_BITS > ticket;
         new.event = is_late ? old.event : ticket << THREAD_BITS | doer.thread;
         new.bytes = is_late ? old.bytes >> BYTES_BITS << BYTES_BITS : (goes_on ? old.bytes : unit << BYTES_BITS) | touched;

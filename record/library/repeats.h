@@ -37,7 +37,8 @@ union holding {
 
 struct notes {
     _Atomic uint64_t floor;  /* no note of an earlier event counts */
-    _Atomic uint64_t rising; /* how many threads are about to change that */
+    _Atomic uint64_t begun;  /* how often it was about to be raised */
+    _Atomic uint64_t ended;  /* the last of these raises that is over, counted from 1 */
     _Alignas(64) union note all[NOTES];
     union holding holders[HOLDERS];
 };
