@@ -2,7 +2,7 @@
 """`eraser replay --analysis happens-before` and `both`, beside a second reading: happens-before by chains of steps, without clocks.
 
 - worked traces give the reports of tests/analysis/*.txt, with reasons and without, by path, by standard input and with several workers
-- the lists of tests/order/worked.txt give a line for each race and for each refused step, and no other
+- the lists of tests/order/worked.txt, and as traces 4 those of tests/order/bytes.txt, give a line for each race and for each refused step, and no other
 - random traces give what tests/order_reference.py and tests/reference.py say of them, with suppressions and without: traces of all three
   texts, a quarter of them damaged, and lists of text 3 in which every sort of order stands
 - `both` writes the report of the one analysis, and then that of the other; with `--by-site` the sites of both under two headings, and by
@@ -15,6 +15,7 @@
 - an analysis that there is not is refused; forms and other options by each analysis: tests/forms_tests.py
 """
 
+import collections
 import os
 import pathlib
 import re
@@ -27,6 +28,7 @@ sys.dont_write_bytecode = True
 import order_reference
 import order_tests
 import reference
+import trace4
 from alone import each_failed, each_refused, program, run_alone
 from site_tests import by_site_of_both, by_site_of_order, places_in, preloaded, run_file
 
@@ -96,18 +98,14 @@ def told_of(race, holds):
     return f"line {step.line}: unordered: {step.thread} {step.verb} {address} at {step.site}, holds {holds[step.line]}"
 
 
-# What accesses touch of their words, by the texts of traces 4 and by lines. In another text they touch whole words.
-TOUCHED = {}
-
-
-def unordered_report(text, rules, explain=False):
-    """The report of a text that has no fault, with reasons or without."""
+def unordered_report(text, rules, explain=False, touched={}):
+    """The report of a text that has no fault, with reasons or without. These lines touch parts of their words, as a trace 4 says, and others touch whole words."""
     noting = Noting()
     for line, (thread, verb, operands) in reference.events_of(text):
         noting.step(line, thread, verb, operands)
     lines = [(int(line.split(":")[0].removeprefix("line ")), line) for line in noting.lines if re.match(r"line \d+: refused: ", line)]
     taken, races = [0] * len(rules), 0
-    marked = order_reference.mark(order_reference.touch(order_reference.read(text), TOUCHED.get(text, {})))
+    marked = order_reference.mark(order_reference.touch(order_reference.read(text), touched))
     for race in order_reference.races(marked):
         taker = taker_of(rules, race)
         if taker is not None:
@@ -127,12 +125,12 @@ def order_note(text, report):
     return reference.order_note_of(text, int(re.search(r"^steps \d+, unordered (\d+)", report, re.M)[1]))
 
 
-def expected(text, rules, analysis, explain=False):
-    """What a replay by this analysis writes to both streams, with reasons or without, and its status."""
+def expected(text, rules, analysis, explain=False, touched={}):
+    """What a replay by this analysis writes to both streams, with reasons or without, and its status, if these lines touch parts of their words."""
     output, errors, status = reference.replay(text, rules or b"", explain)
     if status == 2:
         return output.encode(), errors.encode(), status
-    unordered, unordered_status = unordered_report(text, reference.rules_of(rules or b""), explain)
+    unordered, unordered_status = unordered_report(text, reference.rules_of(rules or b""), explain, touched)
     errors += order_note(text, unordered)
     if analysis == "happens-before":
         return unordered.encode(), errors.encode(), unordered_status
@@ -168,20 +166,20 @@ def worked(record):
 
 
 def worked_lists(record):
-    """Of each list of tests/order/worked.txt the lines of its races and refused steps, and the counts."""
-    names = []
-    for name, text, answers in order_tests.worked_lists():
+    """Of each list the lines of its races and refused steps, and the counts."""
+    kinds = collections.Counter()
+    for name, text, touched, answers in order_tests.worked_lists():
         told = {"race": "unordered", "refused": "refused"}
         lines = [(str(line), told[answer]) for line, answer in enumerate(answers, 2) if answer in told]
         races, refused = answers.count("race"), answers.count("refused")
         counts = f"steps {len(answers)}, unordered {races}, suppressed 0, refused {refused}"
-        output, errors, status = run([*HAPPENS_BEFORE, "-"], text)
+        output, errors, status = run([*HAPPENS_BEFORE, "-"], trace4.encode_touching(text, touched) if touched else text)
         *found, last = output.decode().splitlines() or [""]
         heads = [tuple(re.match(r"line (\d+): (\w+): ", line).groups()) for line in found]
         is_right = (heads, last, errors.decode(), status) == (lines, counts, reference.order_note_of(text, races), 1 if races else 0)
         record(f"happens-before: list {name}", is_right, f"{output}, {errors}, {status}")
-        names.append(name)
-    record("analyses: worked lists are found", len(names) >= 20, f"{names}")
+        kinds[bool(touched)] += 1
+    record("analyses: worked lists are found", kinds[False] >= 20 and kinds[True] >= 8, f"{kinds}")
 
 
 # ---- Random traces ----
@@ -213,7 +211,7 @@ def expected_by_site(text, rules=None, trace=None):
     output, errors, status = reference.replay(text, rules or b"", explain=True)
     if status == 2:
         return dict.fromkeys(((analysis, is_file) for analysis in ("happens-before", "both") for is_file in (False, True)), (output.encode(), errors.encode(), status))
-    ordered, ordered_status = unordered_report(text, reference.rules_of(rules or b""), explain=True)
+    ordered, ordered_status = unordered_report(text, reference.rules_of(rules or b""), True, trace.touched if trace else {})
     errors, wanted = (errors + order_note(text, ordered)).encode(), {}
     for is_file, said, places in ((False, None, {}), (True, trace, places_in(text, trace))):
         wanted["happens-before", is_file] = by_site_of_order(ordered, text, places, said).encode(), errors, ordered_status

@@ -137,22 +137,23 @@ def wanted_lines(races):
 
 
 def documents_of(text, rules, explain, analysis="lockset", is_file=False, trace=None):
-    """The documents of a text that has no fault. Reasons have places if it is a file, which can be read twice, with what this trace 4 says."""
-    documents = []
+    """The documents of a text that has no fault, which may be that of this trace 4. Reasons have places if it is a file, which can be read twice, with what the
+    trace says."""
+    documents, said = [], trace if is_file else None
     if analysis != "happens-before":
         documents.append(document_of(reference.replay(text, rules or b"", explain=explain)[0]))
     if analysis != "lockset":
-        documents.append(document_of(unordered_report(text, reference.rules_of(rules or b""), explain)[0], holds_of(text)))
+        documents.append(document_of(unordered_report(text, reference.rules_of(rules or b""), explain, trace.touched if trace else {})[0], holds_of(text)))
     wanted = {str(line) for document in documents for line in wanted_lines(document["races"])}
-    places = {line: place for line, place in (places_in(text, trace) if is_file else {}).items() if line in wanted}
+    places = {line: place for line, place in (places_in(text, said) if is_file else {}).items() if line in wanted}
     races = [race for document in documents for race in document["races"]]
     words = {race["address"] for race in races if "kind" in race and str(race["line"]) in wanted}
     for race in races:
         race["reasons"] = [placed(reason, places) for reason in race["reasons"]]
         race.update(led(places.get(str(race["line"]), NOWHERE)) if "kind" in race else {})
-        race.update(subject(race, trace, words, {int(line) for line in wanted}))
+        race.update(subject(race, said, words, {int(line) for line in wanted}))
     for document in documents:
-        mentions_of(document, places, trace)
+        mentions_of(document, places, said)
     return documents
 
 

@@ -51,12 +51,12 @@ def lists_of(path):
 
 
 def worked_lists():
-    """The name of each list of tests/order/worked.txt, with its text and the answers beside its lines."""
-    return [(name, text, expected) for name, text, _, expected in lists_of(CASES / "worked.txt")]
+    """The lists of tests/order/worked.txt, and those of tests/order/bytes.txt, whose lines touch parts of their words."""
+    return [*lists_of(CASES / "worked.txt"), *lists_of(CASES / "bytes.txt")]
 
 
 def worked(record):
-    for name, text, touched, expected in [*lists_of(CASES / "worked.txt"), *lists_of(CASES / "bytes.txt")]:
+    for name, text, touched, expected in worked_lists():
         found = order_reference.answers(order_reference.mark(order_reference.touch(order_reference.read(text), touched)))
         record(f"order: {name}", bool(found) and found == expected, f"{found}")
 

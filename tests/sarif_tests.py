@@ -161,8 +161,8 @@ def log_of(runs):
 def expected(text, rules, is_file=False, analysis="lockset", trace=None):
     output, errors, status = reference.replay(text, rules or b"", explain=True)
     if status < 2:
-        documents = documents_of(text, rules, True, analysis)
-        output = log_of(run_text(document, places_in(text, trace) if is_file else {}, reference.rules_of(rules or b""), trace) for document in documents)
+        documents, said = documents_of(text, rules, True, analysis, trace=trace), trace if is_file else None
+        output = log_of(run_text(document, places_in(text, said) if is_file else {}, reference.rules_of(rules or b""), said) for document in documents)
         errors, status = errors + order_note(text, documents), 1 if any(document["totals"]["races"] for document in documents) else 0
     return output.encode(), errors.encode(), status
 

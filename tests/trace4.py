@@ -634,6 +634,18 @@ def encode(text, dice=None, lost=0, **more):
     return writer.finish(lost)
 
 
+def encode_touching(text, touched):
+    """A trace 4 that means a text whose lines touch these parts of their words, each from a first to a last byte, and all other lines whole words."""
+    writer = Writer()
+    for line, (thread, verb, operands) in reference.events_of(text):
+        if verb in (b"read", b"write"):
+            first, last = touched.get(line, (0, 3))
+            writer.access(thread, verb == b"write", reference.number(operands[0]) + first, last - first + 1, writer.node_at(site_in(operands[1:])))
+        else:
+            write_event(writer, thread, verb, operands)
+    return writer.finish()
+
+
 def write_access(writer, run):
     """An access that touches the words of a run, and all its bytes or some."""
     (thread, verb, site), first = run[0]

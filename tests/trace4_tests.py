@@ -7,7 +7,7 @@
   the text, and replays give the same report, by path and by standard input, with each option of a report and several workers; by happens-before, if
   each access touches whole words
 - the report by happens-before of accesses that touch parts of their words is that of tests/order_reference.py by bytes, also with --until-fault, of a
-  whole trace and of the lines before a fault
+  whole trace and of the lines before a fault, and if batches lie between them, or pieces of several workers
 - random trees of calls and facts: the reports by site by each analysis, the JSON and the SARIF of a file show the calls that led to accesses, and what
   raced, as their second readings say; from standard input, from a FIFO and with --until-fault they show neither
 - the last 256 blocks of memory are known to a report, and no block before them; facts that say nothing of a block
@@ -122,13 +122,6 @@ def same_reports(record):
             check(record, name, trace4.text_of(given), given, options)
 
 
-def touch(data):
-    """Has the second reading of happens-before know what the accesses of a trace touch."""
-    trace = trace4.Trace(data)
-    analysis_tests.TOUCHED[trace.text()] = trace.touched
-    return trace
-
-
 # How a trace is replayed up to a fault.
 UNTIL_FAULT = {
     "from standard input": lambda data, options: run(["replay", "--until-fault", *options, "-"], data),
@@ -142,10 +135,11 @@ def by_bytes(record):
     fewer = 0
     for at, (name, text) in enumerate(random_texts()):
         data = trace4.encode(text, random.Random(at), most_bytes=random.Random(at).choice([100, 65536]))
-        plain = touch(data).text()
+        trace = trace4.Trace(data)
+        plain = trace.text()
         for analysis in ("happens-before", "both"):
             for options in ([], ["--explain"], ["--workers", "3"]):
-                wanted = analysis_tests.expected(plain, None, analysis, "--explain" in options)
+                wanted = analysis_tests.expected(plain, None, analysis, "--explain" in options, trace.touched)
                 options = [*options, "--analysis", analysis]
                 for way, found in (("standard input", run(["replay", *options, "-"], data)), ("a file", run_file(None, data, *options)), ("a file, up to a fault", run_file(None, data, "--until-fault", *options)),
                     ("standard input, up to a fault", run(["replay", "--until-fault", *options, "-"], data))):
@@ -159,10 +153,40 @@ def by_bytes(record):
     record("trace 4: bytes make fewer races", fewer > 10, f"{fewer}")
 
 
+def long_list(dice):
+    """A text of 20,000 lines: accesses, and here and there what orders threads, or puts memory to a new use."""
+    lines, word = [], lambda: f"{0x10000 + 4 * dice.randrange(8000):#x}"
+    for _ in range(20_000):
+        verb = f"{dice.choice(['read', 'write'])} {word()} source/of/the/program/file_{dice.randrange(100)}.cpp:{dice.randrange(900)}"
+        if dice.randrange(300) == 0:
+            verb = dice.choice(["lock m", "unlock m", "lock n", "unlock n", "signal s", "await s", f"reuse {word()} 64 pool.cpp:1"])
+        lines.append(f"thread-{dice.randrange(4)} {verb}\n")
+    return f"eraser trace 3\n{''.join(lines)}end\n".encode()
+
+
+def bytes_of_a_long_trace(record):
+    """Accesses of the same bytes lie farther apart than the longest batch, and the lines are several pieces of 384 KiB."""
+    dice = random.Random(5)
+    data = trace4.encode(long_list(dice), dice, most_bytes=10_000)
+    trace = trace4.Trace(data)
+    plain = trace.text()
+    by_bytes, status = analysis_tests.unordered_report(plain, [], True, trace.touched)
+    by_locks, errors, either = reference.replay(plain)
+    both = by_locks + re.sub("  unordered with: .*\n", "", by_bytes)
+    apart = [int(line) - int(reason) for line, reason in re.findall(r"^line (\d+): unordered: .*\n  unordered with: line (\d+)", by_bytes, re.M)]
+    more = run(["replay", "--analysis", "happens-before", "-"], plain)[0].count(b": unordered: ") - len(apart)
+    record("trace 4: a long trace by bytes", max(apart) > 16_384 and more > 10 and len(plain) > 3 * 384 * 1024 and len(apart) > 1000, f"{max(apart)} {more} {len(plain)} {len(apart)}")
+    for workers in ("1", "2", "4", "7"):
+        for analysis, wanted in (["happens-before", "--explain"], (by_bytes.encode(), b"", status)), (["both"], (both.encode(), errors.encode(), max(status, either))):
+            options = ["--analysis", *analysis, "--workers", workers]
+            for way, found in (("standard input", run(["replay", *options, "-"], data)), ("a file", run_file(None, data, *options))):
+                record(f"trace 4: a long trace by bytes from {way} {' '.join(options)}", found == wanted, f"{len(found[0])} {found[1:]}, {len(wanted[0])}")
+
+
 def long_traces(record):
     """Several blocks, of which some have the greatest length, and lines that several workers share."""
     dice = random.Random(11)
-    lines = [f"t{dice.randrange(5)} {dice.choice(['read', 'write'])} {0x10000 + 4 * dice.randrange(4000):#x} f{dice.randrange(400)}.c:{dice.randrange(9)}" for _ in range(60_000)]
+    lines = [f"t{dice.randrange(5)} {dice.choice(['read', 'write'])} {0x10000 + 4 * dice.randrange(8000):#x} f{dice.randrange(400)}.c:{dice.randrange(9)}" for _ in range(60_000)]
     text = ("eraser trace 3\n" + "\n".join(lines) + "\n").encode()
     plain = trace4.plain(text)
     for name, data in (("usual blocks", trace4.encode(text)), ("small blocks", trace4.encode(text, most_bytes=500)), ("one block", trace4.encode(text, most_bytes=trace4.MOST_BYTES - 100))):
@@ -206,8 +230,8 @@ def expected_forms(text, trace):
         yield f"by site of {analysis}", ["--by-site", "--analysis", analysis], places[analysis, True], places[analysis, False]
     for analysis in ("lockset", "both"):
         options = ["--explain", "--analysis", analysis, "--format"]
-        yield f"json of {analysis}", [*options, "json"], *(json_tests.expected(text, None, True, analysis, *more) for more in ((True, trace), ()))
-        yield f"sarif of {analysis}", [*options, "sarif"], *(sarif_tests.expected(text, None, is_file, analysis, said) for is_file, said in ((True, trace), (False, None)))
+        yield f"json of {analysis}", [*options, "json"], *(json_tests.expected(text, None, True, analysis, is_file, trace) for is_file in (True, False))
+        yield f"sarif of {analysis}", [*options, "sarif"], *(sarif_tests.expected(text, None, is_file, analysis, trace) for is_file in (True, False))
 
 
 # How a trace is replayed that isn't read again.
@@ -239,7 +263,7 @@ def shown_calls(record):
     met = collections.Counter()
     for at, (name, text) in enumerate(random_texts()):
         data = trace4.encode(text, random.Random(at), most_bytes=random.Random(at).choice([100, 65536]), most_calls=at % 14, facts=at % 4 > 0)
-        met.update(check_calls(record, name, touch(data).text(), data, list(READ_ONCE)[at % 3]))
+        met.update(check_calls(record, name, trace4.text_of(data), data, list(READ_ONCE)[at % 3]))
     shown = collections.Counter()
     for (word, _), times in met.items():
         shown[word] += times
@@ -613,7 +637,7 @@ def example_of_facts(record):
     """The example of a report with facts is the first one of the trace by hand, and its threads."""
     formats, analysis = (TOP / "docs/FORMATS.md").read_text().encode(), ["--analysis", "happens-before"]
     data = pool()
-    found, wanted = run_file(None, data, "--by-site", *analysis), expected_by_site(touch(data).text(), None, trace4.Trace(data))["happens-before", True]
+    found, wanted = run_file(None, data, "--by-site", *analysis), expected_by_site(trace4.text_of(data), None, trace4.Trace(data))["happens-before", True]
     record("trace 4: a report with all facts", found == wanted, f"{found}, {wanted}")
     story = re.search(rb"\n(pool\.cpp:13 and .*?\n\n)(?s:.*)\n(threads:\n.*?\n\nlocks:\n.*?\n)\nsteps", found[0], re.S)
     shown = b"```text\n" + story[1] + story[2] + b"```\n" if story else None
@@ -626,6 +650,7 @@ def tests(record, preloaded):
         example_of_facts(record)
         same_reports(record)
         by_bytes(record)
+        bytes_of_a_long_trace(record)
         shown_calls(record)
         blocks_by_hand(record)
         long_traces(record)
