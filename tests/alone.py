@@ -1,13 +1,20 @@
-"""What the files of tests share: they find a program, run by themselves, as `tests/run` runs those of all, and refuse a program's calls one by one."""
+"""What the files of tests share: they find a program and run it, on a terminal too, run by themselves, as `tests/run` runs those of all, and refuse a program's
+calls one by one."""
 
+import contextlib
 import functools
 import os
 import pathlib
+import pty
 import subprocess
 import sys
+import threading
+import tty
 
 TOP = pathlib.Path(__file__).resolve().parent.parent
 AT_FIRST = dict(os.environ)
+# Seconds after which a command counts as hung. On a very busy machine a build takes minutes.
+PATIENCE = 600
 
 
 @functools.lru_cache(maxsize=None)
@@ -18,6 +25,41 @@ def program(name):
         sys.exit(done.returncode)
     os.environ["ERASER_TOLD"] = "1"
     return pathlib.Path(done.stdout.rstrip("\n"))
+
+
+def command(words, **more):
+    """A run of a command, with its output and its errors as text."""
+    return subprocess.run([str(word) for word in words], capture_output=True, text=True, timeout=PATIENCE, **more)
+
+
+def read_all(master, pieces):
+    # Reading fails once nobody has the other side of a terminal.
+    with contextlib.suppress(OSError):
+        while piece := os.read(master, 65536):
+            pieces.append(piece)
+
+
+@contextlib.contextmanager
+def terminal():
+    """A terminal to write to, and the pieces that it shows, all of which are there at the end."""
+    master, slave = pty.openpty()
+    tty.setraw(slave)
+    pieces = []
+    reader = threading.Thread(target=read_all, args=(master, pieces))
+    reader.start()
+    try:
+        yield slave, pieces
+    finally:
+        os.close(slave)
+        reader.join()
+        os.close(master)
+
+
+def on_terminal(words, text=b"", **more):
+    """What a command writes to a terminal as its errors, and its output and exit status."""
+    with terminal() as (slave, pieces):
+        done = subprocess.run(words, input=text, stdout=subprocess.PIPE, stderr=slave, timeout=PATIENCE, **more)
+    return b"".join(pieces), done.stdout, done.returncode
 
 
 def run_alone(tests, *more):

@@ -24,13 +24,12 @@ import pathlib
 import random
 import re
 import shutil
-import subprocess
 import sys
 import tempfile
 
 sys.dont_write_bytecode = True
 import reference
-from alone import TOP, each_refused, program, run_alone
+from alone import TOP, command, each_refused, program, run_alone
 
 CAPI = TOP / "capi"
 SOURCES = TOP / "tests/capi"
@@ -39,7 +38,6 @@ LISTS = 1000
 REFUSED_LISTS = 4
 WARNINGS = ["-Wall", "-Wextra", "-Wpedantic", "-Werror"]
 COMPILERS = {"c": ("gcc", "clang"), "c++": ("g++", "clang++")}
-PATIENCE = 600
 AFTER = re.compile(r"after (\S+) holding")
 LIMIT = 2**48
 LEVEL_LOCKS = 4294967264
@@ -47,10 +45,6 @@ LEVEL_LOCKS = 4294967264
 
 def archive():
     return os.environ.get("ERASER_PROVED") or str(program("eraser_c"))
-
-
-def command(words, **more):
-    return subprocess.run([str(word) for word in words], capture_output=True, text=True, timeout=PATIENCE, **more)
 
 
 def build(folder, name, *flags, layer=CAPI / "eraser_pthread.c"):
@@ -312,29 +306,19 @@ def refused_lists(record, folder, driver, of_layer):
 # ---- programs
 
 # Each with its words, and with those under ThreadSanitizer.
+NO_WORDS = ([], [])
 PROGRAMS = {
-    "handles": ([], []),
-    "audits": ([], []),
-    "crowd": ([], []),
-    "lives": ([], []),
+    **dict.fromkeys(("handles", "audits", "crowd", "lives"), NO_WORDS),
     "breaks": ([], ["apart"]),
     "threads": (["64", "1500"], ["8", "1500"]),
     "settled": (["16", "20"], ["4", "5"]),
-    "grows": ([], []),
-    "starts": ([], []),
+    **dict.fromkeys(("grows", "starts"), NO_WORDS),
 }
-# A sanitizer's malloc doesn't say what is taken, and ThreadSanitizer has handlers of forks of its own.
+# They are run in audit mode too, which keeps each call. These have fewer then.
+AUDITED = {**PROGRAMS, "threads": (["16", "1500"], ["4", "1500"]), "settled": (["8", "5"], ["4", "2"])}
+# A sanitizer's malloc doesn't say what is taken, and ThreadSanitizer has handlers of forks of its own. In audit mode `grows` measures other memory, and
+# `starts` makes no call that is kept.
 PLAIN = {"grows", "starts"}
-# Those that are run in audit mode too, which keeps each call. `grows` measures memory, and `starts` makes no call that an audit keeps.
-AUDITED = {
-    "handles": ([], []),
-    "audits": ([], []),
-    "crowd": ([], []),
-    "lives": ([], []),
-    "breaks": ([], ["apart"]),
-    "threads": (["16", "1500"], ["4", "1500"]),
-    "settled": (["8", "5"], ["4", "2"]),
-}
 # What a program is linked with besides.
 LINKED = {"settled": ["-Wl,--wrap=eraser_access_span,--wrap=eraser_record"], "lives": ["-Wl,--wrap=pthread_atfork"], "starts": ["-Wl,--wrap=pthread_atfork"]}
 BUILDS = {
@@ -351,7 +335,7 @@ def programs(record, folder):
         # AddressSanitizer's locks may be held by a thread that a forked child hasn't, so that the child waits for ever if it starts one.
         which = kind == "ThreadSanitizer" or (name == "breaks" and kind != "plain")
         runs = [command([target, *PROGRAMS[name][which]])] if built.returncode == 0 else []
-        if runs and name in AUDITED:
+        if runs and name not in PLAIN:
             runs.append(command([target, *AUDITED[name][which]], env=AUDIT))
         return built, runs
 

@@ -13,16 +13,14 @@
 
 import os
 import pathlib
-import pty
 import subprocess
 import sys
 import tempfile
 import threading
-import tty
 
 sys.dont_write_bytecode = True
 import reference
-from alone import each_refused, program, run_alone
+from alone import each_refused, on_terminal, program, run_alone
 from site_tests import preloaded
 
 TOP = pathlib.Path(__file__).resolve().parent.parent
@@ -124,25 +122,8 @@ RULES = {
 
 
 def shown(words, folder, text=b"", **more):
-    """What the program writes to a terminal as its errors, and its exit status."""
-    master, slave = pty.openpty()
-    tty.setraw(slave)
-    pieces = []
-
-    def read():
-        try:
-            while piece := os.read(master, 65536):
-                pieces.append(piece)
-        except OSError:
-            pass
-
-    reader = threading.Thread(target=read)
-    reader.start()
-    done = subprocess.run([str(PROGRAM), *words], cwd=folder, input=text, stdout=subprocess.PIPE, stderr=slave, timeout=120, **more)
-    os.close(slave)
-    reader.join()
-    os.close(master)
-    return b"".join(pieces), done.stdout, done.returncode
+    """What the program writes to a terminal as its errors, its output and its exit status."""
+    return on_terminal([PROGRAM, *words], text, cwd=folder, **more)
 
 
 def piped(words, folder, text=b""):

@@ -19,7 +19,6 @@ No test waits for a time that the machine may miss: a test that wants a line giv
 
 import os
 import pathlib
-import pty
 import queue
 import re
 import subprocess
@@ -27,12 +26,11 @@ import sys
 import tempfile
 import threading
 import time
-import tty
 
 sys.path.insert(0, str(pathlib.Path(__file__).parent))
 sys.dont_write_bytecode = True
 import trace4
-from alone import each_failed, each_refused, outcome_of, run_alone
+from alone import each_failed, each_refused, on_terminal, outcome_of, run_alone, terminal
 from site_tests import PROGRAM, preloaded, run
 
 HEAD, THIRD = b"eraser trace 1\n", b"eraser trace 3\n"
@@ -216,57 +214,27 @@ def second_pass(record):
 
 # ---- A terminal
 
-def on_terminal(words, text):
-    """What is shown on a terminal as the errors, and the output and the status."""
-    master, slave = pty.openpty()
-    tty.setraw(slave)
-    pieces = []
-    reader = threading.Thread(target=read_all, args=(master, pieces))
-    reader.start()
-    done = subprocess.run([str(PROGRAM), *words], input=text, stdout=subprocess.PIPE, stderr=slave, timeout=120)
-    os.close(slave)
-    reader.join()
-    os.close(master)
-    return b"".join(pieces), done.stdout, done.returncode
-
-
-def read_all(master, pieces):
-    try:
-        while piece := os.read(master, 65536):
-            pieces.append(piece)
-    except OSError:
-        pass
-
-
 def is_one_line(shown):
     """Whether lines that take each other's place were shown and cleared, or none was shown. A second pass has lines of its own, if it takes as long."""
     *passes, rest = shown.split(CLEAR)
     return rest == b"" and all(lines and SHOWN.sub(b"", lines) == b"" for lines in passes)
 
 
-def terminal(record):
+def terminals(record):
     for name, text in (("races", HEAD + RACE), ("a fault", HEAD + RACE + b"fault\n"), ("a later fault", HEAD + RACE + BATCH * 3 + b"fault\n")):
         for options in ([], ["--until-fault"], ["--workers", "2"], ["--analysis", "both"]):
-            plain = on_terminal(["replay", *options, "-"], text)
-            shown, output, status = on_terminal(["replay", "--progress", *options, "-"], text)
+            plain = on_terminal([PROGRAM, "replay", *options, "-"], text)
+            shown, output, status = on_terminal([PROGRAM, "replay", "--progress", *options, "-"], text)
             is_right = shown.endswith(plain[0]) and is_one_line(shown[:len(shown) - len(plain[0])]) and (output, status) == plain[1:]
             record(f"progress: {name} on a terminal {' '.join(options)}", is_right, f"{shown} {plain}")
     for last in (b"", b"fault\n"):
-        master, slave = pty.openpty()
-        tty.setraw(slave)
-        pieces = []
-        reader = threading.Thread(target=read_all, args=(master, pieces))
-        reader.start()
+        with terminal() as (slave, pieces):
+            def has_come(_, wanted):
+                time.sleep(0.1)
+                return len(SHOWN.findall(b"".join(pieces))) >= wanted
 
-        def has_come(_, wanted):
-            time.sleep(0.1)
-            return len(SHOWN.findall(b"".join(pieces))) >= wanted
-
-        program, text, output = slowly([], slave, 2, MOST_PIECES, has_come)
-        found, status = output(), program.wait(120)
-        os.close(slave)
-        reader.join()
-        os.close(master)
+            program, text, output = slowly([], slave, 2, MOST_PIECES, has_come)
+            found, status = output(), program.wait(120)
         shown = b"".join(pieces)
         record("progress: a slow pipe on a terminal: one line", is_one_line(shown) and len(SHOWN.findall(shown)) >= 2 and b"\n" not in shown, f"{shown}")
         record("progress: a slow pipe on a terminal: the report", (found, status) == (lambda r: (r[0], r[2]))(run(["replay", "-"], text)), f"{found}")
@@ -334,7 +302,7 @@ def tests(record, preloaded):
         binary_traces(record, folder)
         slow_pipe(record)
         second_pass(record)
-        terminal(record)
+        terminals(record)
         lost_errors(record, preloaded, folder)
         arguments(record, folder)
 

@@ -12,19 +12,17 @@ import json
 import os
 import pathlib
 import re
-import resource
 import select
 import shlex
 import shutil
 import signal
 import subprocess
-import sys
 import tempfile
 import threading
 import time
 
 import trace4
-from alone import program
+from alone import PATIENCE, command, program, run_alone
 
 TOP = pathlib.Path(__file__).resolve().parent.parent
 SOURCES = TOP / "tests/record"
@@ -32,8 +30,6 @@ RUN = TOP / "record/run"
 # Each built program is run so often, and so many at a time.
 RUNS = int(os.environ.get("RECORD_RUNS", 20))
 WORKERS = 4
-# Seconds after which a run or a build counts as hung. On a very busy machine a build takes minutes.
-PATIENCE = 600
 LEVELS = ("-O0", "-O2")
 WARNINGS = ["-Wall", "-Wextra"]
 # What a program prints, and its exit status if it is not 0.
@@ -61,10 +57,6 @@ class Findings:
     def check(self, name, is_right, detail=""):
         with self.lock:
             self.record(f"recorder: {name}", is_right, detail)
-
-
-def command(words, **more):
-    return subprocess.run([str(word) for word in words], capture_output=True, text=True, timeout=PATIENCE, **more)
 
 
 # ---- Expectations ----
@@ -1418,14 +1410,4 @@ def tests(record):
 
 
 if __name__ == "__main__":
-    totals = [0, 0]
-
-    def show(name, is_right, detail=""):
-        totals[not is_right] += 1
-        if not is_right:
-            print(f"FAILED {name} {detail}")
-
-    tests(show)
-    spent = resource.getrusage(resource.RUSAGE_CHILDREN)
-    print(f"{totals[0]} passed, {totals[1]} failed, {spent.ru_utime + spent.ru_stime:.0f} CPU seconds")
-    sys.exit(1 if totals[1] or not totals[0] else 0)
+    run_alone(tests)

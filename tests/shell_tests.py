@@ -14,22 +14,17 @@ import pathlib
 import re
 import shlex
 import shutil
-import subprocess
 import sys
 import tempfile
 
 sys.dont_write_bytecode = True
-from alone import program, run_alone
+from alone import command, program, run_alone
 
 TOP = pathlib.Path(__file__).resolve().parent.parent
 SHELL = TOP / "shell"
 PROGRAM = program("eraser")
 RECORD = TOP / "record/run"
 INSTALL = TOP / "install"
-
-
-def command(words, **more):
-    return subprocess.run([str(word) for word in words], capture_output=True, text=True, timeout=120, **more)
 
 
 # ---- What the program says of itself
