@@ -321,6 +321,15 @@ def pool(most_bytes=trace4.USUAL_BYTES, lock=trace4.LOCK, unlock=trace4.UNLOCK):
     return writer.finish()
 
 
+def report_by_site(record, name, data, in_full=None):
+    """The report by site of a trace that has a race, which is what the second reading makes of it, if these words alone are reported in full."""
+    trace = trace4.Trace(data)
+    trace.in_full = in_full
+    found, wanted = run_file(None, data, "--by-site"), site_tests.expected(trace.text(), None, True, trace)
+    record(f"trace 4: {name}", found == wanted and found[2] == 1, f"{found}, {wanted}")
+    return found[0]
+
+
 def blocks_by_hand(record):
     """A report knows the last 256 blocks that have a word of its races, without those that lie in later ones. A reuse is no block."""
     for count, begin in ((255, block), (256, block), (255, lambda writer, *bytes_and_node: writer.reuse(b"t1", *bytes_and_node))):
@@ -333,13 +342,8 @@ def blocks_by_hand(record):
         for word in (0x1004, 0x2000):
             for thread in (b"t1", b"t2"):
                 writer.access(thread, True, word, 4, writer.node_of(b"%s.c:%x" % (thread, word)))
-        data = writer.finish()
-        trace = trace4.Trace(data)
-        trace.in_full = {0x1004, 0x2000}
         name = f"{'a block' if begin is block else 'a reuse'}, and {count} behind it"
-        found, wanted = run_file(None, data, "--by-site"), site_tests.expected(trace.text(), None, True, trace)
-        record(f"trace 4: {name}", found == wanted and wanted[2] == 1, f"{found}, {wanted}")
-        told = re.findall(rb"wrote(.*?) the word at", found[0])
+        told = re.findall(rb"wrote(.*?) the word at", report_by_site(record, name, writer.finish(), {0x1004, 0x2000}))
         oldest, latest = b" byte 4 of a block of 64 bytes allocated at a.c:2,", b" byte 0 of a block of 4 bytes allocated at a.c:2,"
         named = [oldest if count == 255 else b"", latest] if begin is block else [b"", b""]
         record(f"trace 4: {name}: which of them are reported", told == named, f"{told}")
@@ -370,11 +374,8 @@ def facts_of_memory(record):
             writer.access(thread, True, address + 4, 4, writer.node_of(b"a.c:1"))
             for fact_of in facts if thread == b"t1" else []:
                 block(writer, *fact_of) if isinstance(fact_of, tuple) else fact(writer, T.MEMORY_FACTS, fact_of)
-        data = writer.finish()
-        trace = trace4.Trace(data)
-        found, expected = run_file(None, data, "--by-site"), site_tests.expected(trace.text(), None, True, trace)
-        record(f"trace 4: {name}, in a report", found == expected and found[2] == 1, f"{found}, {expected}")
-        record(f"trace 4: {name}: what is told of it", re.findall(rb"wrote(.*?) the word at", found[0]) == [wanted], f"{found}")
+        output = report_by_site(record, f"{name}, in a report", writer.finish())
+        record(f"trace 4: {name}: what is told of it", re.findall(rb"wrote(.*?) the word at", output) == [wanted], f"{output}")
 
 
 def facts_of_locks(record):
@@ -408,12 +409,9 @@ def facts_of_locks(record):
             writer.of_lock(thread, T.UNLOCK, lock, at)
             for number, node, more in facts if thread == b"t1" else []:
                 fact(writer, T.MEMORY_FACTS, (number, 4), (0x2000, 6), *([] if node is None else [(node, 4)]), more)
-        data = writer.finish()
-        trace = trace4.Trace(data)
-        found, expected = run_file(None, data, "--by-site"), site_tests.expected(trace.text(), None, True, trace)
-        record(f"trace 4: {name}, in a report", found == expected and found[2] == 1, f"{found}, {expected}")
-        shown = re.search(rb"\nlocks:\n(.*?)\n\n", found[0], re.S)
-        record(f"trace 4: {name}: what is told of it", sorted(shown[1].split(b"\n") if shown else []) == [b"  " + line for line in wanted], f"{found}")
+        output = report_by_site(record, f"{name}, in a report", writer.finish())
+        shown = re.search(rb"\nlocks:\n(.*?)\n\n", output, re.S)
+        record(f"trace 4: {name}: what is told of it", sorted(shown[1].split(b"\n") if shown else []) == [b"  " + line for line in wanted], f"{output}")
 
 
 # ---- Damaged traces

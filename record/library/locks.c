@@ -112,16 +112,19 @@ static void emit_twice(void *lock, uint64_t site)
         emit(EVENT_LOCK_TWICE, LOCK_MUTEX, (uintptr_t)lock, site);
 }
 
-HOOK int pthread_mutex_lock(pthread_mutex_t *lock)
-{
-    emit_twice(lock, CALLER);
-    shake();
-    int result = REAL(pthread_mutex_lock)(lock);
-    if (is_acquired(result))
-        emit_lock(LOCK_MUTEX, lock, CALLER);
-    return result;
-}
+/* It waits as long as it takes. */
+#define ACQUIRE_MUTEX(name, type)                            \
+    HOOK int name(type *lock)                                \
+    {                                                        \
+        emit_twice(lock, CALLER);                            \
+        shake();                                             \
+        int result = REAL(name)(lock);                       \
+        if (is_acquired(result))                             \
+            emit_lock(LOCK_MUTEX, lock, CALLER);             \
+        return result;                                       \
+    }
 
+ACQUIRE_MUTEX(pthread_mutex_lock, pthread_mutex_t)
 TRY(EVENT_LOCK, LOCK_MUTEX, pthread_mutex_trylock, pthread_mutex_t)
 ACQUIRE(emit_lock, LOCK_MUTEX, pthread_mutex_timedlock, (pthread_mutex_t *restrict lock, until restrict when), (lock, when))
 ACQUIRE(emit_lock, LOCK_MUTEX, pthread_mutex_clocklock, (pthread_mutex_t *restrict lock, clockid_t clock, until restrict when), (lock, clock, when))
@@ -180,19 +183,9 @@ RELEASE(LOCK_SPIN, pthread_spin_unlock, pthread_spinlock_t)
 
 /* ---- Mutexes of C11 ---- */
 
+/* They are the mutexes above. */
 INITIALISE(mtx_init, (mtx_t *lock, int kind), (lock, kind))
-
-/* It is one of the mutexes above. */
-HOOK int mtx_lock(mtx_t *lock)
-{
-    emit_twice(lock, CALLER);
-    shake();
-    int result = REAL(mtx_lock)(lock);
-    if (is_acquired(result))
-        emit_lock(LOCK_MUTEX, lock, CALLER);
-    return result;
-}
-
+ACQUIRE_MUTEX(mtx_lock, mtx_t)
 TRY(EVENT_LOCK, LOCK_MUTEX, mtx_trylock, mtx_t)
 ACQUIRE(emit_lock, LOCK_MUTEX, mtx_timedlock, (mtx_t *restrict lock, until restrict when), (lock, when))
 RELEASE_MUTEX(mtx_unlock, mtx_t)

@@ -1,18 +1,10 @@
 /* The same line races in a program and in its child: each is stopped there once. */
-#include "../meet.h"
+#include "stops.h"
 
-#include <signal.h>
 #include <sys/wait.h>
 #include <unistd.h>
 
 static int bare;
-static volatile sig_atomic_t stopped;
-
-static void count(int number)
-{
-    (void)number;
-    stopped++;
-}
 
 static void work(int number)
 {

@@ -1,16 +1,7 @@
 /* Counts the signals that --stop-at-race sends: one for each place, however many words race there. */
-#include "../meet.h"
-
-#include <signal.h>
+#include "stops.h"
 
 static int some[10], others[10];
-static volatile sig_atomic_t stopped;
-
-static void count(int number)
-{
-    (void)number;
-    stopped++;
-}
 
 static void work(int number)
 {
