@@ -268,7 +268,7 @@ fn report_replay_fault<R: Files + AllocGlobal, E: Write>(
     if replay.hints
         && let Some(trouble) = trouble_of(rt, replay, fault)
     {
-        advise(rt, trouble, replay.byte_limit, errors);
+        advise(rt, trouble, replay.binary_limit, errors);
     }
     status
 }
