@@ -1,8 +1,9 @@
 -- What is kept of two pieces is what is kept of each, and how a loop keeps it in place.
 use Rattle.std.proofs.Common.{suc, ◌≡◌, ◌+◌, ◌<◌, ◌≤◌, ℕ, Bool, true, false, cond, List, [], ◌∷◌, ◌++◌, length, take, drop, set, get_or, refl, sym, ap, ◌∙◌, arith}
-use Rattle.std.proofs.lemmas.List.{append-nil, drop-drop, drop-set-lt, get_or-drop, length-append, length-set, length-take-le, take_more, take_more_set}
+use Rattle.std.proofs.lemmas.List.{append-nil, drop-drop, drop-set-lt, get_or-drop, length-append, length-set, length-take-le, take-set, take_all, take_more, take_more_set}
 use Rattle.std.proofs.lemmas.List.Elements.{All-cons, All-head, All-nil, All-tail, filter-append}
 use Rattle.std.proofs.lemmas.List.Sums.{length-filter}
+use Rattle.std.specs.Int.{from_bool}
 use Rattle.std.specs.List.{All, count_by, filter}
 use Rattle.er_event.specs.declared.steps.Step.{Step}
 use Rattle.er_parts.specs.Parts.{PartView, kept_beside, takes}
@@ -56,8 +57,8 @@ IsKept part steps old items kept i =
 module _ {A : Type 0} (part : PartView) (steps : List Step) (old items : List A) (kept i : ℕ) (s : Step) (x : A)
     (long : length old ≡ length steps) (below : i < length steps) (step : s ≡ get_or steps i s) (this : x ≡ get_or items i x)
     (so_far : IsKept part steps old items kept i) where
-  this-old : IsKept part steps old items kept i → x ≡ get_or old i x
-  this-old f = this ∙ same-first i items old x f.3
+  this-old : x ≡ get_or old i x
+  this-old = this ∙ same-first i items old x so_far.3
 
   pub kept-then : takes part s ≡ true → IsKept part steps old (set items kept x) (kept + 1) (i + 1)
   kept-then taken =
@@ -65,18 +66,34 @@ module _ {A : Type 0} (part : PartView) (steps : List Step) (old items : List A)
         (let k : kept ≤ i = so_far.0 in omega (arith, k)),
         length-set items kept x ∙ so_far.1,
         take_more_set items kept x within ∙ ap (λ zs. zs ++ x ∷ []) so_far.2
-            ∙ sym (kept-next part steps old i s x long below step (this-old so_far) ∙ ap (λ b. kept_beside part (take i steps) (take i old) ++ cond b (x ∷ []) []) taken),
+            ∙ sym (kept-next part steps old i s x long below step this-old ∙ ap (λ b. kept_beside part (take i steps) (take i old) ++ cond b (x ∷ []) []) taken),
         drop-set-lt (i + 1) items kept x (let k : kept ≤ i = so_far.0 in omega (arith, k)) ∙ same-next i items old so_far.3,
       )
 
-  pub kept-else : takes part s ≡ false → IsKept part steps old items kept (i + 1)
+  pub kept-else : takes part s ≡ false → IsKept part steps old (set items kept x) kept (i + 1)
   kept-else left = (
     (let k : kept ≤ i = so_far.0 in omega (arith, k)),
-    so_far.1,
-    so_far.2 ∙ sym (append-nil (kept_beside part (take i steps) (take i old)))
-        ∙ sym (kept-next part steps old i s x long below step (this-old so_far) ∙ ap (λ b. kept_beside part (take i steps) (take i old) ++ cond b (x ∷ []) []) left),
-    same-next i items old so_far.3,
+    length-set items kept x ∙ so_far.1,
+    take-set items kept x ∙ so_far.2 ∙ sym (append-nil (kept_beside part (take i steps) (take i old)))
+        ∙ sym (kept-next part steps old i s x long below step this-old ∙ ap (λ b. kept_beside part (take i steps) (take i old) ++ cond b (x ∷ []) []) left),
+    drop-set-lt (i + 1) items kept x (let k : kept ≤ i = so_far.0 in omega (arith, k)) ∙ same-next i items old so_far.3,
   )
+
+-- the step at the place is that of the list before the loop
+pub step-old : (part : PartView) (steps items : List Step) (kept i : ℕ) (s : Step) → IsKept part steps steps items kept i → s ≡ get_or items i s → s ≡ get_or steps i s
+step-old part steps items kept i s so_far this = this ∙ same-first i items steps s so_far.3
+
+-- behind the last step all is kept
+pub kept-whole : {A : Type 0} (part : PartView) (steps : List Step) (old items : List A) (kept i : ℕ) → length old ≡ length steps → length steps ≤ i
+    → IsKept part steps old items kept i → take kept items ≡ kept_beside part steps old
+kept-whole part steps old items kept i long past so_far =
+    so_far.2 ∙ ap (λ zs. kept_beside part zs (take i old)) (take_all i steps past) ∙ ap (kept_beside part steps) (take_all i old (omega (arith, long, past)))
+
+-- what is kept of the steps
+pub kept-steps : (part : PartView) (steps : List Step) → kept_beside part steps steps ≡ filter (takes part) steps
+unfolding kept_beside
+kept-steps part [] = refl
+kept-steps part (s ∷ steps) = ap (λ zs. cond (takes part s) (s ∷ zs) zs) (kept-steps part steps)
 
 -- each that is kept is one of the others
 all-by : {A : Type 0} (P : A → Type 0) (b : Bool) (x : A) (xs : List A) → P x → All P xs → All P (cond b (x ∷ xs) xs)
@@ -105,3 +122,18 @@ pub count-append : {A : Type 0} (p : A → Bool) (xs ys : List A) → count_by p
 count-append p xs ys =
     sym (length-filter p (xs ++ ys)) ∙ ap length (filter-append p xs ys) ∙ length-append (filter p xs) (filter p ys)
     ∙ ap (λ n. n + length (filter p ys)) (length-filter p xs) ∙ ap (λ n. count_by p xs + n) (length-filter p ys)
+
+-- one more that counts or doesn't
+one-more : {A : Type 0} (p : A → Bool) (x : A) (b : Bool) → p x ≡ b → count_by p (x ∷ []) ≡ from_bool b
+one-more p x true is = rw is refl
+one-more p x false is = rw is refl
+
+pub count-next : {A : Type 0} (p : A → Bool) (xs : List A) (i n m : ℕ) (x : A) → i < length xs → n ≡ count_by p (take i xs) → m ≡ from_bool (p x)
+    → n + m ≡ count_by p (take (i + 1) (set xs i x))
+count-next p xs i n m x within so_far this =
+    ap (λ k. k + m) so_far ∙ ap (λ k. count_by p (take i xs) + k) (this ∙ sym (one-more p x (p x) refl))
+    ∙ sym (ap (count_by p) (take_more_set xs i x within) ∙ count-append p (take i xs) (x ∷ []))
+
+pub byte-le : (b : Bool) → from_bool b ≤ 1
+byte-le true = omega arith
+byte-le false = omega arith

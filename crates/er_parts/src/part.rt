@@ -108,14 +108,22 @@ impl Part {
         ensures sites { sites.new.items ≡ kept_beside self steps.old.items sites.old.items }
         ensures counted { result ≡ count_by is_of_page steps.new.items }
     {
-        self.keep_beside(steps, lines);
-        self.keep_beside(steps, sites);
-        steps.retain(
-            |step| -> bool
-                ensures { result ≡ takes self step.now }
-            { self.takes(step) },
-        );
-        count_of_pages(steps)
+        let mut kept = 0;
+        let mut counted = 0;
+        for i in 0..steps.len() {
+            let step = steps[i];
+            steps[kept] = step;
+            lines[kept] = lines[i];
+            sites[kept] = sites[i];
+            if self.takes(&step) {
+                kept += 1;
+                counted += u64::from(is_of_page(&step));
+            }
+        }
+        steps.truncate(kept);
+        lines.truncate(kept);
+        sites.truncate(kept);
+        counted
     }
 
     fn has_page(&self, page: u64) -> bool
@@ -132,29 +140,6 @@ impl Part {
             None => true,
         }
     }
-
-    // Of what stands beside the steps, keeps what stands beside those that are of use.
-    fn keep_beside<T: Copy>(&self, steps: &[Step], others: &mut Vec<T>)
-        requires { length others.old.items ≡ length steps.now }
-        ensures { others.new.items ≡ kept_beside self.now steps.now others.old.items }
-    {
-        let mut kept = 0;
-        for (i, step) in steps.iter().enumerate() {
-            let other = others[i];
-            if self.takes(step) {
-                others[kept] = other;
-                kept += 1;
-            }
-        }
-        others.truncate(kept);
-    }
-}
-
-// How many of the steps are accesses, reuses or shows.
-fn count_of_pages(steps: &[Step]) -> u64
-    ensures { result ≡ count_by is_of_page steps.now }
-{
-    steps.iter().filter(|step| is_of_page(step)).count() as u64
 }
 
 // Whether the step is an access, a reuse or a show.
