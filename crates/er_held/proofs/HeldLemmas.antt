@@ -1,11 +1,11 @@
 -- How a thread's two sets of locks keep their shape as locks come and go and as the level changes.
-use Rattle.std.proofs.Common.{◌≡◌, ℕ, zero, suc, ◌+◌, ◌-◌, ◌<◌, ◌≤◌, Bool, true, false, not, ◌&&◌, ◌||◌, cond, ◌==◌, nat_lt, List, [], ◌∷◌, ◌++◌, filter, length, get_or, take, drop, refl, ap, sym, ◌∙◌, arith, add-one}
+use Rattle.std.proofs.Common.{◌≡◌, ℕ, zero, suc, ◌+◌, ◌-◌, ◌<◌, ◌≤◌, Bool, true, false, not, ◌&&◌, ◌||◌, cond, ◌==◌, nat_lt, List, [], ◌∷◌, ◌++◌, filter, length, take, drop, refl, ap, sym, ◌∙◌, arith}
 use Rattle.std.proofs.lemmas.Bool.Decides.{nat_tests}
 use Rattle.std.proofs.lemmas.Bool.{eqb-true, eq-eqb, or_left, or_right}
 use Rattle.std.proofs.lemmas.List.Folds.{list_any-append}
 use Rattle.std.specs.List.Sorted.{IsStrictlyIncreasing}
-use Rattle.er_event.specs.Lockset.{has, IsRising, with_lock, without_lock, level_lock, is_level_lock, level_locks, locks_from}
-use Rattle.er_event.proofs.LocksetLemmas.{same-rising, has-with_lock, rising-with_lock, has-filtered, rising-filter, without_absent}
+use Rattle.er_event.specs.Lockset.{has, with_lock, without_lock, level_lock, is_level_lock, level_locks, locks_from}
+use Rattle.er_event.proofs.LocksetLemmas.{same-rising, has-with_lock, rising-with_lock, has-filtered, increasing_from_rising, rising-filter, without_absent}
 use Rattle.er_model.specs.Holdings.{acquired_among, at_level}
 use Rattle.er_model.proofs.Levels.{among-levels, rising-levels, level-rise, level-lower, level-room, level-counted, level-stays, level-insert, level-remove, among_plain}
 use Rattle.er_event.proofs.Bools.{itself, first_false, second_false, and_known}
@@ -175,17 +175,6 @@ holding-level any write level n it low = record {
     part true true c false f e = or_left c false (f refl)
     part true false c false f e = cc
     part false b c false f e = e
-
--- a rising list rises by its places
-has-get : (xs : List ℕ) (k : ℕ) → k < length xs → has xs (get_or xs k 0) ≡ true
-has-get [] k within = absurd (omega arith)
-has-get (x ∷ xs) zero within = or_left (x == x) (has xs x) (itself x)
-has-get (x ∷ xs) (suc k) within = or_right (x == get_or xs k 0) (has xs (get_or xs k 0)) (has-get xs k (omega arith))
-
-pub increasing_from_rising : (xs : List ℕ) → IsRising xs → IsStrictlyIncreasing xs
-increasing_from_rising [] up k within = absurd (omega arith)
-increasing_from_rising (x ∷ xs) up zero within = up.0 (get_or xs 0 0) (has-get xs 0 (omega arith))
-increasing_from_rising (x ∷ xs) up (suc k) within = rw add-one (rw add-one at (increasing_from_rising xs up.1 k (omega arith)))
 
 -- a higher level's locks go behind those that are there
 pub level-joined : (level n : ℕ) (locks more : List ℕ) → EndsInLevel level locks → level ≤ n → more ≡ locks_from (level_lock (suc level)) (n - level) → locks ++ more ≡ at_level n locks

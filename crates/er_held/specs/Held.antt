@@ -1,19 +1,12 @@
 -- What one thread holds, beside the definitions of the model.
-use Rattle.std.specs.Prelude.{ℕ, Bool, true, false, cond, [], Option, Some, None}
+use Rattle.std.specs.Prelude.{Bool, true, false, []}
 use Rattle.er_event.specs.declared.steps.Event.{Event}
 use Rattle.er_event.specs.declared.steps.Event.TheVariants.{Acquire, Release, Access, Reuse, IgnoreOn, IgnoreOff, Show, Level, Sync}
-use Rattle.er_event.specs.declared.steps.Mode.{Mode}
-use Rattle.er_event.specs.declared.steps.Mode.TheVariants.{Read, Write}
-use Rattle.er_event.specs.Lockset.{has}
 use Rattle.er_model.specs.Holdings.{Holdings}
 
 -- no lock, the lowest level, no bracket
 abbrev pub nothing_held : Holdings
 nothing_held = record { held = []; write_held = []; level = 0; depth = 0 }
-
--- the mode in which the lock is held, if it is
-abbrev pub mode_of : Holdings → ℕ → Option Mode
-mode_of h l = cond (has h.write_held l) (Some Write) (cond (has h.held l) (Some Read) None)
 
 -- an event of this sort may take memory to hold more
 abbrev pub takes_memory : Event → Bool

@@ -1,8 +1,8 @@
 //! `Held`, what one thread holds.
-ghost use Rattle.std.specs.Prelude.{◌≡◌, ◌+◌, ◌-◌, ◌<◌, ◌≤◌, ◌↔◌, ◌++◌, ℕ, false, IsTrue, IsFalse, IsOk, IfOk, IfErr, IfNone, IsOkUnless, OnOk, OnErr, length, None, Some};
-ghost use Rattle.er_event.specs.Lockset.{has, level_locks, is_level_lock};
+ghost use Rattle.std.specs.Prelude.{◌≡◌, ◌+◌, ◌-◌, ◌<◌, ◌≤◌, ◌↔◌, ◌++◌, ℕ, false, IsTrue, IsFalse, IsOk, IfOk, IfErr, IfNone, IsOkUnless, OnOk, OnErr, insert, length, slice_index, None, Some};
+ghost use Rattle.er_event.specs.Lockset.{has, level_locks, is_level_lock, with_lock};
 ghost use Rattle.er_model.specs.Holdings.{acquired_among, refused_by, changed_by, changed_unless};
-ghost use Rattle.er_held.specs.Held.{nothing_held, mode_of, takes_memory};
+ghost use Rattle.er_held.specs.Held.{nothing_held, takes_memory};
 
 use er_event::{Event, Level, LockId, Lockset, Mode, Refusal};
 use std::alloc::{AllocError, Global};
@@ -104,31 +104,30 @@ impl Held {
         ensures memory { refused_by self.old (Event.Acquire lock mode) ≡ None → IsOkUnless result Refusal.OutOfMemory }
         ensures inline { refused_by self.old (Event.Acquire lock mode) ≡ None → length self.old.held < 8 → IsOk result }
     {
-        match self.refusal_of_acquire(lock, mode) {
-            Some(why) => Err(why),
-            None => Ok(match mode {
-                Mode::Read => self.add_read(lock)?,
-                Mode::Write => self.add_write(lock)?,
-            }),
-        }
+        let place = self.place_to_acquire(lock, mode)?;
+        Ok(match mode {
+            Mode::Read => self.add_read(place, lock)?,
+            Mode::Write => self.add_write(place, lock)?,
+        })
     }
 
-    // Why an acquire of a lock is refused, if it is: in either mode for the same reason.
+    // Where a lock goes that is acquired, or why that is refused: in either mode the same.
     #[inline]
-    fn refusal_of_acquire(&self, lock: LockId, _mode: Mode) -> Option<Refusal>
-        ensures refusal { result ≡ refused_by self.now (Event.Acquire lock _mode) }
-        ensures plain { IfNone result (IsFalse (is_level_lock lock)) }
-        ensures free { IfNone result (IsFalse (has self.now.held lock)) }
-        ensures room { IfNone result (length (acquired_among self.now.held) < 64) }
+    fn place_to_acquire(&self, lock: LockId, _mode: Mode) -> Result<usize, Refusal>
+        ensures refused { IfErr result (λ why. refused_by self.now (Event.Acquire lock _mode) ≡ Some why) }
+        ensures accepted { OnOk result (refused_by self.now (Event.Acquire lock _mode) ≡ None) }
+        ensures plain { OnOk result (IsFalse (is_level_lock lock)) }
+        ensures free { OnOk result (IsFalse (has self.now.held lock)) }
+        ensures room { OnOk result (length (acquired_among self.now.held) < 64) }
+        ensures place { IfOk result (λ place. (place ≤ length self.now.held) × (insert self.now.held place lock ≡ with_lock lock self.now.held)) }
     {
         if lock.is_level_lock() {
-            Some(Refusal::LevelLock)
-        } else if self.any_mode.contains(lock) {
-            Some(Refusal::AlreadyHeld)
-        } else if self.acquired() >= Held::MOST_LOCKS {
-            Some(Refusal::HeldFull)
-        } else {
-            None
+            return Err(Refusal::LevelLock);
+        }
+        match self.any_mode.find(lock) {
+            Ok(_) => Err(Refusal::AlreadyHeld),
+            Err(_) if self.acquired() >= Held::MOST_LOCKS => Err(Refusal::HeldFull),
+            Err(place) => Ok(place),
         }
     }
 
@@ -140,7 +139,8 @@ impl Held {
         self.any_mode.len() - usize::from(self.level.number())
     }
 
-    fn add_read(&mut self, lock: LockId) -> Result<(), AllocError>
+    fn add_read(&mut self, place: usize, lock: LockId) -> Result<(), AllocError>
+        requires place { (place ≤ length self.old.held) × (insert self.old.held place lock ≡ with_lock lock self.old.held) }
         requires plain { IsFalse (is_level_lock lock) }
         requires room { length (acquired_among self.old.held) < 64 }
         ensures ok { OnOk result (self.new ≡ changed_by self.old (Event.Acquire lock Mode.Read)) }
@@ -151,11 +151,12 @@ impl Held {
             self.write_mode = self.any_mode.copy()?;
             self.is_apart = true;
         }
-        self.any_mode.insert(lock)?;
+        self.any_mode.insert_at(place, lock)?;
         Ok(())
     }
 
-    fn add_write(&mut self, lock: LockId) -> Result<(), AllocError>
+    fn add_write(&mut self, place: usize, lock: LockId) -> Result<(), AllocError>
+        requires place { (place ≤ length self.old.held) × (insert self.old.held place lock ≡ with_lock lock self.old.held) }
         requires plain { IsFalse (is_level_lock lock) }
         requires free { IsFalse (has self.old.held lock) }
         requires room { length (acquired_among self.old.held) < 64 }
@@ -163,7 +164,7 @@ impl Held {
         ensures err { OnErr result (self.new ≡ self.old) }
         ensures inline { length self.old.held < 8 → IsOk result }
     {
-        self.any_mode.insert(lock)?;
+        self.any_mode.insert_at(place, lock)?;
         if !self.is_apart {
             return Ok(());
         }
@@ -184,46 +185,38 @@ impl Held {
         ensures ok { OnOk result (self.new ≡ changed_by self.old (Event.Release lock mode)) }
         ensures err { OnErr result (self.new ≡ self.old) }
     {
-        if let Some(why) = self.refusal_of_release(lock, mode) {
-            return Err(why);
-        }
-        self.remove(lock);
+        let place = self.place_to_release(lock, mode)?;
+        self.remove(place, lock);
         Ok(())
     }
 
-    // Why a release of a lock in this mode is refused, if it is.
+    // Where a lock stands that is released in this mode, or why that is refused.
     #[inline]
-    fn refusal_of_release(&self, lock: LockId, mode: Mode) -> Option<Refusal>
-        ensures { result ≡ refused_by self.now (Event.Release lock mode) }
+    fn place_to_release(&self, lock: LockId, mode: Mode) -> Result<usize, Refusal>
+        ensures refused { IfErr result (λ why. refused_by self.now (Event.Release lock mode) ≡ Some why) }
+        ensures accepted { OnOk result (refused_by self.now (Event.Release lock mode) ≡ None) }
+        ensures plain { OnOk result (IsFalse (is_level_lock lock)) }
+        ensures place { IfOk result (λ place. (place < length self.now.held) × (slice_index self.now.held place ≡ lock)) }
     {
         if lock.is_level_lock() {
-            return Some(Refusal::LevelLock);
+            return Err(Refusal::LevelLock);
         }
-        match (self.mode_of(lock), mode) {
-            (None, _) => Some(Refusal::NotHeld),
-            (Some(Mode::Read), Mode::Read) | (Some(Mode::Write), Mode::Write) => None,
-            (Some(_), _) => Some(Refusal::WrongMode),
-        }
-    }
-
-    // The mode in which it has the lock, if it has it.
-    fn mode_of(&self, lock: LockId) -> Option<Mode>
-        ensures { result ≡ mode_of self.now lock }
-    {
-        if self.write_held().contains(lock) {
-            Some(Mode::Write)
-        } else if self.any_mode.contains(lock) {
-            Some(Mode::Read)
-        } else {
-            None
+        let Ok(place) = self.any_mode.find(lock) else {
+            return Err(Refusal::NotHeld);
+        };
+        let is_written = !self.is_apart || self.write_mode.contains(lock);
+        match (is_written, mode) {
+            (true, Mode::Write) | (false, Mode::Read) => Ok(place),
+            (true, Mode::Read) | (false, Mode::Write) => Err(Refusal::WrongMode),
         }
     }
 
-    fn remove(&mut self, lock: LockId)
-        requires { IsFalse (is_level_lock lock) }
+    fn remove(&mut self, place: usize, lock: LockId)
+        requires plain { IsFalse (is_level_lock lock) }
+        requires place { (place < length self.old.held) × (slice_index self.old.held place ≡ lock) }
         ensures { self.new ≡ changed_by self.old (Event.Release lock Mode.Read) }
     {
-        self.any_mode.remove(lock);
+        self.any_mode.remove_at(place);
         if self.is_apart {
             self.write_mode.remove(lock);
             self.is_apart = self.write_mode.len() < self.any_mode.len();
@@ -281,8 +274,8 @@ impl Held {
         ensures { result ≡ refused_by self.now event }
     {
         match event {
-            Event::Acquire(lock, mode) => self.refusal_of_acquire(lock, mode),
-            Event::Release(lock, mode) => self.refusal_of_release(lock, mode),
+            Event::Acquire(lock, mode) => self.place_to_acquire(lock, mode).err(),
+            Event::Release(lock, mode) => self.place_to_release(lock, mode).err(),
             Event::IgnoreOn if self.depth == Held::MOST_BRACKETS => Some(Refusal::IgnoreTooDeep),
             Event::IgnoreOff if self.depth == 0 => Some(Refusal::IgnoreNotOn),
             _ => None,
