@@ -19,9 +19,7 @@ use std::alloc::{AllocError, Global};
 use std::io::Read;
 use std::marker::Model;
 
-/// A line in front of a reader.
-///
-/// It has no Boolean, since that would leave 7 bytes of padding. They are copied in pieces that overlap, and each copy waits for the one before.
+/// A line in front of a reader. It has no Boolean, since that would leave 7 bytes of padding, and a copy of these waits for the one before.
 #[derive(Clone, Copy)]
 pub struct FrontLine {
     /// Its bytes, without its LF.
@@ -34,8 +32,8 @@ pub struct FrontLine {
 #[derive(Drop)]
 pub struct LineReader {
     window: Window,
-    limit: u64,
     number: u64,
+    limit: u64,
     start: u64,
 }
 
@@ -63,8 +61,8 @@ impl LineReader {
     {
         Ok(LineReader {
             window: Window::new(alloc, size)?,
-            limit,
             number: 1,
+            limit,
             start: 0,
         })
     }
@@ -213,7 +211,7 @@ impl LineReader {
         ensures most { taken_by self.new ≤ self.new.limit + bytes_past_limit }
         ensures touches { StaysKnown (S.touches (inner_of reader.old)) (S.touches (inner_of reader.new)) }
     {
-        if !is_asked || !self.window.is_empty() || self.limit - self.start < 1025 {
+        if !is_asked || !self.window.as_slice().is_empty() || self.limit - self.start < 1025 {
             return None;
         }
         let line = shortcut.take(reader.inner_mut())?;

@@ -3,6 +3,7 @@ ghost use Rattle.std.specs.Prelude.{◌≡◌, ◌++◌, ◌<◌, ◌≤◌, OnO
 ghost use Rattle.std.specs.Char.{digit_char, digit_value};
 ghost use Rattle.er_lines.specs.Number.{hex_digits, number_of, value_in};
 
+use crate::classes::class_of;
 use itoa::Buffer;
 use std::alloc::AllocError;
 
@@ -11,12 +12,7 @@ use std::alloc::AllocError;
 fn digit_value(byte: u8) -> u64
     ensures { result ≡ digit_value byte }
 {
-    match byte {
-        b'0'..=b'9' => (byte - b'0') as u64,
-        b'A'..=b'Z' => (byte - b'A') as u64 + 10,
-        b'a'..=b'z' => (byte - b'a') as u64 + 10,
-        _ => 36,
-    }
+    u64::from(class_of(byte).min(36))
 }
 
 /// The number that the digits write, where there is a digit, each is one, and it is small enough.

@@ -1,5 +1,5 @@
 //! The bytes of a text that were read and aren't passed over yet.
-ghost use Rattle.std.specs.Prelude.{◌≡◌, ◌≢◌, ◌+◌, ◌-◌, ◌^◌, ◌<◌, ◌≤◌, ℕ, List, Option, length, take, drop, slice_index, All, IfOk, IsTrue, [], OnErr, OnOk, max, vec_len, ◌++◌};
+ghost use Rattle.std.specs.Prelude.{◌≡◌, ◌≢◌, ◌+◌, ◌-◌, ◌^◌, ◌<◌, ◌≤◌, ℕ, List, Option, length, take, drop, slice_index, All, IfOk, OnErr, OnOk, max, vec_len, ◌++◌};
 ghost use Rattle.std.specs.Io.KnownBytes.{Keeps, Consumes, IsAtEnd, prepend_known};
 ghost use Rattle.er_device.specs.Device.{inner_of, has_failed, taken_of, Failing};
 ghost use Rattle.er_lines.specs.Touches.{StaysKnown};
@@ -56,13 +56,6 @@ impl Window {
         ensures fits { length result.now ≤ 2 ^ 30 }
     {
         &self.bytes[self.start..self.end]
-    }
-
-    /// Whether it shows nothing.
-    pub(crate) fn is_empty(&self) -> bool
-        ensures { IsTrue result → items self.now ≡ [] }
-    {
-        self.start == self.end
     }
 
     pub(crate) fn consume(&mut self, count: usize)

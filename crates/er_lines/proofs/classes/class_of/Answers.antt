@@ -1,9 +1,13 @@
 -- By the table.
-use Rattle.er_lines.proofs.ClassLemmas.{digit_right, name_right}
+use Rattle.std.proofs.Common.{arith}
+use Rattle.er_lines.proofs.ClassLemmas.{value_right, name_right}
 use Rattle.er_lines.proofs.classes.class_of.Goals as goal
 
 pub returns-clause-digit : goal.returns-clause-digit
-returns-clause-digit c = digit_right c.args.byte c.ranges.byte.fits
+returns-clause-digit c low = omega (arith, low, value_right c.args.byte c.ranges.byte.fits)
+
+pub returns-clause-value : goal.returns-clause-value
+returns-clause-value c = value_right c.args.byte c.ranges.byte.fits
 
 pub returns-clause-name : goal.returns-clause-name
 returns-clause-name c = name_right c.args.byte c.ranges.byte.fits

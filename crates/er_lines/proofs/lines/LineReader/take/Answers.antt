@@ -1,5 +1,5 @@
 -- The line that the shortcut took is the next one.
-use Rattle.std.proofs.Common.{◌≡◌, ◌+◌, ◌≤◌, length, refl, subst, arith, rules}
+use Rattle.std.proofs.Common.{◌≡◌, ◌+◌, length, refl, subst, arith, rules}
 use Rattle.er_device.specs.Device.{inner_of}
 use Rattle.er_lines.specs.Inner.Windows.{items}
 use Rattle.er_lines.specs.Places.{Place}
