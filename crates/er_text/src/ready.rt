@@ -41,60 +41,7 @@ fn hold_event(verb: ReadyVerb, lock: LockId) -> Event
     }
 }
 
-/// Adds an access, at a site if there is one. The thread is numbered first.
-#[inline(always)]
-fn add_access<R: Read, S: Shortcut<R>>(
-    trace: &mut Trace,
-    numbers: &mut KnownNumbers,
-    reader: &R,
-    shortcut: &S,
-    line: u64,
-    ready: ReadyLine,
-) -> Put
-    requires is { is_access ready.verb ≡ true }
-    requires line { IsRight (S.names_of reader.now) ready }
-    requires right { AreRight (S.names_of reader.now) trace.old.names numbers.old }
-    ensures trace { OnOk result (trace.new ≡ with_line line (ready_event ready.verb ready.address (thread_name (S.names_of reader.now) ready) (operand_name (S.names_of reader.now) ready)) trace.old) }
-    ensures right { OnOk result (AreRight (S.names_of reader.now) trace.new.names numbers.new) }
-{
-    let thread = numbers.number(trace, reader, shortcut, NameKind::Thread, ready.thread)?;
-    let thread = ThreadId::new(thread);
-    let kind = access_kind(ready.verb);
-    let word = Word::new(ready.address / Word::BYTES);
-    let Some(place) = ready.name else {
-        let event = Event::Access(kind, word, Site::MISSING);
-        return trace.push(Step { thread, event }, line, Site::MISSING);
-    };
-    let site = Site::new(numbers.number(trace, reader, shortcut, NameKind::Site, place)?);
-    let event = Event::Access(kind, word, site);
-    trace.push(Step { thread, event }, line, site)
-}
-
-/// Adds the acquire or the release of a lock. The thread is numbered first.
-#[inline(always)]
-fn add_hold<R: Read, S: Shortcut<R>>(
-    trace: &mut Trace,
-    numbers: &mut KnownNumbers,
-    reader: &R,
-    shortcut: &S,
-    line: u64,
-    ready: ReadyLine,
-) -> Put
-    requires is { is_access ready.verb ≡ false }
-    requires line { IsRight (S.names_of reader.now) ready }
-    requires right { AreRight (S.names_of reader.now) trace.old.names numbers.old }
-    ensures trace { OnOk result (trace.new ≡ with_line line (ready_event ready.verb ready.address (thread_name (S.names_of reader.now) ready) (operand_name (S.names_of reader.now) ready)) trace.old) }
-    ensures right { OnOk result (AreRight (S.names_of reader.now) trace.new.names numbers.new) }
-{
-    let thread = numbers.number(trace, reader, shortcut, NameKind::Thread, ready.thread)?;
-    let thread = ThreadId::new(thread);
-    let name = ready.name.unwrap_or(0);
-    let lock = numbers.number(trace, reader, shortcut, NameKind::Lock, name)?;
-    let event = hold_event(ready.verb, LockId::new(lock));
-    trace.push(Step { thread, event }, line, Site::MISSING)
-}
-
-/// Adds the step of a ready line.
+/// Adds the step of a ready line: of an access, at a site if there is one, or of the acquire or the release of a lock. The thread is numbered first.
 #[inline(always)]
 pub(crate) fn add_ready<R: Read, S: Shortcut<R>>(
     trace: &mut Trace,
@@ -109,9 +56,21 @@ pub(crate) fn add_ready<R: Read, S: Shortcut<R>>(
     ensures trace { OnOk result (trace.new ≡ with_line line (ready_event ready.verb ready.address (thread_name (S.names_of reader.now) ready) (operand_name (S.names_of reader.now) ready)) trace.old) }
     ensures right { OnOk result (AreRight (S.names_of reader.now) trace.new.names numbers.new) }
 {
-    if is_access(ready.verb) {
-        add_access(trace, numbers, reader, shortcut, line, ready)
-    } else {
-        add_hold(trace, numbers, reader, shortcut, line, ready)
+    let thread = numbers.number(trace, reader, shortcut, NameKind::Thread, ready.thread)?;
+    let thread = ThreadId::new(thread);
+    if !is_access(ready.verb) {
+        let name = ready.name.unwrap_or(0);
+        let lock = numbers.number(trace, reader, shortcut, NameKind::Lock, name)?;
+        let event = hold_event(ready.verb, LockId::new(lock));
+        return trace.push(Step { thread, event }, line, Site::MISSING);
     }
+    let kind = access_kind(ready.verb);
+    let word = Word::new(ready.address / Word::BYTES);
+    let Some(place) = ready.name else {
+        let event = Event::Access(kind, word, Site::MISSING);
+        return trace.push(Step { thread, event }, line, Site::MISSING);
+    };
+    let site = Site::new(numbers.number(trace, reader, shortcut, NameKind::Site, place)?);
+    let event = Event::Access(kind, word, site);
+    trace.push(Step { thread, event }, line, site)
 }
