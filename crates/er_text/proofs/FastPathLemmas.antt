@@ -1,5 +1,5 @@
 -- Lines in their usual form: the words of what is put together with single spaces.
-use Rattle.std.proofs.Common.{◌≡◌, ℕ, suc, ◌+◌, ◌*◌, ◌^◌, ◌<◌, ◌≤◌, Bool, true, false, not, cond, List, [], ◌∷◌, length, take, get_or, refl, ◌∙◌, subst, arith}
+use Rattle.std.proofs.Common.{◌≡◌, ℕ, suc, ◌+◌, ◌-◌, ◌*◌, ◌^◌, ◌<◌, ◌≤◌, Bool, true, false, not, cond, List, [], ◌∷◌, length, take, drop, get_or, refl, ◌∙◌, subst, arith}
 use Rattle.std.specs.Prelude.{Option, Some, None, IfSome}
 use Rattle.std.specs.List.{list_all, position_or_len}
 use Rattle.std.specs.Char.{digit_value, is_digit}
@@ -8,6 +8,7 @@ use Rattle.std.proofs.lemmas.Int.Digits.{digits_value_more}
 use Rattle.std.proofs.lemmas.List.Folds.{list_all_more}
 use Rattle.std.proofs.lemmas.Nat.{pow-add}
 use Rattle.std.proofs.Math.Pow.{pow_mono}
+use Rattle.std.proofs.Math.Seq.{take-length}
 use Rattle.er_text.specs.Inner.FastPath.{HexSoFar, AreLeadingDigits}
 
 -- the elements in front of the first that fails all pass
@@ -71,3 +72,10 @@ few_small value i small few =
 
 pub hex_found : (bytes : List ℕ) (value i : ℕ) → HexSoFar bytes value i → i ≤ 12 → i ≤ length bytes → AreLeadingDigits bytes value i
 hex_found bytes value i so few within = record { most = few; within = within; digits = so.digits; value_is = so.value_is; small = few_small value i so.small few }
+
+-- what follows a space in front
+pub space_front : (bytes : List ℕ) → 1 ≤ length bytes → get_or bytes 0 0 ≡ 32 → bytes ≡ 32 ∷ take (length bytes - 1) (drop 1 bytes)
+space_front [] some space = absurd (omega (arith, some))
+space_front (byte ∷ bytes) some space =
+    let rest : suc (length bytes) - 1 ≡ length bytes = omega arith in
+    rw (rest, space, take-length bytes) refl

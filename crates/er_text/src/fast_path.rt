@@ -5,6 +5,7 @@
 //! The steps are those of `parsing` and `adding`, in less than half the time. A line of any other form, or of a new thread, is left to
 //! `parsing`. A name that is found among the recent ones of the trace needs no look at its bytes.
 ghost use Rattle.std.specs.Prelude.{◌≡◌, ◌+◌, ◌<◌, ◌≤◌, ◌∷◌, ◌++◌, length, codes, ℕ, List, IfSome};
+ghost use Rattle.std.specs.Int.{to_le_bytes, w32};
 ghost use Rattle.er_text.specs.Inner.FastPath.{EndsIn, IsLeadingThread, HexSoFar, AreLeadingDigits, IsLeadingWord, IsFastAccess, IsFastLockEvent, IsFastOperation, IsFastLine, NumbersLock, NumbersSite, AddsOperation, AddsLine, lock_word};
 ghost use Rattle.er_text.specs.Trace.{kind_word};
 
@@ -12,20 +13,33 @@ use crate::naming::is_site_word;
 use crate::verbs::Version;
 use er_event::{Event, Kind, LockId, Mode, Site, Step, ThreadId, Word};
 use er_lines::{class_of, is_name, name_of, name_text, site_text, split_at_space};
-use er_trace::{Names, Trace};
+use er_trace::Trace;
 use std::alloc::AllocError;
 use std::simd::prelude::*;
 
 /// Whether a step was added, unless memory was refused.
 type Added = Result<bool, AllocError>;
 
-/// What follows a space in front.
+// The first four bytes of each verb: `read`, `writ`, `lock`, `unlo`, `rloc` and `runl`.
+const READ: u32 = 0x6461_6572;
+
+const WRITE: u32 = 0x7469_7277;
+
+const LOCK: u32 = 0x6b63_6f6c;
+
+const UNLOCK: u32 = 0x6f6c_6e75;
+
+const READ_LOCK: u32 = 0x636f_6c72;
+
+const READ_UNLOCK: u32 = 0x6c6e_7572;
+
+/// The first four bytes as a number, so that they are compared at once, and what follows them.
 #[inline(always)]
-fn after_space(bytes: &[u8]) -> Option<&[u8]>
-    ensures { IfSome result (λ rest. bytes.now ≡ 32 ∷ rest.now) }
+fn leading_four(bytes: &[u8]) -> Option<(u32, &[u8])>
+    ensures { IfSome result (λ led. bytes.now ≡ to_le_bytes w32 led.0 ++ led.1.now) }
 {
     match bytes {
-        [b' ', rest @ ..] => Some(rest),
+        [a, b, c, d, rest @ ..] => Some((u32::from_le_bytes([*a, *b, *c, *d]), rest)),
         _ => None,
     }
 }
@@ -35,9 +49,9 @@ fn after_space(bytes: &[u8]) -> Option<&[u8]>
 fn leading_kind(bytes: &[u8]) -> Option<(Kind, &[u8])>
     ensures { IfSome result (λ parts. bytes.now ≡ kind_word parts.0 ++ 32 ∷ parts.1.now) }
 {
-    match bytes {
-        [b'r', b'e', b'a', b'd', b' ', rest @ ..] => Some((Kind::Read, rest)),
-        [b'w', b'r', b'i', b't', b'e', b' ', rest @ ..] => Some((Kind::Write, rest)),
+    match leading_four(bytes)? {
+        (READ, [b' ', rest @ ..]) => Some((Kind::Read, rest)),
+        (WRITE, [b'e', b' ', rest @ ..]) => Some((Kind::Write, rest)),
         _ => None,
     }
 }
@@ -47,30 +61,29 @@ fn leading_kind(bytes: &[u8]) -> Option<(Kind, &[u8])>
 fn leading_lock_verb(bytes: &[u8]) -> Option<(bool, Mode, &[u8])>
     ensures { IfSome result (λ parts. bytes.now ≡ lock_word parts.0 parts.1 ++ 32 ∷ parts.2.now) }
 {
-    match bytes {
-        [b'l', b'o', b'c', b'k', b' ', rest @ ..] => Some((true, Mode::Write, rest)),
-        [b'u', b'n', b'l', b'o', b'c', b'k', b' ', rest @ ..] => Some((false, Mode::Write, rest)),
-        [b'r', b'l', b'o', b'c', b'k', b' ', rest @ ..] => Some((true, Mode::Read, rest)),
-        [b'r', b'u', b'n', b'l', b'o', b'c', b'k', b' ', rest @ ..] => {
-            Some((false, Mode::Read, rest))
-        }
+    match leading_four(bytes)? {
+        (LOCK, [b' ', rest @ ..]) => Some((true, Mode::Write, rest)),
+        (UNLOCK, [b'c', b'k', b' ', rest @ ..]) => Some((false, Mode::Write, rest)),
+        (READ_LOCK, [b'k', b' ', rest @ ..]) => Some((true, Mode::Read, rest)),
+        (READ_UNLOCK, [b'o', b'c', b'k', b' ', rest @ ..]) => Some((false, Mode::Read, rest)),
         _ => None,
     }
 }
 
 /// The thread whose name is known and stands in front of one space, and what follows that. Most are found by a look at eight bytes.
 #[inline(always)]
-fn leading_thread<'a>(names: &Names, bytes: &'a [u8]) -> Option<(ThreadId, &'a [u8])>
-    ensures { IfSome result (λ led. IsLeadingThread names.now.threads bytes.now led.0 led.1.now) }
+fn leading_thread<'a>(trace: &mut Trace, bytes: &'a [u8]) -> Option<(ThreadId, &'a [u8])>
+    ensures led { IfSome result (λ led. IsLeadingThread trace.old.names.threads bytes.now led.0 led.1.now) }
+    ensures same { trace.new ≡ trace.old }
 {
-    if let Some(led) = names.leading_thread(bytes) {
+    if let Some(led) = trace.leading_thread(bytes) {
         return Some(led);
     }
     let (word, rest) = split_at_space(bytes);
     if rest.is_empty() {
         return None;
     }
-    let thread = names.known_thread(name_of(word)?)?;
+    let thread = trace.names().known_thread(name_of(word)?)?;
     Some((thread, rest))
 }
 
@@ -168,7 +181,7 @@ fn site_behind(
     if rest.is_empty() {
         return Ok(Some(Site::MISSING));
     }
-    let Some(word) = after_space(rest) else {
+    let [b' ', word @ ..] = rest else {
         return Ok(None);
     };
     if word == b"-".as_slice() {
@@ -280,7 +293,7 @@ fn add_usual_operation(
     }
 }
 
-/// Adds the step of a line in its usual form, if its thread is known, and says whether it did. A line of another form adds nothing.
+/// Adds the step of a line of 8 bytes and more in its usual form, if its thread is known, and says whether it did. Another line adds nothing.
 ///
 /// It makes no value of an enum with names in it: such a value is copied in pieces that are wider than its parts, and each copy
 /// waits until the parts are written.
@@ -288,7 +301,10 @@ fn add_usual_operation(
 pub(crate) fn add_usual(trace: &mut Trace, version: Version, line: u64, bytes: &[u8]) -> Added
     ensures { AddsLine (IsFastLine version bytes.now) line trace.old trace.new result }
 {
-    match leading_thread(trace.names(), bytes) {
+    if bytes.len() < 8 {
+        return Ok(false);
+    }
+    match leading_thread(trace, bytes) {
         Some(led) => add_usual_operation(trace, version, line, led.0, bytes, led.1),
         None => Ok(false),
     }

@@ -34,7 +34,7 @@ unpacked_digits (byte ∷ bytes) value small is =
     rw first (ap (λ (others : List ℕ). byte ∷ others) (unpacked_digits bytes (value / 256) (λ k. small (suc k)) rest))
 
 -- what is above the lowest digits doesn't show in these
-unpacked_low : (n value : ℕ) → unpacked n (value % 2 ^ (8 * n)) ≡ unpacked n value
+pub unpacked_low : (n value : ℕ) → unpacked n (value % 2 ^ (8 * n)) ≡ unpacked n value
 unpacked_low zero value = refl
 unpacked_low (suc n) value =
     let shape : 8 * suc n ≡ 8 * n + 8 = omega arith in
@@ -43,7 +43,7 @@ unpacked_low (suc n) value =
     let rest : value % 2 ^ (8 * suc n) / 256 ≡ value / 256 % 2 ^ (8 * n) = rw (shape, more) (omega arith) in
     rw (lowest, rest) (ap (λ (others : List ℕ). value % 256 ∷ others) (unpacked_low n (value / 256)))
 
-unpacked_take : (n m value : ℕ) → n ≤ m → take n (unpacked m value) ≡ unpacked n value
+pub unpacked_take : (n m value : ℕ) → n ≤ m → take n (unpacked m value) ≡ unpacked n value
 unpacked_take zero m value le = refl
 unpacked_take (suc n) zero value le = absurd (omega (arith, le))
 unpacked_take (suc n) (suc m) value le = ap (λ (others : List ℕ). value % 256 ∷ others) (unpacked_take n m (value / 256) (omega (arith, le)))

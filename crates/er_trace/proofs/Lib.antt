@@ -7,3 +7,4 @@ pub mod AppendedSteps
 pub mod RenumberingLemmas
 pub mod InPlaceLemmas
 pub mod RecentLemmas
+pub mod LeadingLemmas

@@ -3,12 +3,14 @@ use Rattle.std.specs.List.{list_all}
 use Rattle.std.proofs.Common.{◌≡◌, ℕ, ◌<◌, ◌≤◌, true, List, Option, Some, None, IfSome, Result, Ok, Err, OnOk, OnErr, sym, ◌∙◌, subst, arith}
 use Rattle.std.specs.declared.alloc.AllocError.{AllocError}
 use Rattle.std.proofs.lemmas.List.Elements.{All-weaker}
+use Rattle.er_trace.specs.declared.recent.Leading.{Leading}
 use Rattle.er_trace.specs.declared.recent.ShortName.{ShortName}
 use Rattle.er_trace.specs.declared.recent.Slot.{Slot}
 use Rattle.er_trace.specs.declared.recent.RecentNames.{RecentNames}
 use Rattle.er_trace.specs.Names.{number_of, with_name, most_names, is_plain_byte, IsPlain}
-use Rattle.er_trace.specs.Inner.Recent.{bytes_of, Knows, IsRight, AreRight}
+use Rattle.er_trace.specs.Inner.Recent.{bytes_of, Knows, IsRight, AreRight, LeadsRight}
 use Rattle.er_trace.proofs.DigitLemmas.{bytes_size}
+use Rattle.er_trace.proofs.LeadingLemmas.{still_leads}
 use Rattle.er_trace.proofs.NumberLemmas.{given, again, still, kept}
 
 still_knows : (names : List (List ℕ)) (later name : List ℕ) (number : ℕ) → Knows names name number → Knows (with_name names later) name number
@@ -23,13 +25,13 @@ still_right names later recent right =
     All-weaker P Q (λ slot right some. record { knows = still_knows names later (bytes_of slot.name) slot.number (right some).knows; plain = (right some).plain }) recent.slots.items right
 
 -- whatever came of it
-pub right_after : (result : Result ℕ AllocError) (old new : List (List ℕ)) (name : List ℕ) (recent : RecentNames) → AreRight old recent
-    → OnOk result (new ≡ with_name old name) → OnErr result (new ≡ old) → AreRight new recent
-right_after (Ok n) old new name recent right ok err =
-    let P : List (List ℕ) → Type 0 = λ names. AreRight names recent in
-    subst P (sym ok) (still_right old name recent right)
-right_after (Err e) old new name recent right ok err =
-    let P : List (List ℕ) → Type 0 = λ names. AreRight names recent in
+pub right_after : (result : Result ℕ AllocError) (old new : List (List ℕ)) (name : List ℕ) (recent : RecentNames) (leading : Leading) → AreRight old recent × LeadsRight old leading
+    → OnOk result (new ≡ with_name old name) → OnErr result (new ≡ old) → AreRight new recent × LeadsRight new leading
+right_after (Ok n) old new name recent leading right ok err =
+    let P : List (List ℕ) → Type 0 = λ names. AreRight names recent × LeadsRight names leading in
+    subst P (sym ok) (still_right old name recent right.0, still_leads old name leading right.1)
+right_after (Err e) old new name recent leading right ok err =
+    let P : List (List ℕ) → Type 0 = λ names. AreRight names recent × LeadsRight names leading in
     subst P (sym err) right
 
 -- the name itself is known then

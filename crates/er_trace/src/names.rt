@@ -1,13 +1,13 @@
 //! Numbers for the names of threads, locks and sites.
 ghost use Rattle.std.specs.Prelude.{◌≡◌, ◌+◌, ◌-◌, ◌<◌, ◌≤◌, ◌++◌, ◌∷◌, ℕ, List, [], length, drop, map, Some, slice_get, IsTrue, IsOk, IsErr, IfOk, IfSome, IfNone, OnOk, OnErr, true, false};
 ghost use Rattle.er_trace.specs.Appended.{AreNumbers, HasAll, with_names, with_table};
-ghost use Rattle.er_trace.specs.Inner.Recent.{Knows, bytes_of};
+ghost use Rattle.er_trace.specs.Inner.Recent.{Knows, IsLed, bytes_of};
 ghost use Rattle.er_trace.specs.Inner.Renumbering.{HasMore};
 ghost use Rattle.er_trace.specs.Names.{is_known, number_of, with_name, no_names, most_names, IsPlain};
 
 use crate::NameKeys;
 use crate::appending::{NewNumbers, NewTable};
-use crate::recent::{RecentNames, ShortName, are_plain};
+use crate::recent::{Leading, RecentNames, ShortName, are_plain, ending_of};
 use er_event::{LockId, Site, ThreadId};
 use er_keys::{Hints, KeyedHasher};
 use indexmap::IndexSet;
@@ -104,17 +104,18 @@ struct CachedNames {
     recent: RecentNames,
     // The number of a long name, by its last bytes. Whoever asks compares the name that stands there.
     hints: Hints,
+    leading: Leading,
 }
 
 impl Model for CachedNames {
     ghost use Rattle.std.specs.Prelude.{ℕ, List};
-    ghost use Rattle.er_trace.specs.Inner.Recent.{AreRight};
+    ghost use Rattle.er_trace.specs.Inner.Recent.{AreRight, LeadsRight};
 
     ghost Value = { List (List ℕ) };
 
     ghost view = { λ n. n.list };
 
-    ghost invariant = { λ n. AreRight n.list n.recent };
+    ghost invariant = { λ n. AreRight n.list n.recent × LeadsRight n.list n.leading };
 }
 
 impl CachedNames {
@@ -128,6 +129,7 @@ impl CachedNames {
             list: NameList::new(alloc, keys),
             recent: RecentNames::new(alloc),
             hints: Hints::new(alloc),
+            leading: Leading::none(),
         }
     }
 
@@ -168,6 +170,21 @@ impl CachedNames {
         ensures within { IfSome result (λ number. number < most_names) }
     {
         self.recent.find(name)
+    }
+
+    /// The number of the name in front of a space, and how many bytes it has, if it is short, recent and plain.
+    #[inline(always)]
+    fn leading(&mut self, bytes: &[u8]) -> Option<(u32, usize)>
+        ensures same { self.new ≡ self.old }
+        ensures led { IfSome result (λ led. IsLed self.old bytes.now led.0 led.1) }
+    {
+        if let Some(led) = self.leading.find(bytes) {
+            return Some(led);
+        }
+        let short = ShortName::before_space(bytes)?;
+        let number = self.plain(short)?;
+        self.leading = Leading::of(bytes, number, short.len);
+        Some((number, short.len))
     }
 
     /// The place of a name that has appeared.
@@ -219,16 +236,6 @@ impl CachedNames {
     }
 }
 
-// A number for the last 16 bytes of a name, in which long names of sites and locks differ most.
-fn ending_of(name: &str) -> u64 {
-    let bytes = name.as_bytes();
-    let short = match bytes.last_chunk::<16>() {
-        Some(ending) => ShortName::of(ending),
-        None => ShortName::of(bytes),
-    };
-    short.map_or(0, |short| short.slot() as u64)
-}
-
 /// The names of threads, locks and sites, each sort numbered by first appearance. Threads and locks count from 0, sites from 1.
 #[derive(Drop)]
 pub struct Names {
@@ -246,13 +253,6 @@ impl Model for Names {
 }
 
 impl Names {
-    /// No names. Whoever chooses many of them can make them slow: see [`keyed`](Names::keyed).
-    pub fn new(alloc: Global) -> Self
-        ensures { result ≡ no_names }
-    {
-        Names::keyed(alloc, NameKeys::KNOWN)
-    }
-
     /// No names, of which each will be hashed by these keys.
     pub fn keyed(alloc: Global, keys: NameKeys) -> Self
         ensures { result ≡ no_names }
@@ -314,12 +314,12 @@ impl Names {
 
     /// The thread whose name stands in front of a space, and what follows that, if the name is short, recent and plain.
     #[inline(always)]
-    pub fn leading_thread<'a>(&self, bytes: &'a [u8]) -> Option<(ThreadId, &'a [u8])>
-        ensures { IfSome result (λ found. (name : List ℕ) × IsPlain self.now.threads name found.0 × (bytes.now ≡ name ++ 32 ∷ found.1.now)) }
+    pub(crate) fn leading_thread<'a>(&mut self, bytes: &'a [u8]) -> Option<(ThreadId, &'a [u8])>
+        ensures same { self.new ≡ self.old }
+        ensures led { IfSome result (λ led. (name : List ℕ) × IsPlain self.old.threads name led.0 × (bytes.now ≡ name ++ 32 ∷ led.1.now)) }
     {
-        let short = ShortName::before_space(bytes)?;
-        let number = self.threads.plain(short)?;
-        Some((ThreadId::new(number), &bytes[short.len + 1..]))
+        let (number, len) = self.threads.leading(bytes)?;
+        Some((ThreadId::new(number), &bytes[len + 1..]))
     }
 
     /// The lock whose name the last bytes are, if it is short, recent and plain.

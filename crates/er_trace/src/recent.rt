@@ -2,7 +2,7 @@
 ghost use Rattle.std.specs.Prelude.{◌≡◌, ◌<◌, ◌≤◌, ◌+◌, ◌-◌, ◌++◌, ◌∷◌, ℕ, List, drop, length, IfSome};
 ghost use Rattle.std.specs.List.{list_all};
 ghost use Rattle.er_trace.specs.Names.{number_of, is_plain_byte};
-ghost use Rattle.er_trace.specs.Inner.Recent.{unpacked, bytes_of, IsRight, AreRight};
+ghost use Rattle.er_trace.specs.Inner.Recent.{unpacked, bytes_of, IsRight, AreRight, IsLed, LeadsRight};
 
 use std::alloc::Global;
 
@@ -39,6 +39,16 @@ pub(crate) fn are_plain(bytes: &[u8]) -> bool
     ensures { result ≡ list_all is_plain_byte bytes.now }
 {
     bytes.iter().all(|byte| matches!(*byte, b'a'..=b'z' | b'A'..=b'Z' | b'-'..=b':' | b'_'))
+}
+
+/// A number for the last 16 bytes of a name, in which long names of sites and locks differ most.
+pub(crate) fn ending_of(name: &str) -> u64 {
+    let bytes = name.as_bytes();
+    let short = match bytes.last_chunk::<16>() {
+        Some(ending) => ShortName::of(ending),
+        None => ShortName::of(bytes),
+    };
+    short.map_or(0, |short| short.slot() as u64)
 }
 
 /// A name of 1 to 16 bytes: how many there are, the first eight as a number, and the others.
@@ -139,6 +149,58 @@ impl ShortName {
 struct Slot {
     name: ShortName,
     number: u32,
+}
+
+/// A name of at most seven bytes and the space behind it as one number, and a mask as wide: most lines begin as the line before. That of no
+/// name fits no bytes.
+#[derive(Clone, Copy)]
+pub(crate) struct Leading {
+    front: u64,
+    mask: u64,
+    len: usize,
+    number: u32,
+}
+
+impl Leading {
+    /// No name.
+    pub(crate) fn none() -> Leading
+        ensures { (names : List (List ℕ)) → LeadsRight names result }
+    {
+        Leading {
+            front: 1,
+            mask: 0,
+            len: 0,
+            number: 0,
+        }
+    }
+
+    /// The name of so many bytes that stands in front of these, if it has at most seven.
+    #[inline(always)]
+    pub(crate) fn of(bytes: &[u8], number: u32, len: usize) -> Leading
+        ensures { (names : List (List ℕ)) → IsLed names bytes.now number len → LeadsRight names result }
+    {
+        if bytes.len() < 8 || len >= 8 {
+            return Leading::none();
+        }
+        let mask = u64::MAX >> (56 - 8 * len);
+        Leading {
+            front: packed(&bytes[..8]) & mask,
+            mask,
+            len,
+            number,
+        }
+    }
+
+    /// The number of the name, and how many bytes it has, if it stands in front of these.
+    #[inline(always)]
+    pub(crate) fn find(&self, bytes: &[u8]) -> Option<(u32, usize)>
+        ensures { (names : List (List ℕ)) → LeadsRight names self.now → IfSome result (λ led. IsLed names bytes.now led.0 led.1) }
+    {
+        if bytes.len() < 8 || packed(&bytes[..8]) & self.mask != self.front {
+            return None;
+        }
+        Some((self.number, self.len))
+    }
 }
 
 /// Names with their numbers, each in a slot of its own. A name takes the slot of another.

@@ -1,7 +1,7 @@
 //! `Trace`, steps with their lines, sites and names.
-ghost use Rattle.std.specs.Prelude.{◌≡◌, ◌+◌, ◌^◌, ◌<◌, ◌≤◌, All, length, map, IsTrue, IsOk, IsErr, IfOk, OnOk, OnErr, false};
+ghost use Rattle.std.specs.Prelude.{◌≡◌, ◌+◌, ◌^◌, ◌<◌, ◌≤◌, ◌++◌, ◌∷◌, ℕ, List, IfSome, All, length, map, IsTrue, IsOk, IsErr, IfOk, OnOk, OnErr, false};
 ghost use Rattle.er_trace.specs.Appended.{AreNumbers, HasAll, renumbered_site, renumbered_step, with_table};
-ghost use Rattle.er_trace.specs.Names.{NameTable, is_known, number_of, most_names};
+ghost use Rattle.er_trace.specs.Names.{NameTable, IsPlain, is_known, number_of, most_names};
 ghost use Rattle.er_trace.specs.Trace.{IsNamed, HasSiteName, no_steps, with_step, with_steps, without_steps, with_thread_name, with_lock_name, with_site_name};
 
 use crate::appending::{NewTable, count_behind};
@@ -81,6 +81,15 @@ impl Trace {
         ensures { result.now ≡ self.now.names }
     {
         &self.names
+    }
+
+    /// The thread whose name stands in front of a space, and what follows that, if the name is short, recent and plain.
+    #[inline(always)]
+    pub fn leading_thread<'a>(&mut self, bytes: &'a [u8]) -> Option<(ThreadId, &'a [u8])>
+        ensures same { self.new ≡ self.old }
+        ensures led { IfSome result (λ led. (name : List ℕ) × IsPlain self.old.names.threads name led.0 × (bytes.now ≡ name ++ 32 ∷ led.1.now)) }
+    {
+        self.names.leading_thread(bytes)
     }
 
     /// Adds a step, its line and the site that this line names. All numbers have names already. `AllocError`: memory was refused, and the

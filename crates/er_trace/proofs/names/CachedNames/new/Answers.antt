@@ -1,4 +1,4 @@
 use Rattle.er_trace.proofs.names.CachedNames.new.Goals as goal
 
 pub invariant_of-result : goal.invariant_of-result
-invariant_of-result c = c.new-2.ensures c.new.result
+invariant_of-result c = (c.new-2.ensures c.new.result, c.none.ensures c.new.result)

@@ -7,7 +7,7 @@ use Rattle.er_trace.proofs.names.CachedNames.plain.Goals as goal
 pub returns-clause-plain : goal.returns-clause-plain
 returns-clause-plain c =
     let P : List (List ℕ) → Type 0 = λ names. IfSome c.find.result (λ number. IsPlain names (bytes_of c.args.name) number) in
-    subst P c.self.view_is (plain_found c.self.inside.list c.args.name c.find.result c.requires (c.find.ensures c.self.inside.list c.self.invariant))
+    subst P c.self.view_is (plain_found c.self.inside.list c.args.name c.find.result c.requires (c.find.ensures c.self.inside.list c.self.invariant.0))
 
 pub returns-clause-within : goal.returns-clause-within
-returns-clause-within c = small_found c.self.inside.list c.args.name c.find.result (c.find.ensures c.self.inside.list c.self.invariant)
+returns-clause-within c = small_found c.self.inside.list c.args.name c.find.result (c.find.ensures c.self.inside.list c.self.invariant.0)
