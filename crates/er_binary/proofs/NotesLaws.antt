@@ -1,5 +1,5 @@
 -- What accesses touch, as a decoder notes it.
-use Rattle.std.proofs.Common.{◌≡◌, ◌==◌, ℕ, ◌+◌, ◌<◌, ◌≤◌, ◌^◌, Bool, true, false, cond, List, [], ◌∷◌, ◌++◌, length, take, drop, vec_items, vec_len, Option, Some, None, IfSome, option_map, if◌then◌else◌, refl, sym, ap, add-one, ◌∙◌, arith, append_assoc, append-nil, rules}
+use Rattle.std.proofs.Common.{◌≡◌, ◌==◌, ℕ, zero, suc, ◌+◌, ◌*◌, ◌%◌, ◌<◌, ◌≤◌, ◌^◌, Bool, true, false, cond, List, [], ◌∷◌, ◌++◌, length, take, drop, vec_items, vec_len, Option, Some, None, IfSome, option_map, if◌then◌else◌, refl, sym, ap, add-one, ◌∙◌, arith, append_assoc, append-nil, rules}
 use Rattle.std.specs.Option.{option_and_then}
 use Rattle.std.proofs.lemmas.List.{drop_all}
 use Rattle.std.specs.Io.KnownBytes.{Keeps, prepend_known}
@@ -183,3 +183,18 @@ noted_done d e h rest at spot state next len items touches line =
     noted_as e rest _ (at_record as_touches e rest at
     ∙ ap (λ (k : ℕ). all_records as_touches (plus e.spot.start (16 + k)) e.spot e.state (drop e.next (vec_items e.bytes)) rest) len
     ∙ ap (λ (xs : List ℕ). all_records as_touches (plus e.spot.start (16 + length h)) e.spot e.state (drop e.next xs) rest) items) ∙ rw (spot, state, next, touches, line) refl
+
+-- nothing is noted of an access that touches its words whole
+whole_below : (line : ℕ) (s : Said) (n : ℕ) → s.address % 4 ≡ 0 → s.size ≡ 4 * s.words → n ≤ s.words → touches_below line s n ≡ []
+whole_below line s zero even whole few = refl
+whole_below line s (suc n) even whole few =
+    let t = touch_at (passed_by line n) s n in
+    let first : t.first ≡ 0 = omega (arith, even) in
+    let last : t.last ≡ 3 = omega (arith, even, whole, few) in
+    let is : is_whole t ≡ true = rw (first, last) refl in
+    let less : n ≤ s.words = omega (arith, few) in
+    rw (whole_below line s n even whole less, is) refl
+
+pub whole_none : (s : Said) → s.address % 4 ≡ 0 → s.size ≡ 4 * s.words → (line : ℕ) → touches_said line s ≡ []
+unfolding touches_said
+whole_none s even whole line = whole_below line s s.words even whole (omega arith)

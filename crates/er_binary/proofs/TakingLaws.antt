@@ -1,8 +1,8 @@
 -- A decoder that took a line, and one that made the text of its words.
-use Rattle.std.proofs.Common.{◌≡◌, ℕ, ◌+◌, ◌*◌, ◌<◌, ◌≤◌, true, zero, suc, List, ◌++◌, length, drop, vec_items, vec_len, Some, refl, sym, ap, ◌∙◌, append_assoc, append-nil}
+use Rattle.std.proofs.Common.{◌≡◌, ℕ, ◌+◌, ◌*◌, ◌<◌, ◌≤◌, true, zero, suc, List, ◌++◌, length, drop, vec_items, vec_len, Option, Some, None, IfSome, IfNone, refl, sym, ap, ◌∙◌, append_assoc, append-nil}
 use Rattle.er_lines.specs.Ready.{line_text}
 use Rattle.er_lines.specs.declared.ready.ReadyLine.{ReadyLine}
-use Rattle.er_binary.specs.Inner.Decoders.{HasGiven, IsGiven, all_records, still, undecoded, NotesOn}
+use Rattle.er_binary.specs.Inner.Decoders.{GoesOn, HasGiven, IsGiven, NotesOn, Takes, all_records, still, undecoded}
 use Rattle.er_binary.specs.Inner.Words.{passed, words_at, words_text}
 use Rattle.er_binary.specs.Meaning.{as_text, Taken, past, take_record, take_said}
 use Rattle.er_binary.specs.Numbers.{address_word, plus}
@@ -21,7 +21,8 @@ use Rattle.er_binary.proofs.DecoderLaws.{given_is, record_is, words_left}
 use Rattle.er_binary.proofs.MeaningLaws.{record_some, take_some}
 use Rattle.er_binary.specs.declared.touches.Said.{Said}
 use Rattle.er_lines.specs.declared.ready.Touch.{Touch}
-use Rattle.er_binary.proofs.NotesLaws.{noted_record, touches_none}
+use Rattle.er_binary.proofs.NotesLaws.{noted_record, notes_trans, touches_none}
+use Rattle.er_binary.proofs.WordsLaws.{kept_on}
 
 -- a decoder whose text is given took a word's line
 pub word_taken : (d e : Decoder) (line : ReadyLine) (rest : List ℕ) → HasGiven d → HasGiven e → words_text d.state d.words ≡ line_text (names_in d.state) line ++ words_text e.state e.words
@@ -88,3 +89,29 @@ other_noted d e head t lines at is said less some phase state spot bytes next sa
     (λ is_on. touches ∙ sym (ap (λ (s : Said). vec_items d.notes.touches ++ touches_said d.notes.line s) says
     ∙ ap (λ (more : List Touch). vec_items d.notes.touches ++ more) (touches_none d.notes.line lines) ∙ append-nil (vec_items d.notes.touches)))
     (λ is_on. line is_on ∙ sym (ap (λ (s : Said). passed_by d.notes.line s.lines) says))
+
+-- one after another
+pub goes_trans : (a b c : Decoder) → GoesOn a b → GoesOn b c → GoesOn a c
+goes_trans a b c one two =
+    record { same = λ rest. one.same rest ∙ two.same rest; kept = kept_on _ _ _ one.kept two.kept; noted = notes_trans a b c one.noted two.noted }
+
+pub takes_behind : (a b c : Decoder) (line : ReadyLine) → GoesOn a b → Takes b c line → Takes a c line
+takes_behind a b c line one two =
+    record { some = λ rest. one.same rest ∙ two.some rest; right = two.right; kept = kept_on _ _ _ one.kept two.kept; noted = notes_trans a b c one.noted two.noted }
+
+-- whether a line was taken or not
+pub none_behind : (a b c : Decoder) (o : Option ReadyLine) → GoesOn a b → IfNone o (GoesOn b c) → IfNone o ((rest : List ℕ) → still a rest ≡ still c rest)
+none_behind a b c None one two = (goes_trans a b c one two).same
+none_behind a b c (Some line) one two = tt
+
+pub some_behind : (a b c : Decoder) (o : Option ReadyLine) → GoesOn a b → IfSome o (Takes b c) → IfSome o (λ line. (rest : List ℕ) → still a rest ≡ line_text (names_in c.state) line ++ still c rest)
+some_behind a b c None one two = tt
+some_behind a b c (Some line) one two = (takes_behind a b c line one two).some
+
+pub noted_behind : (a b c : Decoder) (o : Option ReadyLine) → GoesOn a b → IfNone o (GoesOn b c) → IfSome o (Takes b c) → NotesOn a c
+noted_behind a b c None one two more = notes_trans a b c one.noted two.noted
+noted_behind a b c (Some line) one two more = notes_trans a b c one.noted more.noted
+
+pub found_words : (o : Option ReadyLine) (P : Type 0) → o ≡ None → IfNone o P → P
+found_words None P is p = p
+found_words (Some line) P is p = absurd (cc is)

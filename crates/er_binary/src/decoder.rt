@@ -19,14 +19,14 @@ use std::alloc::{AllocError, Global};
 use std::io;
 use std::io::{ErrorKind, Read};
 
-/// A place in a block: the block's number, the byte at which it begins, the byte of the next record, and how many records were found, all modulo
-/// 2^64. The block is to have `count` records and the checksum `sum`.
+/// A place in a block: how many records were found, the block's number, the byte at which it begins, and the byte of the next record, all modulo
+/// 2^64. The block is to have `count` records and the checksum `sum`. What each record counts on stands apart: side by side it would go by vectors.
 #[derive(Clone, Copy)]
 pub(crate) struct Spot {
+    pub(crate) found: u64,
     pub(crate) block: u64,
     pub(crate) start: u64,
     pub(crate) at: u64,
-    pub(crate) found: u64,
     pub(crate) count: u32,
     pub(crate) sum: u64,
 }
@@ -83,7 +83,7 @@ pub(crate) struct Decoder {
 }
 
 impl Decoder {
-    ghost use Rattle.er_binary.specs.Inner.Decoders.{HasGiven, IsGiven, NotesOn, left, still, to_note};
+    ghost use Rattle.er_binary.specs.Inner.Decoders.{GoesOn, HasGiven, IsGiven, NotesOn, Takes, left, still, to_note};
     ghost use Rattle.er_lines.specs.Touches.{StaysKnown};
     ghost use Rattle.er_binary.specs.Meaning.{text_behind, touches_behind};
     ghost use Rattle.er_binary.specs.declared.decoder.Phase.TheVariants as phase;
@@ -162,6 +162,7 @@ impl Decoder {
     }
 
     /// Takes the next line, if it is an access or a lock event of a block that was read. It reads nothing on. A refused allocation comes at the next `read`.
+    #[inline(always)]
     pub(crate) fn take(&mut self) -> Option<ReadyLine>
         ensures none { IfNone result ((rest : List ℕ) → still self.old rest ≡ still self.new rest) }
         ensures some { IfSome result (λ line. (rest : List ℕ) → still self.old rest ≡ line_text (names_in self.new.state) line ++ still self.new rest) }
@@ -170,12 +171,35 @@ impl Decoder {
         ensures noted { NotesOn self.old self.new }
     {
         self.is_taken = true;
+        if self.words.end <= self.words.at / 4
+            && let Some(line) = self.find_words()?
+        {
+            return Some(line);
+        }
+        self.take_word()
+    }
+
+    // Takes the line of the next word that is still to come.
+    #[inline(always)]
+    fn take_word(&mut self) -> Option<ReadyLine>
+        requires some { self.old.words.at / 4 < self.old.words.end }
+        ensures none { IfNone result (GoesOn self.old self.new) }
+        ensures takes { IfSome result (Takes self.old self.new) }
+    {
+        let line = self.state.line_of(&self.words)?;
+        self.words.at = self.words.at / 4 * 4 + 4;
+        Some(line)
+    }
+
+    // Goes on to the words of the next access, or takes the line of a lock event, and gives that. None: neither comes next.
+    #[inline(always)]
+    fn find_words(&mut self) -> Option<Option<ReadyLine>>
+        requires taken { AreTaken self.old.words }
+        ensures none { IfNone result (GoesOn self.old self.new) }
+        ensures words { IfSome result (λ found. IfNone found (GoesOn self.old self.new × (self.new.words.at / 4 < self.new.words.end))) }
+        ensures takes { IfSome result (λ found. IfSome found (Takes self.old self.new)) }
+    {
         for _ in 0..8u8 {
-            if self.words.at / 4 < self.words.end {
-                let line = self.state.line_of(&self.words)?;
-                self.words.at = self.words.at / 4 * 4 + 4;
-                return Some(line);
-            }
             if self.given < self.text.len() || self.phase != Phase::Record {
                 return None;
             }
@@ -184,13 +208,15 @@ impl Decoder {
             match head.says {
                 Record::Access(access) => {
                     let words = self.state.words_of(access)?;
-                    if !self.notes.note(&self.state, head.says) {
+                    let is_on = self.notes.is_on;
+                    if is_on && !self.notes.note(Said::access(words.at, access.size)) {
                         return None;
                     }
                     self.state.pass(&words);
                     self.words = words;
                     self.next += head.len;
                     self.spot.pass(head.len);
+                    return Some(None);
                 }
                 Record::Other(kind, number) => {
                     if let Some(line) = self.state.lock_line(kind, number) {
@@ -198,18 +224,29 @@ impl Decoder {
                         self.state.events = self.state.events.wrapping_add(1);
                         self.next += head.len;
                         self.spot.pass(head.len);
-                        return Some(line);
+                        return Some(Some(line));
                     }
                     if self.state.goes_to(kind, number) {
                         self.next += head.len;
                         self.spot.pass(head.len);
-                    } else {
-                        self.next_record(&mut ()).ok()?;
+                    } else if !self.makes_next() {
+                        return None;
                     }
                 }
             }
         }
         None
+    }
+
+    // Makes the text of the next record, and says whether it could. A function of its own, since what it has on its stack is cleared at each call.
+    #[inline(never)]
+    fn makes_next(&mut self) -> bool
+        requires phase { self.old.phase ≡ phase.Record }
+        requires given { IsGiven self.old }
+        ensures goes { GoesOn self.old self.new }
+        ensures words { self.new.words ≡ self.old.words }
+    {
+        self.next_record(&mut ()).is_ok()
     }
 
     // Gives the text of the block, as far as the buffer has room.

@@ -74,6 +74,8 @@ static OPERANDS: [usize; 4] = [1, 2, 4, 8];
 
 static DISTANCES: [usize; 4] = [1, 2, 4, 6];
 
+static SIZES: [u64; 3] = [1, 4, 8];
+
 static NODES: [usize; 4] = [0, 1, 2, 4];
 
 static SPANS: [u64; 4] = [1 << 8, 1 << 16, 1 << 32, 1 << 48];
@@ -126,11 +128,10 @@ fn access_at(tag: u8, bytes: &[u8]) -> Option<Head>
 fn size_of(bits: u8, byte: u8) -> u64
     ensures { result ≡ size_of bits byte }
 {
-    match bits {
-        0 => 1,
-        1 => 4,
-        2 => 8,
-        _ => u64::from(byte),
+    if bits > 2 {
+        u64::from(byte)
+    } else {
+        SIZES[bits as usize]
     }
 }
 

@@ -1,6 +1,7 @@
 //! Which bytes of their words accesses touch, by the lines of the text.
-ghost use Rattle.std.specs.Prelude.{◌≡◌, ◌∷◌, ◌+◌, ◌<◌, ◌≤◌, ◌^◌, ◌++◌, [], IfOk, OnOk, OnErr, true, false, cond, vec_capacity, vec_len};
+ghost use Rattle.std.specs.Prelude.{◌≡◌, ◌∷◌, ℕ, ◌+◌, ◌<◌, ◌≤◌, ◌^◌, ◌++◌, [], IfOk, OnOk, OnErr, true, false, cond, vec_capacity, vec_len};
 ghost use Rattle.er_binary.specs.Inner.Taking.{IsSized};
+ghost use Rattle.er_binary.specs.Texts.{words_of};
 ghost use Rattle.er_binary.specs.Touches.{is_whole, lines_alone, lines_of, passed_by, said_by, touch_at, touches_said};
 
 use crate::records::{Kind, Record};
@@ -18,6 +19,31 @@ pub(crate) struct Said {
 }
 
 impl Said {
+    /// An access of so many bytes.
+    #[inline(always)]
+    pub(crate) fn access(address: u64, size: u64) -> Said
+        requires size { (1 ≤ size) × (size ≤ 16) }
+        requires below { address < 2 ^ 48 }
+        ensures said { result ≡ record { address = address; size = size; words = words_of address size; lines = words_of address size } }
+        ensures few { result.words ≤ 5 }
+    {
+        let words = (address + size - 1) / 4 + 1 - address / 4;
+        Said {
+            address,
+            size,
+            words,
+            lines: words,
+        }
+    }
+
+    // Whether all of its words are touched whole.
+    fn is_whole(self) -> bool
+        requires few { self.words ≤ 5 }
+        ensures { result ≡ true → (line : ℕ) → touches_said line self ≡ [] }
+    {
+        self.address % 4 == 0 && self.size == 4 * self.words
+    }
+
     /// So many lines, and no access.
     pub(crate) fn lines(lines: u64) -> Said
         ensures { result ≡ lines_alone lines }
@@ -45,6 +71,8 @@ pub(crate) struct Notes {
 }
 
 impl Notes {
+    ghost use Rattle.er_binary.specs.Inner.Decoders.{HasNoted};
+
     /// Before the line behind the header.
     pub(crate) fn new(alloc: Global, is_on: bool) -> Notes
         ensures on { result.is_on ≡ is_on }
@@ -123,24 +151,34 @@ impl Notes {
         Ok(self.line)
     }
 
-    /// Goes on behind the lines of a record that comes next, and notes what they touch, if that is asked for. Without room nothing is noted.
-    #[inline(always)]
-    pub(crate) fn note(&mut self, state: &State, says: Record) -> bool
-        requires { IsSized says }
-        ensures on { self.new.is_on ≡ self.old.is_on }
-        ensures touches { result ≡ true → self.old.is_on ≡ true → self.new.touches.items ≡ self.old.touches.items ++ touches_said self.old.line (said_by state.now says) }
-        ensures line { result ≡ true → self.old.is_on ≡ true → self.new.line ≡ passed_by self.old.line (said_by state.now says).lines }
-        ensures refused { result ≡ false → (self.new.touches.items ≡ self.old.touches.items) × (self.new.line ≡ self.old.line) }
+    /// Goes on behind the lines of a record, and notes what they touch, if that is asked for. Without room nothing is noted.
+    #[inline(never)]
+    pub(crate) fn note(&mut self, said: Said) -> bool
+        requires few { said.words ≤ 5 }
+        requires below { said.address + said.size < 2 ^ 63 }
+        ensures { HasNoted self.old self.new said result }
     {
-        if !self.is_on {
+        if said.is_whole() {
+            self.pass_lines(said.lines);
             return true;
         }
-        let said = state.said_by(says);
-        let Ok(()) = self.make_room() else {
-            return false;
-        };
-        self.follow(said);
-        true
+        self.note_parts(said)
+    }
+
+    // The same of an access that touches parts of words. A function of its own, so that the other one is short.
+    #[inline(never)]
+    fn note_parts(&mut self, said: Said) -> bool
+        requires few { said.words ≤ 5 }
+        requires below { said.address + said.size < 2 ^ 63 }
+        ensures { HasNoted self.old self.new said result }
+    {
+        match self.make_room() {
+            Ok(()) => {
+                self.follow(said);
+                true
+            }
+            Err(_) => false,
+        }
     }
 
     /// Goes on behind so many lines of no access, if they are counted.
@@ -185,16 +223,7 @@ impl State {
         ensures below { result.address + result.size < 2 ^ 63 }
     {
         match says {
-            Record::Access(access) => {
-                let address = self.address_of(access);
-                let words = (address + access.size - 1) / 4 + 1 - address / 4;
-                Said {
-                    address,
-                    size: access.size,
-                    words,
-                    lines: words,
-                }
-            }
+            Record::Access(access) => { Said::access(self.address_of(access), access.size) }
             Record::Other(kind, _) => Said::lines(kind.lines()),
         }
     }

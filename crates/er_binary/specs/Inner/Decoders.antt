@@ -1,5 +1,5 @@
 -- What a decoder still gives, and what is still to be noted of it.
-use Rattle.std.specs.Prelude.{◌≡◌, ℕ, ◌+◌, ◌-◌, ◌≤◌, true, List, ◌++◌, drop, take, length, vec_items, vec_len}
+use Rattle.std.specs.Prelude.{◌≡◌, ℕ, ◌+◌, ◌-◌, ◌≤◌, Bool, true, false, List, ◌++◌, drop, take, length, vec_items, vec_len}
 use Rattle.er_binary.specs.Numbers.{plus}
 use Rattle.er_binary.specs.Inner.Words.{AreTaken, words_text}
 use Rattle.er_binary.specs.Meaning.{Making, as_text, as_touches, blocks, content, records}
@@ -8,6 +8,12 @@ use Rattle.er_binary.specs.declared.decoder.Decoder.{Decoder}
 use Rattle.er_binary.specs.declared.decoder.Phase.{Phase}
 use Rattle.er_binary.specs.declared.decoder.Phase.TheVariants as phase
 use Rattle.er_binary.specs.declared.state.State.{State}
+use Rattle.er_binary.specs.declared.touches.Notes.{Notes}
+use Rattle.er_binary.specs.declared.touches.Said.{Said}
+use Rattle.er_binary.specs.Touches.{passed_by, touches_said}
+use Rattle.er_binary.specs.States.{names_in}
+use Rattle.er_lines.specs.Ready.{IsRight, KeepsNames, line_text}
+use Rattle.er_lines.specs.declared.ready.ReadyLine.{ReadyLine}
 use Rattle.er_lines.specs.declared.ready.Touch.{Touch}
 
 -- all blocks that are left
@@ -47,6 +53,19 @@ pub record NotesOn (old new : Decoder) : Type 0 where
   pub on : new.notes.is_on ≡ old.notes.is_on
   pub same : old.notes.is_on ≡ true → (rest : List ℕ) → to_note old rest ≡ to_note new rest
 
+-- no text was given, a number that had a name has it still, and what is noted and to be noted stays the same
+pub record GoesOn (old new : Decoder) : Type 0 where
+  pub same : (rest : List ℕ) → still old rest ≡ still new rest
+  pub kept : KeepsNames (names_in old.state) (names_in new.state)
+  pub noted : NotesOn old new
+
+-- the text of a line was given
+pub record Takes (old new : Decoder) (line : ReadyLine) : Type 0 where
+  pub some : (rest : List ℕ) → still old rest ≡ line_text (names_in new.state) line ++ still new rest
+  pub right : IsRight (names_in new.state) line
+  pub kept : KeepsNames (names_in old.state) (names_in new.state)
+  pub noted : NotesOn old new
+
 -- the text that was made is given
 abbrev pub HasGiven : Decoder → Type 0
 HasGiven d = vec_len d.text ≤ d.given
@@ -59,3 +78,10 @@ IsGiven d = HasGiven d × AreTaken d.words
 abbrev pub left : Phase → Decoder → ℕ
 left phase.Record d = vec_len d.bytes - d.next + 1
 left p d = 0
+
+-- what a record says of its lines is noted, if that is asked for. If there is no room, nothing is
+pub record HasNoted (old new : Notes) (said : Said) (result : Bool) : Type 0 where
+  pub on : new.is_on ≡ old.is_on
+  pub touches : result ≡ true → old.is_on ≡ true → vec_items new.touches ≡ vec_items old.touches ++ touches_said old.line said
+  pub line : result ≡ true → old.is_on ≡ true → new.line ≡ passed_by old.line said.lines
+  pub refused : result ≡ false → (vec_items new.touches ≡ vec_items old.touches) × (new.line ≡ old.line)

@@ -1,0 +1,10 @@
+-- What is still to be given stays the same until words or a line are found.
+use Rattle.er_binary.specs.Inner.Decoders.{GoesOn}
+use Rattle.er_binary.specs.Inner.Words.{AreTaken}
+use Rattle.er_binary.proofs.decoder.Decoder.find_words.Given as goal
+
+abbrev pub invariant-loop : goal.invariant-loop
+invariant-loop l = record {
+  goes : GoesOn l.fn.self l.self;
+  taken : AreTaken l.self.words;
+}
