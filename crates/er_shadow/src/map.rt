@@ -63,7 +63,7 @@ impl<'t> Words<Shared<'t>> {
     ghost use Rattle.er_shadow.specs.Shadows.{states};
 
     /// How many words `look_ahead` reads at most.
-    pub const AHEAD: usize = 16;
+    pub const AHEAD: usize = 64;
 
     /// A map whose words are all virgin. Its sets of locks go into the table. Whoever chooses the pages that are accessed can make it slow: see
     /// [`keyed`](ShadowMap::keyed).
@@ -229,24 +229,27 @@ impl<S: Store> Words<S> {
     }
 
     /// Reads what stands for the words that these steps access, the first [`AHEAD`](ShadowMap::AHEAD) at most. Nothing waits for what is read, so words of several
-    /// pages come from memory side by side, and are at hand at their accesses. All pages are found first: so no look for a page keeps a word
-    /// waiting.
+    /// pages come from memory side by side, and are at hand at their accesses. All accesses are found first, without a branch: a wrong guess of which steps
+    /// these are would keep the words waiting.
     #[inline(never)]
     pub fn look_ahead(&mut self, steps: &[Step])
         ensures { self.new ≡ self.old }
     {
-        let mut places = [0; ShadowMap::AHEAD];
+        let mut words = [Word::new(0); ShadowMap::AHEAD];
+        let mut count = 0;
         for i in 0..steps.len().min(ShadowMap::AHEAD) {
-            if let Event::Access(_, word, _) = steps[i].event {
-                places[i] = self.find_page(word);
-            }
+            let (word, more) = match steps[i].event {
+                Event::Access(_, word, _) => (word, 1),
+                _ => (Word::new(0), 0),
+            };
+            words[count] = word;
+            count += more;
         }
         let mut bits = 0;
-        for (place, step) in places.iter().zip(steps) {
-            if let Event::Access(_, word, _) = step.event
-                && let Some((_, page)) = self.pages.as_slice().get_index(*place)
-            {
-                bits ^= page.get(place_of(word)).bits();
+        for k in 0..count {
+            let place = self.find_page(words[k]);
+            if let Some((_, page)) = self.pages.as_slice().get_index(place) {
+                bits ^= page.get(place_of(words[k])).bits();
             }
         }
         self.ahead ^= bits;
