@@ -228,9 +228,8 @@ impl<S: Store> Words<S> {
         })
     }
 
-    /// Reads what stands for the words that these steps access, the first [`AHEAD`](ShadowMap::AHEAD) at most. Nothing waits for what is read, so words of several
-    /// pages come from memory side by side, and are at hand at their accesses. All accesses are found first, without a branch: a wrong guess of which steps
-    /// these are would keep the words waiting.
+    /// Reads what stands for the words that these steps access, the first [`AHEAD`](ShadowMap::AHEAD) at most. Nothing waits for what is read, so the words
+    /// come from memory side by side, and are at hand at their accesses. Accesses are found without a branch: a wrong guess would keep words waiting.
     #[inline(never)]
     pub fn look_ahead(&mut self, steps: &[Step])
         ensures { self.new ≡ self.old }
