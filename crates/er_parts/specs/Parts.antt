@@ -7,7 +7,7 @@ use Rattle.er_event.specs.declared.steps.Event.TheVariants.{Access, Reuse, Show}
 use Rattle.er_event.specs.declared.steps.Step.{Step}
 use Rattle.er_trace.specs.Trace.{Recording}
 
--- which part it is, counted from 1, and of how many; and the rests of the pages that it wants, if it doesn't want all
+-- which part it is, counted from 1, and of how many; and the remainders of the pages that it wants, if it doesn't want all
 pub record PartView : Type 0 where
   pub index : ℕ
   pub count : ℕ
@@ -20,7 +20,7 @@ part_at n i = record { index = i; count = n; wanted = None }
 -- the page is wanted
 abbrev pub is_wanted : Option (List Bool) → ℕ → Bool
 is_wanted None page = true
-is_wanted (Some rests) page = slice_index_or rests (page % 4096) false
+is_wanted (Some remainders) page = slice_index_or remainders (page % 4096) false
 
 -- the page is one of the part's
 abbrev pub has_page : PartView → ℕ → Bool

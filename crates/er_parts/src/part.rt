@@ -5,16 +5,16 @@ ghost use Rattle.er_parts.specs.Parts.{has_page, is_of_page, is_wanted, kept_bes
 use er_event::{Event, Site, Step};
 use std::marker::Model;
 
-// Over how many the rests of pages are that a part may want.
-const RESTS: usize = 4096;
+// A part may want pages by the remainder of their number by this one.
+const REMAINDERS: usize = 4096;
 
 /// One of so many parts of a trace, counted from 1. Pages are dealt out to the parts in turn. Or the only part, which has some pages alone.
 #[derive(Clone, Copy, Debug, PartialEq, Eq)]
 pub struct Part {
     index: u64,
     count: u64,
-    // Which pages are wanted, by their rests, if not all are.
-    wanted: Option<[bool; RESTS]>,
+    // Which pages are wanted, by their remainders, if not all are.
+    wanted: Option<[bool; REMAINDERS]>,
 }
 
 impl Model for Part {
@@ -54,14 +54,14 @@ impl Part {
         ensures first { result.index ≡ 1 }
         ensures pages { All (λ page. has_page result page ≡ true) pages.now }
     {
-        let mut rests = [false; RESTS];
+        let mut remainders = [false; REMAINDERS];
         for page in pages {
-            rests[(*page % 4096) as usize] = true;
+            remainders[(*page % 4096) as usize] = true;
         }
         Part {
             index: 1,
             count: 1,
-            wanted: Some(rests),
+            wanted: Some(remainders),
         }
     }
 
@@ -136,7 +136,7 @@ impl Part {
         ensures { result ≡ is_wanted self.now.wanted page }
     {
         match &self.wanted {
-            Some(rests) => rests[(page % 4096) as usize],
+            Some(remainders) => remainders[(page % 4096) as usize],
             None => true,
         }
     }

@@ -1,7 +1,7 @@
 //! Happens-before: a machine that answers a list of steps, and an analyst that gives the report of a trace's unordered accesses and reuses.
 //!
 //! Begin with [`OrderAnalyst`]. `er_batch::analyse` has it answer the batches of a text, alone or beside the lockset rule (`er_run` does
-//! both). By happens-before, a race is an access that conflicts with an earlier access of the same word and is not ordered after it. Behind the
+//! both). By happens-before, a race is an access that conflicts with an earlier access, has a byte in common with it and is not ordered after it. Behind the
 //! analyst is [`OrderMachine`]: it has each thread's holdings, the clocks, and what is kept of each word, and `step` answers one more step.
 //!
 //! What they promise, by the names of clauses: a machine that stands for a list of steps answers the next step as the definitions answer it at
