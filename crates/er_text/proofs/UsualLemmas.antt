@@ -1,8 +1,9 @@
 -- What a line in its usual form adds: of an operation, of a line, and of a line behind the header.
-use Rattle.std.proofs.Common.{◌≡◌, ℕ, ◌+◌, ◌-◌, ◌<◌, ◌≤◌, Bool, true, false, List, [], ◌∷◌, ◌++◌, length, take, drop, Option, Some, None, nat_le, codes, Result, Ok, Err, refl, sym, ap, subst, ◌∙◌, append_assoc, length-append, arith}
+use Rattle.std.proofs.Common.{◌≡◌, ℕ, ◌+◌, ◌-◌, ◌<◌, ◌≤◌, Bool, true, false, List, [], ◌∷◌, ◌++◌, length, take, drop, Option, Some, None, not, ◌&&◌, nat_le, codes, Result, Ok, Err, refl, sym, ap, subst, ◌∙◌, append_assoc, length-append, arith}
 use Rattle.std.specs.List.{list_all}
 use Rattle.std.specs.Str.{bytes_eq}
 use Rattle.std.proofs.Math.Seq.{drop-append_seam}
+use Rattle.std.proofs.lemmas.Bool.{and_parts}
 use Rattle.std.proofs.lemmas.Bool.Decides.{nat_tests}
 use Rattle.er_event.specs.declared.steps.Kind.{Kind}
 use Rattle.er_event.specs.declared.steps.Event.TheVariants.{Access}
@@ -12,7 +13,7 @@ use Rattle.er_trace.specs.Trace.{Recording, with_step, with_thread_name, with_lo
 use Rattle.er_text.specs.declared.verbs.Version.{Version}
 use Rattle.er_text.specs.declared.stages.Stage.{Stage}
 use Rattle.er_text.specs.declared.stages.Stage.TheVariants.{Events}
-use Rattle.er_trace.specs.Names.{is_known, number_of, with_name, IsPlain}
+use Rattle.er_trace.specs.Names.{is_known, number_of, with_name, is_plain_byte, is_plain_name, IsPlain}
 use Rattle.er_text.specs.Events.{Operation, Accesses, EventLine, site_number, with_site_of, with_operation, with_line}
 use Rattle.er_text.specs.Inner.Idle.{last_actor, without_idle}
 use Rattle.er_text.specs.Inner.Traces.{at_line, plain_at}
@@ -99,6 +100,21 @@ site_at_end v r whole rest word site ends behind some found other =
     let named = name_word v word (plain_name r.names.sites word (site - 1) plain) in
     let is = plain.is in
     (Some word, Named word behind (named, rw other refl), omega (arith, is, some), sym (site_kept r word plain.known))
+
+some_plain : (word : List ℕ) → is_plain_name word ≡ true → is_name word ≡ true
+some_plain [] plain = absurd (cc)
+some_plain (byte ∷ bytes) plain =
+    let name = byte ∷ bytes in
+    let p = and_parts (not (nat_le (length name) 0) && nat_le (length name) 128) (list_all is_plain_byte name) plain in
+    let few = (and_parts (not (nat_le (length name) 0)) (nat_le (length name) 128) p.0).1 in
+    let all : list_all is_name_byte name ≡ true = p.1 in
+    rw (few, all) refl
+
+-- the same of a name among plain ones
+pub site_again : (v : Version) (r : Recording) (rest word : List ℕ) (site : ℕ) → rest ≡ 32 ∷ word → site ≡ number_of r.names.sites word + 1 → is_known r.names.sites word ≡ true
+    → is_plain_name word ≡ true → bytes_eq word (codes "-") ≡ false → (s : Option (List ℕ)) × IsSiteBehind v rest s × (site ≡ site_number r s) × (r ≡ with_site_of r s)
+site_again v r rest word site behind is known plain other =
+    (Some word, Named word behind (name_word v word (some_plain word plain), rw other refl), is, sym (site_kept r word known))
 
 site_below : (r : Recording) (s : Option (List ℕ)) → site_number r s ≤ length (with_site_of r s).names.sites
 site_below r None = omega arith

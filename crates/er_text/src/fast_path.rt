@@ -190,6 +190,9 @@ fn site_behind(
     if let Some(site) = trace.names().last_site(whole, word.len()) {
         return Ok(Some(site));
     }
+    if let Some(site) = trace.names().plain_site(word) {
+        return Ok(Some(site));
+    }
     if !is_site_word(version, word) {
         return Ok(None);
     }

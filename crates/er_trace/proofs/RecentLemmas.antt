@@ -1,17 +1,18 @@
 -- Names in slots keep their numbers while names are added.
 use Rattle.std.specs.List.{list_all}
-use Rattle.std.proofs.Common.{◌≡◌, ℕ, ◌<◌, ◌≤◌, true, List, Option, Some, None, IfSome, Result, Ok, Err, OnOk, OnErr, sym, ◌∙◌, subst, arith}
+use Rattle.std.proofs.Common.{◌≡◌, ℕ, ◌<◌, ◌≤◌, Bool, true, false, List, [], get_or, refl, ap, true≢false, Option, Some, None, IfSome, Result, Ok, Err, OnOk, OnErr, sym, ◌∙◌, subst, arith}
 use Rattle.std.specs.declared.alloc.AllocError.{AllocError}
 use Rattle.std.proofs.lemmas.List.Elements.{All-weaker}
+use Rattle.std.proofs.lemmas.List.Folds.{list_all_at}
 use Rattle.er_trace.specs.declared.recent.Leading.{Leading}
 use Rattle.er_trace.specs.declared.recent.ShortName.{ShortName}
 use Rattle.er_trace.specs.declared.recent.Slot.{Slot}
 use Rattle.er_trace.specs.declared.recent.RecentNames.{RecentNames}
-use Rattle.er_trace.specs.Names.{number_of, with_name, most_names, is_plain_byte, IsPlain}
+use Rattle.er_trace.specs.Names.{number_of, with_name, most_names, is_plain_byte, is_plain_name, is_known, IsPlain}
 use Rattle.er_trace.specs.Inner.Recent.{bytes_of, Knows, IsRight, AreRight, LeadsRight}
 use Rattle.er_trace.proofs.DigitLemmas.{bytes_size}
 use Rattle.er_trace.proofs.LeadingLemmas.{still_leads}
-use Rattle.er_trace.proofs.NumberLemmas.{given, again, still, kept}
+use Rattle.er_trace.proofs.NumberLemmas.{given, again, still, kept, named, within}
 
 still_knows : (names : List (List ℕ)) (later name : List ℕ) (number : ℕ) → Knows names name number → Knows (with_name names later) name number
 still_knows names later name number knows =
@@ -53,3 +54,14 @@ plain_found names name (Some number) some right =
 pub small_found : (names : List (List ℕ)) (name : ShortName) (found : Option ℕ) → IfSome found (λ number. IsRight names (bytes_of name) number) → IfSome found (λ number. number < most_names)
 small_found names name None right = tt
 small_found names name (Some number) right = right.knows.small
+
+-- a name among plain ones is plain
+plain_among : (names : List (List ℕ)) (name : List ℕ) (b : Bool) → is_plain_name name ≡ b → is_known names name ≡ true → list_all is_plain_name names ≡ true → b ≡ true
+plain_among names name true is known all = refl
+plain_among names name false is known all =
+    let below = within names name known in
+    let at : is_plain_name (get_or names (number_of names name) []) ≡ false = ap is_plain_name (sym (named names name below)) ∙ is in
+    absurd (true≢false (sym all ∙ list_all_at is_plain_name names (number_of names name) [] below at))
+
+pub plain_known : (names : List (List ℕ)) (name : List ℕ) (number : ℕ) → Knows names name number → list_all is_plain_name names ≡ true → is_plain_name name ≡ true
+plain_known names name number knows all = plain_among names name (is_plain_name name) refl knows.known all

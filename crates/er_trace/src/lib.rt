@@ -17,6 +17,7 @@ pub use names::{Names, equal_names_alone_share_a_number};
 pub use trace::Trace;
 
 mod appending;
+mod list;
 mod names;
 mod recent;
 mod trace;

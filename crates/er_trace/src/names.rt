@@ -3,99 +3,16 @@ ghost use Rattle.std.specs.Prelude.{◌≡◌, ◌+◌, ◌-◌, ◌<◌, ◌≤
 ghost use Rattle.er_trace.specs.Appended.{AreNumbers, HasAll, with_names, with_table};
 ghost use Rattle.er_trace.specs.Inner.Recent.{Knows, IsLed, bytes_of};
 ghost use Rattle.er_trace.specs.Inner.Renumbering.{HasMore};
-ghost use Rattle.er_trace.specs.Names.{is_known, number_of, with_name, no_names, most_names, IsPlain};
+ghost use Rattle.er_trace.specs.Names.{is_known, number_of, with_name, no_names, most_names, is_plain_name, IsPlain};
 
 use crate::NameKeys;
 use crate::appending::{NewNumbers, NewTable};
+use crate::list::NameList;
 use crate::recent::{Leading, RecentNames, ShortName, are_plain, ending_of};
 use er_event::{LockId, Site, ThreadId};
-use er_keys::{Hints, KeyedHasher};
-use indexmap::IndexSet;
+use er_keys::Hints;
 use std::alloc::{AllocError, Global};
 use std::marker::Model;
-
-/// Names of one sort, in the order of their first appearance.
-#[derive(Drop)]
-struct NameList {
-    names: IndexSet<String, KeyedHasher>,
-}
-
-impl Model for NameList {
-    ghost use Rattle.std.specs.Prelude.{ℕ, ◌≤◌, List, length, map};
-    ghost use Rattle.std.specs.String.{string_bytes};
-    ghost use Rattle.er_trace.specs.Names.{most_names};
-
-    ghost Value = { List (List ℕ) };
-
-    ghost view = { λ n. map string_bytes n.names.keys };
-
-    ghost invariant = { λ n. length (map string_bytes n.names.keys) ≤ most_names };
-}
-
-impl NameList {
-    /// How many names can have numbers.
-    const MOST: usize = 1 << 30;
-
-    fn new(alloc: Global, keys: NameKeys) -> Self
-        ensures { result ≡ [] }
-    {
-        NameList {
-            names: IndexSet::with_hasher(alloc, KeyedHasher::new(keys)),
-        }
-    }
-
-    /// The place of a name, which is a new one if the name is new.
-    fn number(&mut self, name: &str) -> Result<usize, AllocError>
-        ensures number { IfOk result (λ n. n ≡ number_of self.old name.now) }
-        ensures ok { OnOk result (self.new ≡ with_name self.old name.now) }
-        ensures err { OnErr result (self.new ≡ self.old) }
-        ensures known { IsTrue (is_known self.old name.now) → IsOk result }
-        ensures within { IfOk result (λ n. n < most_names) }
-        ensures full { most_names ≤ length self.old → is_known self.old name.now ≡ false → IsErr result }
-    {
-        if let Some(number) = self.names.get_index_of(name) {
-            return Ok(number);
-        }
-        if self.names.len() >= NameList::MOST {
-            return Err(AllocError);
-        }
-        let name = String::from_str(*self.names.allocator(), name)?;
-        let (number, _) = self.names.insert_full(name)?;
-        Ok(number)
-    }
-
-    /// Whether the name of this number is this one.
-    fn is_at(&self, number: usize, name: &str) -> bool
-        ensures { IsTrue result → Knows self.now name.now number }
-    {
-        match self.names.as_slice().get(number) {
-            Some(found) => found.as_str() == name,
-            None => false,
-        }
-    }
-
-    fn len(&self) -> usize
-        ensures { result ≡ length self.now }
-    {
-        self.names.len()
-    }
-
-    fn name(&self, number: usize) -> &str
-        requires { number < length self.now }
-        ensures { slice_get self.now number ≡ Some result.now }
-    {
-        self.names[number].as_str()
-    }
-
-    /// The place of a name that has appeared.
-    fn find(&self, name: &str) -> Option<usize>
-        ensures some { IfSome result (λ n. (n ≡ number_of self.now name.now) × (is_known self.now name.now ≡ true)) }
-        ensures none { IfNone result (is_known self.now name.now ≡ false) }
-        ensures within { IfSome result (λ n. n < most_names) }
-    {
-        self.names.get_index_of(name)
-    }
-}
 
 /// Names of one sort, of which one that appeared lately is found without a hash.
 #[derive(Drop)]
@@ -152,9 +69,9 @@ impl CachedNames {
                 return Ok(number);
             }
         }
-        let ending = ending_of(name);
+        let ending = ending_of(name.as_bytes());
         let hint = self.hints.hint(ending);
-        if self.list.is_at(hint, name) {
+        if self.list.is_at(hint, name.as_bytes()) {
             return Ok(hint);
         }
         let number = self.list.number(name)?;
@@ -170,6 +87,18 @@ impl CachedNames {
         ensures within { IfSome result (λ number. number < most_names) }
     {
         self.recent.find(name)
+    }
+
+    /// The number of a name that was found lately by its last bytes, if all names are plain.
+    #[inline(always)]
+    fn plain_again(&self, name: &[u8]) -> Option<u32>
+        ensures { IfSome result (λ number. Knows self.now name.now number × (is_plain_name name.now ≡ true)) }
+    {
+        let hint = self.hints.hint(ending_of(name));
+        if !self.list.is_plain_at(hint, name) {
+            return None;
+        }
+        Some(hint as u32)
     }
 
     /// The number of the name in front of a space, and how many bytes it has, if it is short, recent and plain.
@@ -199,8 +128,8 @@ impl CachedNames {
         {
             return Some(number as usize);
         }
-        let hint = self.hints.hint(ending_of(name));
-        if self.list.is_at(hint, name) {
+        let hint = self.hints.hint(ending_of(name.as_bytes()));
+        if self.list.is_at(hint, name.as_bytes()) {
             return Some(hint);
         }
         self.list.find(name)
@@ -227,7 +156,7 @@ impl CachedNames {
         ensures numbers { IfOk result (λ numbers. numbers ≡ map (number_of self.new) others.now) }
         ensures more { length self.old ≤ length self.new }
     {
-        let mut numbers = NewNumbers::new(*self.list.names.allocator());
+        let mut numbers = NewNumbers::new(*self.list.allocator());
         for at in 0..others.list.len() {
             let number = self.number(others.list.name(at))?;
             numbers.push(number)?;
@@ -338,6 +267,17 @@ impl Names {
         ensures plain { IfSome result (λ site. IsPlain self.now.sites (drop (length bytes.now - len) bytes.now) (site - 1)) }
     {
         let number = self.sites.plain(ShortName::at_end(bytes, len)?)?;
+        Some(Site::new(number + 1))
+    }
+
+    /// The site of this name, if it was found lately and all names of sites are plain.
+    #[inline(always)]
+    pub fn plain_site(&self, name: &[u8]) -> Option<Site>
+        ensures number { IfSome result (λ site. site ≡ number_of self.now.sites name.now + 1) }
+        ensures known { IfSome result (λ site. is_known self.now.sites name.now ≡ true) }
+        ensures plain { IfSome result (λ site. is_plain_name name.now ≡ true) }
+    {
+        let number = self.sites.plain_again(name)?;
         Some(Site::new(number + 1))
     }
 

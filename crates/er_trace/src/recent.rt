@@ -1,7 +1,7 @@
 //! Short names of plain bytes that appeared lately: they are compared as numbers, and found without a hash.
 ghost use Rattle.std.specs.Prelude.{◌≡◌, ◌<◌, ◌≤◌, ◌+◌, ◌-◌, ◌++◌, ◌∷◌, ℕ, List, drop, length, IfSome};
 ghost use Rattle.std.specs.List.{list_all};
-ghost use Rattle.er_trace.specs.Names.{number_of, is_plain_byte};
+ghost use Rattle.er_trace.specs.Names.{number_of, is_plain_byte, is_plain_name};
 ghost use Rattle.er_trace.specs.Inner.Recent.{unpacked, bytes_of, IsRight, AreRight, IsLed, LeadsRight};
 
 use std::alloc::Global;
@@ -41,9 +41,15 @@ pub(crate) fn are_plain(bytes: &[u8]) -> bool
     bytes.iter().all(|byte| matches!(*byte, b'a'..=b'z' | b'A'..=b'Z' | b'-'..=b':' | b'_'))
 }
 
+/// Whether these are 1 to 128 such bytes.
+pub(crate) fn is_plain_name(name: &[u8]) -> bool
+    ensures { result ≡ is_plain_name name.now }
+{
+    !name.is_empty() && name.len() <= 128 && are_plain(name)
+}
+
 /// A number for the last 16 bytes of a name, in which long names of sites and locks differ most.
-pub(crate) fn ending_of(name: &str) -> u64 {
-    let bytes = name.as_bytes();
+pub(crate) fn ending_of(bytes: &[u8]) -> u64 {
     let short = match bytes.last_chunk::<16>() {
         Some(ending) => ShortName::of(ending),
         None => ShortName::of(bytes),

@@ -1,12 +1,12 @@
 -- Names that are kept as numbers, beside the names that have numbers.
-use Rattle.std.specs.Prelude.{◌≡◌, true, ℕ, zero, suc, ◌<◌, ◌≤◌, ◌+◌, ◌-◌, ◌/◌, ◌%◌, ◌++◌, List, [], ◌∷◌, min, length, take, drop}
+use Rattle.std.specs.Prelude.{◌≡◌, Bool, true, ℕ, zero, suc, ◌<◌, ◌≤◌, ◌+◌, ◌-◌, ◌/◌, ◌%◌, ◌++◌, List, [], ◌∷◌, min, length, take, drop}
 use Rattle.std.specs.Int.Bits.{bit_and}
 use Rattle.std.specs.List.{All, list_all}
 use Rattle.er_trace.specs.declared.recent.Leading.{Leading}
 use Rattle.er_trace.specs.declared.recent.ShortName.{ShortName}
 use Rattle.er_trace.specs.declared.recent.Slot.{Slot}
 use Rattle.er_trace.specs.declared.recent.RecentNames.{RecentNames}
-use Rattle.er_trace.specs.Names.{is_known, number_of, most_names, is_plain_byte, IsPlain}
+use Rattle.er_trace.specs.Names.{is_known, number_of, most_names, is_plain_byte, is_plain_name, IsPlain}
 
 -- so many digits of a number to the base 256, the lowest first
 abbrev pub unpacked : ℕ → ℕ → List ℕ
@@ -26,6 +26,10 @@ pub record Knows (names : List (List ℕ)) (name : List ℕ) (number : ℕ) : Ty
 pub record IsRight (names : List (List ℕ)) (name : List ℕ) (number : ℕ) : Type 0 where
   pub knows : Knows names name number
   pub plain : list_all is_plain_byte name ≡ true
+
+-- all names are plain, if this is said of them
+abbrev pub ArePlain : Bool → List (List ℕ) → Type 0
+ArePlain said names = said ≡ true → list_all is_plain_name names ≡ true
 
 -- this holds of each name in a slot and the number beside it
 abbrev pub AreRight : List (List ℕ) → RecentNames → Type 0

@@ -1,13 +1,13 @@
 use Rattle.std.proofs.Common.{◌≡◌, ◌+◌, ◌-◌, ℕ, List, true, false, codes, Some, None, refl, subst, length, take, drop, rules}
 use Rattle.std.specs.Str.{bytes_eq}
-use Rattle.er_trace.specs.Names.{number_of}
+use Rattle.er_trace.specs.Names.{NameTable, is_known, number_of}
 use Rattle.er_trace.specs.Trace.{with_site_name}
 use Rattle.er_text.specs.Naming.{is_site_word}
 use Rattle.er_text.specs.Inner.FastPath.{Named}
 use Rattle.er_text.proofs.FastPathLaws.{missing_site, named_site}
 use Rattle.er_text.proofs.FastPathLemmas.{space_front}
 use Rattle.er_text.proofs.SiteLemmas.{site_parts, dash_named}
-use Rattle.er_text.proofs.UsualLemmas.{site_at_end}
+use Rattle.er_text.proofs.UsualLemmas.{site_again, site_at_end}
 use Rattle.er_text.proofs.fast_path.site_behind.Goals as goal
 
 pub returns-then-eq : goal.returns-then-eq
@@ -26,6 +26,17 @@ returns-in-Some c =
     let led = space_front rest c.in-32.len_at_least (search rules) in
     let other : bytes_eq word (codes "-") ≡ false = search rules in
     site_at_end c.args.version c.args.trace.now c.args.whole.now c.args.rest.now word c.in-Some.site c.requires led c.in-Some.ensures.some (search rules) other
+
+pub returns-in-Some-plain_site : goal.returns-in-Some-plain_site
+returns-in-Some-plain_site c =
+    let rest = c.args.rest.now in
+    let word = take (length rest - 1) (drop 1 rest) in
+    let led = space_front rest c.in-32.len_at_least (search rules) in
+    let other : bytes_eq word (codes "-") ≡ false = search rules in
+    let found = c.in-Some-plain_site in
+    let P : NameTable → Type 0 = λ names. (found.site ≡ number_of names.sites word + 1) × (is_known names.sites word ≡ true) in
+    let known = subst P c.names-2.ensures (found.ensures.number, found.ensures.known) in
+    site_again c.args.version c.args.trace.now rest word found.site led known.0 known.1 found.ensures.plain other
 
 pub site_text-requires : goal.site_text-requires
 site_text-requires c =

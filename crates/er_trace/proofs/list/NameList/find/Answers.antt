@@ -3,7 +3,7 @@ use Rattle.std.proofs.Common.{◌≡◌, ℕ, true, false, List, map, IfSome, If
 use Rattle.std.specs.String.{string_bytes}
 use Rattle.er_trace.specs.Names.{is_known, number_of}
 use Rattle.er_trace.proofs.NamesLemmas.{known_at, number_at, found_at, found_none}
-use Rattle.er_trace.proofs.names.NameList.find.Goals as goal
+use Rattle.er_trace.proofs.list.NameList.find.Goals as goal
 
 pub returns-clause-some : goal.returns-clause-some
 returns-clause-some c =

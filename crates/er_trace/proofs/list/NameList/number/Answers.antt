@@ -4,8 +4,8 @@ use Rattle.std.specs.Str.{bytes_eq}
 use Rattle.std.specs.String.{string_bytes}
 use Rattle.er_trace.specs.Names.{is_known, number_of, with_name}
 use Rattle.er_trace.proofs.NamesLemmas.{known_at, number_at, found_place, with_known, bytes-insert_key}
-use Rattle.er_trace.proofs.names.NameList.number.Goals as goal
-use Rattle.er_trace.proofs.names.NameList.number.Goals.{In_default, In_ok-number}
+use Rattle.er_trace.proofs.list.NameList.number.Goals as goal
+use Rattle.er_trace.proofs.list.NameList.number.Goals.{In_default, In_ok-number}
 
 pub returns-in-Some-clause-number : goal.returns-in-Some-clause-number
 returns-in-Some-clause-number c =
