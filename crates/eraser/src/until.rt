@@ -146,14 +146,16 @@ where
             drop(source);
             Ok(ended)
         }
-        Err(fault) if replay.until_fault => {
-            let again = match is_kept {
-                true => Directly.kept(source.inner()).map(Again::Kept),
-                false => Some(Again::File(replay.trace)),
-            };
+        Err(fault) if is_kept => {
+            let again = Directly.kept(source.inner()).map(Again::Kept);
             let cut = replay_before(rt, job, fault, again, output, watcher);
             drop(source);
             Err(cut)
+        }
+        Err(fault) if replay.until_fault => {
+            drop(source);
+            let again = Some(Again::File(replay.trace));
+            Err(replay_before(rt, job, fault, again, output, watcher))
         }
         Err(fault) => {
             drop(source);
