@@ -1,4 +1,5 @@
 pub mod Epochs
 pub mod Known
+pub mod Inner
 pub mod Words
 pub mod Standing

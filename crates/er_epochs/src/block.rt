@@ -80,7 +80,7 @@ impl<A: Copy> Block<A> {
         match place_in(&self.split, place) {
             Some(at) => {
                 let accesses = &mut self.split[at].1;
-                accesses.access(clock, kind, bytes, tag)
+                accesses.access(lists.alloc, lists.keys, clock, kind, bytes, tag)
             }
             None if is_whole(bytes) => self.access_whole(lists, number, place, clock, kind, tag),
             None => self.split_for(lists, number, place, bytes, clock, kind, tag),
@@ -137,7 +137,7 @@ impl<A: Copy> Block<A> {
     {
         let word = get(&self.words, place);
         let mut accesses = lists.byte_accesses(number, word)?;
-        let rival = accesses.access(clock, kind, bytes, tag)?;
+        let rival = accesses.access(lists.alloc, lists.keys, clock, kind, bytes, tag)?;
         self.split.push((place, accesses))?;
         Ok(rival)
     }

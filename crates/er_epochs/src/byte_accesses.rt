@@ -1,17 +1,21 @@
 //! The accesses of a word that some access touched in part.
-ghost use Rattle.std.specs.Prelude.{◌≡◌, ◌++◌, ◌∷◌, [], filter, map, reverse, Some, OnOk, OnErr, IfOk};
+ghost use Rattle.std.specs.Prelude.{◌≡◌, ◌++◌, ◌∷◌, ◌||◌, ℕ, [], false, filter, map, nat_eq, not, reverse, Some, OnOk, OnErr, IfOk};
+ghost use Rattle.indexmap.specs.IndexMap.{get};
 ghost use Rattle.std.specs.Option.{option_map, option_to_list};
 ghost use Rattle.er_model.specs.Words.{is_writing};
-ghost use Rattle.er_order.specs.Parts.{first_hit, hits, is_inside, is_of_use};
+ghost use Rattle.er_order.specs.Parts.{IsPartNoted, Query, first_hit, hits, is_inside, is_of_use};
 ghost use Rattle.er_order.specs.ByBytes.{meet};
 ghost use Rattle.er_clock.specs.Counts.{count_by};
-ghost use Rattle.er_epochs.specs.Epochs.{tagged};
+ghost use Rattle.er_epochs.specs.Epochs.{is_replaced, tagged};
+ghost use Rattle.er_epochs.specs.Inner.{key_of, writes_of};
 ghost use Rattle.er_epochs.specs.Known.{Since, Raced, IsKnownBy, finds, part_of, query_of, accesses_of, whole_access};
 
-use crate::reads::{Tagged, access_by};
+use crate::reads::{FEW, Tagged, access_by, turn};
 use er_clock::ThreadClock;
 use er_event::Kind;
+use er_keys::{HashKeys, NumberHasher};
 use er_order::Bytes;
+use indexmap::IndexMap;
 use std::alloc::{AllocError, Global};
 use std::marker::Model;
 
@@ -26,21 +30,28 @@ pub struct ByteAccess<A> {
     pub bytes: Bytes,
 }
 
-/// The accesses of a word in its era, less those of which a later one says as much; or that a race was reported. Each call looks at all of them.
+/// The accesses of a word in its era, less such of which a later one says as much; or that a race was reported. A write looks at all of them, and a
+/// read at the writes. Of many, the useless reads are looked for as `Reads` does.
 #[derive(Drop)]
 pub(crate) struct ByteAccesses<A> {
     is_told: bool,
     // The last one stands last.
     accesses: Vec<ByteAccess<A>>,
+    // The writes among them once more.
+    writes: Vec<ByteAccess<A>>,
 }
 
 impl<A> Model for ByteAccesses<A> {
     ghost use Rattle.std.specs.Prelude.{cond, reverse};
+    ghost use Rattle.std.specs.Prelude.{◌≡◌};
     ghost use Rattle.er_epochs.specs.Known.{Known, Since, Raced};
+    ghost use Rattle.er_epochs.specs.Inner.{writes_of};
 
     ghost Value = { Known A };
 
     ghost view = { λ t. cond t.is_told Raced (Since (reverse t.accesses.items)) };
+
+    ghost invariant = { λ t. t.writes.items ≡ writes_of t.accesses.items };
 }
 
 impl<A: Copy> ByteAccesses<A> {
@@ -51,6 +62,7 @@ impl<A: Copy> ByteAccesses<A> {
         ByteAccesses {
             is_told: false,
             accesses: Vec::new(alloc),
+            writes: Vec::new(alloc),
         }
     }
 
@@ -61,6 +73,7 @@ impl<A: Copy> ByteAccesses<A> {
         ByteAccesses {
             is_told: true,
             accesses: Vec::new(alloc),
+            writes: Vec::new(alloc),
         }
     }
 
@@ -72,11 +85,13 @@ impl<A: Copy> ByteAccesses<A> {
     ) -> Result<Self, AllocError>
         ensures { IfOk result (λ accesses. accesses ≡ Since (accesses_of (record { write = write; reads = reverse reads.now.items }))) }
     {
+        let writes = only_write(write, alloc)?;
         let mut accesses = only_write(write, alloc)?;
         add_reads(&mut accesses, reads)?;
         Ok(ByteAccesses {
             is_told: false,
             accesses,
+            writes,
         })
     }
 
@@ -84,6 +99,8 @@ impl<A: Copy> ByteAccesses<A> {
     /// reported as one. `AllocError`: memory was refused, and what is known is as it was.
     pub(crate) fn access(
         &mut self,
+        alloc: Global,
+        keys: HashKeys,
         clock: &ThreadClock<'_>,
         kind: Kind,
         bytes: Bytes,
@@ -101,17 +118,22 @@ impl<A: Copy> ByteAccesses<A> {
         if rival.is_some() {
             self.is_told = true;
             self.accesses.clear();
+            self.writes.clear();
             return Ok(rival);
         }
         let access = access_by(clock, tag);
+        let one = ByteAccess {
+            access,
+            kind,
+            bytes,
+        };
         note(
+            alloc,
+            keys,
             &mut self.accesses,
+            &mut self.writes,
             clock,
-            ByteAccess {
-                access,
-                kind,
-                bytes,
-            },
+            one,
         )?;
         Ok(None)
     }
@@ -129,7 +151,11 @@ impl<A: Copy> ByteAccesses<A> {
         if self.is_told {
             return None;
         }
-        find(&self.accesses, clock, kind, bytes)
+        if writes(kind) {
+            find(&self.accesses, clock, kind, bytes)
+        } else {
+            find(&self.writes, clock, kind, bytes)
+        }
     }
 }
 
@@ -215,8 +241,70 @@ fn find<A: Copy>(
     }
 }
 
-// Puts the access behind those that may be found where it is not.
+// Notes an access among all, and a write among the writes, too.
 fn note<A: Copy>(
+    alloc: Global,
+    keys: HashKeys,
+    accesses: &mut Vec<ByteAccess<A>>,
+    written: &mut Vec<ByteAccess<A>>,
+    clock: &ThreadClock<'_>,
+    one: ByteAccess<A>,
+) -> Result<(), AllocError>
+    ensures ok { OnOk result (IsPartNoted part_of (count_by clock.now) (reverse accesses.old.items) one (reverse accesses.new.items)) }
+    ensures writes { written.old.items ≡ writes_of accesses.old.items → written.new.items ≡ writes_of accesses.new.items }
+    ensures err { OnErr result (accesses.new.items ≡ accesses.old.items) }
+{
+    if writes(one.kind) {
+        note_write(accesses, written, clock, one)
+    } else {
+        note_read(alloc, keys, accesses, clock, one)
+    }
+}
+
+// Puts a write behind those that may be found where it is not.
+fn note_write<A: Copy>(
+    accesses: &mut Vec<ByteAccess<A>>,
+    written: &mut Vec<ByteAccess<A>>,
+    clock: &ThreadClock<'_>,
+    one: ByteAccess<A>,
+) -> Result<(), AllocError>
+    ensures ok { OnOk result (accesses.new.items ≡ filter (λ old. is_of_use (count_by clock.now) (part_of one) (part_of old)) accesses.old.items ++ one ∷ []) }
+    ensures writes { OnOk result (written.new.items ≡ filter (λ old. is_of_use (count_by clock.now) (part_of one) (part_of old)) written.old.items ++ one ∷ []) }
+    ensures err { OnErr result (accesses.new.items ≡ accesses.old.items) }
+    ensures none { OnErr result (written.new.items ≡ written.old.items) }
+{
+    accesses.reserve(1)?;
+    note_among_few(written, clock, one)?;
+    accesses.retain(|old| old.may_be_found(&one, clock));
+    let noted: Result<_, _> = accesses.push(one);
+    noted.unwrap();
+    Ok(())
+}
+
+// Notes a read. Where there are many accesses, those of no use go once the list is full.
+fn note_read<A: Copy>(
+    alloc: Global,
+    keys: HashKeys,
+    accesses: &mut Vec<ByteAccess<A>>,
+    clock: &ThreadClock<'_>,
+    one: ByteAccess<A>,
+) -> Result<(), AllocError>
+    ensures ok { OnOk result (IsPartNoted part_of (count_by clock.now) (reverse accesses.old.items) one (reverse accesses.new.items)) }
+    ensures writes { is_writing one.kind ≡ false → writes_of accesses.new.items ≡ writes_of accesses.old.items }
+    ensures err { OnErr result (accesses.new.items ≡ accesses.old.items) }
+{
+    if accesses.len() < FEW {
+        return note_among_few(accesses, clock, one);
+    }
+    if accesses.len() < accesses.capacity() {
+        accesses.push(one)?;
+        return Ok(());
+    }
+    note_among_many(alloc, keys, accesses, clock, one)
+}
+
+// Puts the access behind those that may be found where it is not.
+fn note_among_few<A: Copy>(
     accesses: &mut Vec<ByteAccess<A>>,
     clock: &ThreadClock<'_>,
     one: ByteAccess<A>,
@@ -229,6 +317,71 @@ fn note<A: Copy>(
     let noted: Result<_, _> = accesses.push(one);
     noted.unwrap();
     Ok(())
+}
+
+// The same without the reads that a later one of their threads replaces, and with room for as many again.
+fn note_among_many<A: Copy>(
+    alloc: Global,
+    keys: HashKeys,
+    accesses: &mut Vec<ByteAccess<A>>,
+    clock: &ThreadClock<'_>,
+    one: ByteAccess<A>,
+) -> Result<(), AllocError>
+    ensures ok { OnOk result (IsPartNoted part_of (count_by clock.now) (reverse accesses.old.items) one (reverse accesses.new.items)) }
+    ensures writes { is_writing one.kind ≡ false → writes_of accesses.new.items ≡ writes_of accesses.old.items }
+    ensures err { OnErr result (accesses.new.items ≡ accesses.old.items) }
+{
+    let mut turned = Vec::new(alloc);
+    turned.extend_from_slice(accesses)?;
+    turn(&mut turned);
+    turned.retain(|old| old.may_be_found(&one, clock));
+    let mut left = last_of_each(alloc, keys, &turned)?;
+    left.reserve(left.len())?;
+    turn(&mut left);
+    left.push(one)?;
+    *accesses = left;
+    Ok(())
+}
+
+// Of these, from the last one to the first, the writes, and of each thread's reads of the same bytes only the last one.
+fn last_of_each<A: Copy>(
+    alloc: Global,
+    keys: HashKeys,
+    accesses: &Vec<ByteAccess<A>>,
+) -> Result<Vec<ByteAccess<A>>, AllocError>
+    ensures found { IfOk result (λ left. (later : ℕ → ℕ) (query : Query) → first_hit part_of later query left.items ≡ first_hit part_of later query accesses.now.items) }
+    ensures writes { IfOk result (λ left. writes_of left.items ≡ writes_of accesses.now.items) }
+{
+    let mut counts = IndexMap::with_hasher(alloc, NumberHasher::new(keys));
+    let mut left = Vec::new(alloc);
+    for one in accesses {
+        if is_last(&counts, one) {
+            counts.insert(key(one), one.access.epoch.count)?;
+            left.push(*one)?;
+        }
+    }
+    Ok(left)
+}
+
+// Whether it writes, or its thread's read of these bytes has no count here that is no less.
+fn is_last<A: Copy>(counts: &IndexMap<u64, u32, NumberHasher>, one: &ByteAccess<A>) -> bool
+    ensures { result ≡ (is_writing one.now.kind || not (is_replaced (get nat_eq counts.now (key_of one.now)) one.now.access.epoch.count)) }
+{
+    let replaced = match counts.get(&key(one)) {
+        Some(&count) => one.access.epoch.count <= count,
+        None => false,
+    };
+    writes(one.kind) || !replaced
+}
+
+// The number of its thread and its bytes.
+#[inline]
+fn key<A: Copy>(one: &ByteAccess<A>) -> u64
+    ensures { result ≡ key_of one.now }
+{
+    u64::from(one.access.epoch.thread.number()) * 65536
+        + u64::from(one.bytes.first) * 256
+        + u64::from(one.bytes.last)
 }
 
 // Whether the two have a byte in common.

@@ -18,7 +18,7 @@ use std::alloc::{AllocError, Global};
 use std::marker::Model;
 
 /// Up to so many reads each new one is compared with all.
-const FEW: usize = 16;
+pub(crate) const FEW: usize = 16;
 
 /// An access: the epoch of its thread, and the tag that the caller gave it.
 #[derive(Clone, Copy)]
@@ -134,8 +134,8 @@ impl<A: Copy> Reads<A> {
 #[derive(Drop)]
 pub(crate) struct ReadLists<A> {
     lists: IndexMap<u64, Reads<A>, NumberHasher>,
-    keys: HashKeys,
-    alloc: Global,
+    pub(crate) keys: HashKeys,
+    pub(crate) alloc: Global,
 }
 
 impl<A> Model for ReadLists<A> {
@@ -319,11 +319,11 @@ fn note_among_many<A: Copy>(
     Ok(())
 }
 
-// Puts the last one first, and so on.
-fn turn<A: Copy>(reads: &mut Vec<Tagged<A>>)
-    ensures { reads.new.items ≡ reverse reads.old.items }
+/// Puts the last one first, and so on.
+pub(crate) fn turn<T: Copy>(list: &mut Vec<T>)
+    ensures { list.new.items ≡ reverse list.old.items }
 {
-    reads.as_mut_slice().reverse();
+    list.as_mut_slice().reverse();
 }
 
 // Of these, from the last one to the first, those that the clock doesn't cover, and of each thread only the last one.

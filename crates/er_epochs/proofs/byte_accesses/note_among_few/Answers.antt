@@ -4,7 +4,7 @@ use Rattle.er_order.specs.Parts.{is_of_use}
 use Rattle.er_epochs.specs.Known.{part_of}
 use Rattle.er_epochs.specs.declared.byte_accesses.ByteAccess.{ByteAccess}
 use Rattle.er_epochs.proofs.Epochs.{retained}
-use Rattle.er_epochs.proofs.byte_accesses.note.Goals as goal
+use Rattle.er_epochs.proofs.byte_accesses.note_among_few.Goals as goal
 
 pub returns-clause-ok : goal.returns-clause-ok
 returns-clause-ok g c =
