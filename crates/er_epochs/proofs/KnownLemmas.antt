@@ -28,25 +28,25 @@ module _ {X : Type 0} where
   append_none [] = refl
   append_none (x ∷ xs) = ap (λ rest. x ∷ rest) (append_none xs)
 
-  filter_push : (p : X → Bool) (xs : List X) (x : X) → filter p (xs ++ x ∷ []) ≡ filter p xs ++ filter p (x ∷ [])
-  filter_push p [] x = refl
-  filter_push p (y ∷ xs) x = by (p y) (filter_push p xs x)
+  pub filter-push : (p : X → Bool) (xs : List X) (x : X) → filter p (xs ++ x ∷ []) ≡ filter p xs ++ filter p (x ∷ [])
+  filter-push p [] x = refl
+  filter-push p (y ∷ xs) x = by (p y) (filter-push p xs x)
     where
       by : (b : Bool) → filter p (xs ++ x ∷ []) ≡ filter p xs ++ filter p (x ∷ [])
           → cond b (y ∷ filter p (xs ++ x ∷ [])) (filter p (xs ++ x ∷ [])) ≡ cond b (y ∷ filter p xs) (filter p xs) ++ filter p (x ∷ [])
       by true rest = ap (λ ys. y ∷ ys) rest
       by false rest = rest
 
-  filter_turned : (p : X → Bool) (xs : List X) → reverse (filter p xs) ≡ filter p (reverse xs)
-  filter_turned p [] = refl
-  filter_turned p (x ∷ xs) = by (p x) (filter_turned p xs) ∙ sym (ap (filter p) (reverse-append (x ∷ []) xs) ∙ filter_push p (reverse xs) x)
+  pub filter-turned : (p : X → Bool) (xs : List X) → reverse (filter p xs) ≡ filter p (reverse xs)
+  filter-turned p [] = refl
+  filter-turned p (x ∷ xs) = by (p x) (filter-turned p xs) ∙ sym (ap (filter p) (reverse-append (x ∷ []) xs) ∙ filter-push p (reverse xs) x)
     where
       by : (b : Bool) → reverse (filter p xs) ≡ filter p (reverse xs) → reverse (cond b (x ∷ filter p xs) (filter p xs)) ≡ filter p (reverse xs) ++ cond b (x ∷ []) []
       by true rest = reverse-append (x ∷ []) (filter p xs) ∙ ap (λ ys. ys ++ x ∷ []) rest
       by false rest = rest ∙ sym (append_none (filter p (reverse xs)))
 
   pub kept-turned : (p : X → Bool) (xs : List X) (x : X) → reverse (filter p xs ++ x ∷ []) ≡ x ∷ filter p (reverse xs)
-  kept-turned p xs x = reverse-append (filter p xs) (x ∷ []) ∙ ap (λ ys. x ∷ ys) (filter_turned p xs)
+  kept-turned p xs x = reverse-append (filter p xs) (x ∷ []) ∙ ap (λ ys. x ∷ ys) (filter-turned p xs)
 
 some_mapped : {X Y : Type 0} (f : X → Y) (o : Option X) → is_some (option_map f o) ≡ is_some o
 some_mapped f None = refl

@@ -10,6 +10,7 @@ pub mod Places
 pub mod ReasonLemmas
 pub mod StepLemmas
 pub mod KnownLemmas
+pub mod Written
 pub mod KnownSteps
 pub mod Split
 pub mod KnownAnswers

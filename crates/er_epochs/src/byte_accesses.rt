@@ -1,5 +1,5 @@
 //! The accesses of a word that some access touched in part.
-ghost use Rattle.std.specs.Prelude.{◌≡◌, ◌++◌, ◌∷◌, ◌||◌, ℕ, [], false, filter, map, nat_eq, not, reverse, Some, OnOk, OnErr, IfOk};
+ghost use Rattle.std.specs.Prelude.{◌≡◌, ◌++◌, ◌∷◌, ◌||◌, ◌<◌, ℕ, [], false, filter, map, nat_eq, not, reverse, Some, OnOk, OnErr, IfOk};
 ghost use Rattle.indexmap.specs.IndexMap.{get};
 ghost use Rattle.std.specs.Option.{option_map, option_to_list};
 ghost use Rattle.er_model.specs.Words.{is_writing};
@@ -251,8 +251,9 @@ fn note<A: Copy>(
     one: ByteAccess<A>,
 ) -> Result<(), AllocError>
     ensures ok { OnOk result (IsPartNoted part_of (count_by clock.now) (reverse accesses.old.items) one (reverse accesses.new.items)) }
-    ensures writes { written.old.items ≡ writes_of accesses.old.items → written.new.items ≡ writes_of accesses.new.items }
+    ensures writes { OnOk result (written.old.items ≡ writes_of accesses.old.items → written.new.items ≡ writes_of accesses.new.items) }
     ensures err { OnErr result (accesses.new.items ≡ accesses.old.items) }
+    ensures none { OnErr result (written.new.items ≡ written.old.items) }
 {
     if writes(one.kind) {
         note_write(accesses, written, clock, one)
@@ -290,7 +291,7 @@ fn note_read<A: Copy>(
     one: ByteAccess<A>,
 ) -> Result<(), AllocError>
     ensures ok { OnOk result (IsPartNoted part_of (count_by clock.now) (reverse accesses.old.items) one (reverse accesses.new.items)) }
-    ensures writes { is_writing one.kind ≡ false → writes_of accesses.new.items ≡ writes_of accesses.old.items }
+    ensures writes { OnOk result (is_writing one.kind ≡ false → writes_of accesses.new.items ≡ writes_of accesses.old.items) }
     ensures err { OnErr result (accesses.new.items ≡ accesses.old.items) }
 {
     if accesses.len() < FEW {
@@ -328,7 +329,7 @@ fn note_among_many<A: Copy>(
     one: ByteAccess<A>,
 ) -> Result<(), AllocError>
     ensures ok { OnOk result (IsPartNoted part_of (count_by clock.now) (reverse accesses.old.items) one (reverse accesses.new.items)) }
-    ensures writes { is_writing one.kind ≡ false → writes_of accesses.new.items ≡ writes_of accesses.old.items }
+    ensures writes { OnOk result (is_writing one.kind ≡ false → writes_of accesses.new.items ≡ writes_of accesses.old.items) }
     ensures err { OnErr result (accesses.new.items ≡ accesses.old.items) }
 {
     let mut turned = Vec::new(alloc);
@@ -355,8 +356,8 @@ fn last_of_each<A: Copy>(
     let mut counts = IndexMap::with_hasher(alloc, NumberHasher::new(keys));
     let mut left = Vec::new(alloc);
     for one in accesses {
-        if is_last(&counts, one) {
-            counts.insert(key(one), one.access.epoch.count)?;
+        if is_last(&counts, *one) {
+            counts.insert(key(*one), one.access.epoch.count)?;
             left.push(*one)?;
         }
     }
@@ -364,8 +365,10 @@ fn last_of_each<A: Copy>(
 }
 
 // Whether it writes, or its thread's read of these bytes has no count here that is no less.
-fn is_last<A: Copy>(counts: &IndexMap<u64, u32, NumberHasher>, one: &ByteAccess<A>) -> bool
-    ensures { result ≡ (is_writing one.now.kind || not (is_replaced (get nat_eq counts.now (key_of one.now)) one.now.access.epoch.count)) }
+fn is_last<A: Copy>(counts: &IndexMap<u64, u32, NumberHasher>, one: ByteAccess<A>) -> bool
+    ensures is { result ≡ (is_writing one.kind || not (is_replaced (get nat_eq counts.now (key_of one)) one.access.epoch.count)) }
+    ensures first { one.bytes.first < 256 }
+    ensures last { one.bytes.last < 256 }
 {
     let replaced = match counts.get(&key(one)) {
         Some(&count) => one.access.epoch.count <= count,
@@ -376,8 +379,8 @@ fn is_last<A: Copy>(counts: &IndexMap<u64, u32, NumberHasher>, one: &ByteAccess<
 
 // The number of its thread and its bytes.
 #[inline]
-fn key<A: Copy>(one: &ByteAccess<A>) -> u64
-    ensures { result ≡ key_of one.now }
+fn key<A: Copy>(one: ByteAccess<A>) -> u64
+    ensures { result ≡ key_of one }
 {
     u64::from(one.access.epoch.thread.number()) * 65536
         + u64::from(one.bytes.first) * 256
