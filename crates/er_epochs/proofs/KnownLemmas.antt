@@ -76,18 +76,14 @@ module _ {A : Type 0} (clock : ℕ → ℕ) where
   -- one more, behind those of use
   pub known-noted : (told : Bool) (items after : List (ByteAccess A)) (k : Known A) (access x : Tagged A) (kind : Kind) (bytes : Bytes)
       → cond told Raced (Since (reverse items)) ≡ k → told ≡ false → access ≡ x → is_some (finds clock k (query_of kind bytes)) ≡ false
-      → after ≡ filter (λ old. is_of_use clock (part_of (record { access = access; kind = kind; bytes = bytes })) (part_of old)) items ++ record { access = access; kind = kind; bytes = bytes } ∷ []
+      → IsPartNoted part_of clock (reverse items) (record { access = access; kind = kind; bytes = bytes }) (reverse after)
       → IsKnownBy clock k (record { access = x; kind = kind; bytes = bytes }) (cond told Raced (Since (reverse after)))
   known-noted true items after k access x kind bytes view untold own none is = cc
   known-noted false items after k access x kind bytes view untold own none is =
       subst (λ (known : Known A). IsKnownBy clock known (record { access = x; kind = kind; bytes = bytes }) (Since (reverse after))) view
       (subst (λ (a : Tagged A). IsKnownBy clock (Since (reverse items)) (record { access = a; kind = kind; bytes = bytes }) (Since (reverse after))) own
       (by_false (is_some (first_hit part_of clock (query_of kind bytes) (reverse items))) _ _
-      (quiet_hit (reverse items) (query_of kind bytes) (ap (λ known. is_some (finds clock known (query_of kind bytes))) view ∙ none)) (
-        touch access kind bytes ∷ filter (λ old. is_of_use clock (part_of (touch access kind bytes)) (part_of old)) (reverse items),
-        ap (λ list. Since list) (ap reverse is ∙ kept-turned (λ old. is_of_use clock (part_of (touch access kind bytes)) (part_of old)) items (touch access kind bytes)),
-        part-noted part_of clock (reverse items) (touch access kind bytes),
-      )))
+      (quiet_hit (reverse items) (query_of kind bytes) (ap (λ known. is_some (finds clock known (query_of kind bytes))) view ∙ none)) (reverse after, refl, is)))
 
 -- the reads behind the write, from the last one on
 map_turned : {X Y : Type 0} (f : X → Y) (xs : List X) → reverse (map f xs) ≡ map f (reverse xs)

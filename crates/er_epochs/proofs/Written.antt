@@ -1,11 +1,12 @@
 -- Beside the accesses of a split word stand its writes, and of many accesses the reads may go that a later one of their threads replaces.
-use Rattle.std.proofs.Common.{◌≡◌, ◌∙◌, ℕ, ◌≤◌, ◌<◌, ◌+◌, ◌*◌, Bool, true, false, ◌&&◌, ◌||◌, not, nat_eq, cond, List, [], ◌∷◌, ◌++◌, filter, reverse, Option, Some, None, refl, sym, ap, ap₂, subst, arith}
+use Rattle.std.proofs.Common.{◌≡◌, ◌∙◌, ℕ, ◌≤◌, ◌<◌, ◌+◌, ◌*◌, Bool, true, false, ◌&&◌, ◌||◌, not, nat_eq, cond, List, [], ◌∷◌, ◌++◌, filter, map, reverse, Option, Some, None, Result, Ok, Err, OnOk, refl, sym, ap, ap₂, subst, arith}
 use Rattle.std.specs.List.{find}
-use Rattle.std.specs.Option.{option_map, option_or}
+use Rattle.std.specs.Option.{option_or, option_to_list}
 use Rattle.std.proofs.lemmas.Bool.{eqb-true, le-leb, leb-true, both_ways, false_from_ne_true, and_parts, and_from}
 use Rattle.std.proofs.lemmas.List.{reverse-append, reverse-reverse}
 use Rattle.std.proofs.lemmas.List.Folds.{find-append}
 use Rattle.er_event.specs.declared.steps.Kind.{Kind}
+use Rattle.er_event.specs.declared.steps.Kind.TheVariants.{Read as reading, Write as writing}
 use Rattle.er_model.specs.Words.{is_writing}
 use Rattle.er_order.specs.Clocks.{covers}
 use Rattle.er_order.specs.Following.{is_unordered}
@@ -15,7 +16,8 @@ use Rattle.er_order.proofs.Parts.{find-kept, find-behind, part-noted}
 use Rattle.er_epochs.specs.declared.byte_accesses.ByteAccess.{ByteAccess}
 use Rattle.er_epochs.specs.Epochs.{is_replaced, pair_of}
 use Rattle.er_epochs.specs.Inner.{key_of, writes_of}
-use Rattle.er_epochs.specs.Known.{part_of}
+use Rattle.er_epochs.specs.Known.{part_of, whole_access}
+use Rattle.er_epochs.specs.declared.reads.Tagged.{Tagged}
 use Rattle.er_epochs.proofs.KnownLemmas.{filter-push, filter-turned, kept-turned}
 
 -- tests of lists
@@ -241,3 +243,18 @@ module _ {A : Type 0} where
           where
             none_left : first_hit part_of later query left ≡ None
             none_left = is
+
+-- what follows from two facts about a result
+pub both_ok : {T E : Type 0} (r : Result T E) (P Q R : Type 0) → OnOk r P → OnOk r Q → (P → Q → R) → OnOk r R
+both_ok (Ok v) P Q R p q f = f p q
+both_ok (Err e) P Q R p q f = tt
+
+-- of the last write and reads the write writes
+module _ {A : Type 0} where
+  none_writes : (reads : List (Tagged A)) → writes_of (map (whole_access reading) reads) ≡ []
+  none_writes [] = refl
+  none_writes (x ∷ xs) = none_writes xs
+
+  pub whole-written : (write : Option (Tagged A)) (reads : List (Tagged A)) → map (whole_access writing) (option_to_list write) ≡ writes_of (map (whole_access writing) (option_to_list write) ++ map (whole_access reading) reads)
+  whole-written None reads = sym (none_writes reads)
+  whole-written (Some x) reads = ap (λ xs. whole_access writing x ∷ xs) (sym (none_writes reads))
