@@ -1,7 +1,7 @@
 #!/usr/bin/env python3
 """Texts that were made to take long, or to take much memory: those of `bench/hostile`.
 
-`tests/run` calls `answers`, `costs`, `barriers`, `rules`, `patterns`, `turns`, `second_looks`, `binary_traces` and `split_words`. By itself this file runs all
+`tests/run` calls `answers`, `costs`, `barriers`, `rules`, `patterns`, `turns`, `second_looks`, `binary_traces`, `split_words` and `byte_readers`. By itself this file runs all
 tests.
 
 - each kind is answered as the references answer it: by locks and by happens-before, with reasons, by several workers, and also if the system gives no
@@ -56,6 +56,8 @@ PATTERNED, MOST_FOR_TWO_BYTES = 500, 16
 BINARY_TURNS = 1000
 # Pages with a word that is touched in part.
 SPLIT = 640
+# Threads that read one byte.
+BYTE_READERS = 2000
 # Lines that no reason names.
 SEEN_ONCE = 20_000
 # What is replayed of each kind: how many there are in the shorter text, and by which options.
@@ -277,6 +279,19 @@ def binary_traces(record):
         record(f"{name}: instructions", of_data <= 1.3 * of_text, f"{of_data}, and {of_text} of its text")
 
 
+def byte_readers(record):
+    """A read of a word that is touched in part takes the same time however many threads read it."""
+    counts, sizes = [], []
+    with tempfile.TemporaryDirectory() as folder:
+        trace = pathlib.Path(folder) / "byte-readers.trace"
+        for count in (BYTE_READERS, LONGER * BYTE_READERS):
+            trace.write_bytes(made("byte-readers", count))
+            sizes.append(trace.stat().st_size)
+            counts.append(instructions([*HAPPENS_BEFORE, trace]))
+    times = counts[1] / counts[0] / (sizes[1] / sizes[0] / LONGER)
+    record("hostile: threads that read one byte: instructions", times <= MOST_TIMES, f"{counts}, {times:.2f} times as many")
+
+
 def split_words(record):
     """What a reuse takes is in proportion to the blocks of its range and to the words in it that were touched in part, wherever others are."""
     for options in (HAPPENS_BEFORE, [*HAPPENS_BEFORE, *EXPLAIN]):
@@ -307,6 +322,7 @@ def tests(record, preloaded):
     second_looks(record)
     binary_traces(record)
     split_words(record)
+    byte_readers(record)
 
 
 if __name__ == "__main__":

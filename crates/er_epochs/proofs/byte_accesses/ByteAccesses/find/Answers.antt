@@ -13,7 +13,7 @@ returns-then-writes g c =
 
 pub returns-else-writes : goal.returns-else-writes
 returns-else-writes g c =
-    c.find.ensures
+    c.find-else-writes.ensures
     ∙ ap (option_map (λ one. one.access.tag))
     (found-written (count_by c.args.clock.now) (record { is_write = is_writing c.args.kind; bytes = c.args.bytes }) c.self.inside.accesses.items c.self.inside.writes.items (sym c.writes.ensures ∙ c.if-writes.false) c.self.invariant)
     ∙ found-view (count_by c.args.clock.now) c.self.inside.is_told (reverse c.self.inside.accesses.items) c.args.self.now (record { is_write = is_writing c.args.kind; bytes = c.args.bytes }) c.self.view_is c.if-self.false
