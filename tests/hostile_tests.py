@@ -282,12 +282,10 @@ def binary_traces(record):
 def byte_readers(record):
     """A read of a word that is touched in part takes the same time however many threads read it."""
     counts, sizes = [], []
-    with tempfile.TemporaryDirectory() as folder:
-        trace = pathlib.Path(folder) / "byte-readers.trace"
-        for count in (BYTE_READERS, LONGER * BYTE_READERS):
-            trace.write_bytes(made("byte-readers", count))
-            sizes.append(trace.stat().st_size)
-            counts.append(instructions([*HAPPENS_BEFORE, trace]))
+    for count in (BYTE_READERS, LONGER * BYTE_READERS):
+        data = made("byte-readers", count)
+        sizes.append(len(data))
+        counts.append(instructions([*HAPPENS_BEFORE, "-"], data))
     times = counts[1] / counts[0] / (sizes[1] / sizes[0] / LONGER)
     record("hostile: threads that read one byte: instructions", times <= MOST_TIMES, f"{counts}, {times:.2f} times as many")
 
