@@ -155,7 +155,7 @@ unfound false x none = refl
 module _ {A : Type 0} where
   -- whoever hits a read hits a later access of its thread and its bytes
   module _ (x y : ByteAccess A) (thread : x.access.epoch.thread ≡ y.access.epoch.thread) (first : x.bytes.first ≡ y.bytes.first) (last : x.bytes.last ≡ y.bytes.last) (low : y.access.epoch.count ≤ x.access.epoch.count)
-    (reads : is_writing y.kind ≡ false) (later : ℕ → ℕ) (query : Query) where
+      (reads : is_writing y.kind ≡ false) (later : ℕ → ℕ) (query : Query) where
     touched : (asked : Option Bytes) → touches asked y.bytes ≡ true → touches asked x.bytes ≡ true
     touched None e = refl
     touched (Some asked) e = rw (first, last) e
