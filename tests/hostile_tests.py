@@ -77,7 +77,9 @@ COSTS = {
     "started": (16_000, [[], HAPPENS_BEFORE]),
     "two-signals": (4000, [[], HAPPENS_BEFORE]),
     "some-signals": (4000, [[], HAPPENS_BEFORE]),
-    "barriers": (2000, [[], HAPPENS_BEFORE]),
+    # Names of 2,000 threads fit into the 4,096 slots of recent names, and those of 8,000 don't. That step comes once, so the shorter text has nearly as many
+    # threads as slots.
+    "barriers": (4000, [[], HAPPENS_BEFORE]),
     "unequal": (4000, [[], HAPPENS_BEFORE]),
     "in-turn": (8000, [[], HAPPENS_BEFORE]),
     "freed": (2000, [[], HAPPENS_BEFORE]),

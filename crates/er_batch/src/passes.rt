@@ -254,8 +254,8 @@ impl<A: Drop> Pass<A> {
 }
 
 /// Reads a trace text of at most so many bytes to its end by so many threads, and has each batch of its steps answered and then forgotten. The analyst gets
-/// ready for a batch while the next one is read. If one thread reads, the shortcut may have lines ready; what it hands out of the bytes that accesses
-/// touch goes to the analyst. The watcher is told behind each batch how far the pass has come.
+/// ready for a batch while the next one is read. The shortcut may have lines ready, which one thread takes; what it hands out of the bytes that
+/// accesses touch goes to the analyst. The watcher is told behind each batch how far the pass has come.
 ///
 /// # Errors
 /// The text's first fault, a failed read, or a want of memory wherever it is met.

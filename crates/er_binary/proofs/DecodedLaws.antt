@@ -1,7 +1,8 @@
 -- What a reader of a trace of any form still gives, before and behind its first bytes.
 use Rattle.std.proofs.Common.{All, IfOk, OnErr, OnOk, append-nil, vec_items, ◌≡◌, ℕ, zero, suc, ◌<◌, ◌≤◌, Bool, true, false, not, cond, List, [], ◌∷◌, ◌++◌, length, take, drop, Option, Some, None, IfNone, IfSome, Result, Ok, Err, option_map, refl, sym, ap, ◌∙◌, arith}
 use Rattle.std.proofs.lemmas.List.Elements.{All-cons, All-nil, All-same}
-use Rattle.er_binary.specs.Decoded.{to_come, to_come_by, is_binary_by, is_noting, is_noting_by, to_touch, to_touch_by}
+use Rattle.er_binary.specs.Decoded.{to_come, is_noting, to_touch}
+use Rattle.er_binary.specs.Inner.Forms.{to_come_by, is_binary_by, is_noting_by, to_touch_by}
 use Rattle.er_binary.specs.Inner.Decoders.{undecoded, still, to_note}
 use Rattle.er_lines.specs.Touches.{HasHanded, StaysKnown}
 use Rattle.er_binary.specs.Meaning.{as_touches, magic, meant, text_behind, touches, touches_behind}
@@ -128,9 +129,6 @@ binary_touch d decoder rest at = ap (λ (f : Form). to_touch_by f (take d.held d
 -- whether it notes that, in the same way
 pub unknown_noting : {R : Type 0} (d : Decoded R) → d.form ≡ form.Unknown → is_noting d ≡ d.is_noting
 unknown_noting d at = ap (λ (f : Form). is_noting_by f d.is_noting) at
-
-pub text_noting : {R : Type 0} (d : Decoded R) → d.form ≡ form.Text → is_noting d ≡ d.is_noting
-text_noting d at = ap (λ (f : Form). is_noting_by f d.is_noting) at
 
 pub binary_noting : {R : Type 0} (d : Decoded R) (decoder : Decoder) → d.form ≡ form.Binary decoder → is_noting d ≡ decoder.notes.is_on
 binary_noting d decoder at = ap (λ (f : Form). is_noting_by f d.is_noting) at

@@ -1,5 +1,5 @@
 -- The checksum by words of 8 bytes, and the number of 8 bytes.
-use Rattle.std.proofs.Common.{◌≡◌, ℕ, ◌<◌, ◌≤◌, List, [], ◌∷◌, length, take, drop, refl, ap, arith}
+use Rattle.std.proofs.Common.{◌≡◌, ℕ, ◌≤◌, List, [], ◌∷◌, length, take, drop, ap, arith}
 use Rattle.std.specs.Int.{from_le_bytes, w64}
 use Rattle.er_binary.specs.Meaning.{mixed, mixed_all}
 use Rattle.er_binary.specs.Numbers.{number}
@@ -18,19 +18,3 @@ word_mixed sum (a ∷ b ∷ c ∷ d ∷ e ∷ []) long = absurd (omega arith)
 word_mixed sum (a ∷ b ∷ c ∷ d ∷ e ∷ f ∷ []) long = absurd (omega arith)
 word_mixed sum (a ∷ b ∷ c ∷ d ∷ e ∷ f ∷ g ∷ []) long = absurd (omega arith)
 word_mixed sum (a ∷ b ∷ c ∷ d ∷ e ∷ f ∷ g ∷ h ∷ bytes) long = ap (λ (word : ℕ). mixed_all (mixed sum word) bytes) (word_number a b c d e f g h)
-
--- what is left behind the words is mixed in as one
-pub rest_mixed : (sum : ℕ) (bytes : List ℕ) → length bytes < 8 → 0 < length bytes → mixed_all sum bytes ≡ mixed sum (number bytes)
-rest_mixed sum [] short some = absurd (omega arith)
-rest_mixed sum (a ∷ []) short some = refl
-rest_mixed sum (a ∷ b ∷ []) short some = refl
-rest_mixed sum (a ∷ b ∷ c ∷ []) short some = refl
-rest_mixed sum (a ∷ b ∷ c ∷ d ∷ []) short some = refl
-rest_mixed sum (a ∷ b ∷ c ∷ d ∷ e ∷ []) short some = refl
-rest_mixed sum (a ∷ b ∷ c ∷ d ∷ e ∷ f ∷ []) short some = refl
-rest_mixed sum (a ∷ b ∷ c ∷ d ∷ e ∷ f ∷ g ∷ []) short some = refl
-rest_mixed sum (a ∷ b ∷ c ∷ d ∷ e ∷ f ∷ g ∷ h ∷ bytes) short some = absurd (omega arith)
-
-pub none_mixed : (sum : ℕ) (bytes : List ℕ) → length bytes ≡ 0 → mixed_all sum bytes ≡ sum
-none_mixed sum [] none = refl
-none_mixed sum (a ∷ bytes) none = absurd (omega arith)

@@ -1,5 +1,5 @@
 -- Lines that are taken of words and of lock events.
-use Rattle.std.proofs.Common.{◌≡◌, ◌==◌, ◌&&◌, ℕ, zero, suc, ◌+◌, ◌-◌, ◌*◌, ◌/◌, ◌%◌, ◌^◌, ◌<◌, Bool, true, false, nat_lt, List, [], ◌∷◌, ◌++◌, length, codes, Option, Some, IfSome, refl, sym, ap, subst, ◌∙◌, arith, append_assoc, if◌then◌else◌, None, length-append}
+use Rattle.std.proofs.Common.{◌≡◌, ◌==◌, ◌&&◌, ℕ, ◌+◌, ◌-◌, ◌*◌, ◌/◌, ◌%◌, ◌^◌, ◌<◌, Bool, true, false, nat_lt, List, [], ◌∷◌, ◌++◌, length, codes, Option, Some, IfSome, refl, sym, ap, subst, ◌∙◌, arith, append_assoc, if◌then◌else◌, None, length-append}
 use Rattle.std.proofs.lemmas.Bool.Decides.{nat_tests}
 use Rattle.std.proofs.lemmas.List.Folds.{list_all_at}
 use Rattle.std.specs.List.{list_all}
@@ -183,11 +183,6 @@ after_named s kind.Lost n body behind right named = named
 after_named s kind.End n body behind right named = named
 
 -- a number that had a name has it still, whatever record came
-kept_at : (names more : List (List ℕ)) (n : ℕ) → has_bytes (name_at names n) ≡ true → name_at (names ++ more) n ≡ name_at names n
-kept_at [] more n some = absurd (cc some)
-kept_at (name ∷ names) more zero some = refl
-kept_at (name ∷ names) more (suc n) some = kept_at names more n some
-
 pub kept_all : (old new : State) → new.threads ≡ old.threads → new.locks ≡ old.locks → new.places ≡ old.places → (kind : NameKind) (n : ℕ) → names_in new kind n ≡ names_in old kind n
 kept_all old new threads locks places names.Thread n = ap (λ (t : List (List ℕ)). name_at t n) threads
 kept_all old new threads locks places names.Lock n = ap (λ (t : List (List ℕ)). name_at t n) locks

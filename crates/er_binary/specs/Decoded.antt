@@ -1,75 +1,45 @@
 -- What a reader of a trace of any form still gives, and what it notes of accesses.
-use Rattle.std.specs.Prelude.{◌≡◌, ℕ, Bool, true, false, cond, List, [], ◌++◌, Option, Some, drop, option_map, take}
+use Rattle.std.specs.Prelude.{◌≡◌, ℕ, Bool, cond, List, [], Option, Some, drop, option_map, take}
 use Rattle.er_device.specs.Keeping.{kept_source}
 use Rattle.er_lines.specs.declared.ready.NameKind.{NameKind}
-use Rattle.er_binary.specs.Inner.Decoders.{still, to_note}
-use Rattle.er_binary.specs.Meaning.{meant, touches}
-use Rattle.er_binary.specs.States.{names_in}
-use Rattle.er_binary.specs.declared.decoded.Decoded.{Decoded}
-use Rattle.er_binary.specs.declared.decoded.Form.{Form}
-use Rattle.er_binary.specs.declared.decoded.Form.TheVariants as form
 use Rattle.er_lines.specs.declared.ready.Touch.{Touch}
+use Rattle.er_binary.specs.Inner.Forms.{is_binary_by, is_noting_by, names_by, places_by, to_come_by, to_touch_by}
+use Rattle.er_binary.specs.Meaning.{meant, touches}
+use Rattle.er_binary.specs.declared.decoded.Decoded.{Decoded}
 
 -- the reader that it reads
 abbrev pub source_of : {R : Type 0} → Decoded R → R
 source_of decoded = kept_source decoded.inner
 
--- by what its first bytes were found to begin, these bytes, and those of them that are not given yet
-abbrev pub to_come_by : Form → List ℕ → List ℕ → List ℕ → List ℕ
-to_come_by form.Unknown first left bytes = meant (first ++ bytes)
-to_come_by form.Text first left bytes = left ++ bytes
-to_come_by (form.Binary decoder) first left bytes = still decoder bytes
-
 -- the text that it gives of these bytes
 unfoldable pub to_come : {R : Type 0} → Decoded R → List ℕ → List ℕ
 to_come decoded bytes = let first = take decoded.held decoded.first in to_come_by decoded.form first (drop decoded.given first) bytes
 
--- it has given nothing yet
+-- it has given nothing yet: of any bytes it gives the text that they mean
 abbrev pub IsFresh : {R : Type 0} → Decoded R → Type 0
 IsFresh decoded = (bytes : List ℕ) → to_come decoded bytes ≡ meant bytes
 
 -- the names of the places so far
-abbrev pub places_by : Form → List (List ℕ)
-places_by (form.Binary decoder) = decoder.state.places
-places_by f = []
-
 abbrev pub places_of : {R : Type 0} → Decoded R → List (List ℕ)
 places_of decoded = places_by decoded.form
 
--- the name of a number, and no bytes if it has none. A text has no numbers
-abbrev pub names_by : Form → NameKind → ℕ → List ℕ
-names_by (form.Binary decoder) = names_in decoder.state
-names_by f = λ kind n. []
-
+-- the name of a number, and no bytes if it has none
 abbrev pub names_of : {R : Type 0} → Decoded R → NameKind → ℕ → List ℕ
 names_of decoded = names_by decoded.form
 
--- what accesses touch that was noted and not handed out, and what is to be noted of these bytes: by what its first bytes were found to begin
-abbrev pub to_touch_by : Form → List ℕ → List ℕ → List Touch
-to_touch_by form.Unknown first bytes = touches (first ++ bytes)
-to_touch_by form.Text first bytes = []
-to_touch_by (form.Binary decoder) first bytes = to_note decoder bytes
-
+-- what accesses touch that was noted and not handed out, and what is to be noted of these bytes
 unfoldable pub to_touch : {R : Type 0} → Decoded R → List ℕ → List Touch
 to_touch decoded bytes = to_touch_by decoded.form (take decoded.held decoded.first) bytes
 
--- it has noted nothing yet
+-- it has noted nothing yet: of any bytes it notes what their accesses touch
 abbrev pub TouchesFresh : {R : Type 0} → Decoded R → Type 0
 TouchesFresh decoded = (bytes : List ℕ) → to_touch decoded bytes ≡ touches bytes
 
 -- whether it notes what accesses touch
-abbrev pub is_noting_by : Form → Bool → Bool
-is_noting_by (form.Binary decoder) asked = decoder.notes.is_on
-is_noting_by f asked = asked
-
 abbrev pub is_noting : {R : Type 0} → Decoded R → Bool
 is_noting decoded = is_noting_by decoded.form decoded.is_noting
 
 -- whether it has read the beginning of a binary trace
-abbrev pub is_binary_by : Form → Bool
-is_binary_by (form.Binary decoder) = true
-is_binary_by f = false
-
 abbrev pub is_binary : {R : Type 0} → Decoded R → Bool
 is_binary decoded = is_binary_by decoded.form
 

@@ -43,9 +43,11 @@ take_record s bytes = option_and_then (λ head. take_said s head.len (drop head.
 abbrev pub last_line : List ℕ → ℕ → List ℕ
 last_line what at = what ++ codes " at byte " ++ decimal at ++ feed
 
+-- a block is damaged, or a record may not come: at this byte
 abbrev pub damaged : ℕ → List ℕ
 damaged at = last_line (codes "damaged") at
 
+-- the bytes end too early: at this byte
 abbrev pub cut_off : ℕ → List ℕ
 cut_off at = last_line (codes "cut off") at
 

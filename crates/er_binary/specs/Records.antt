@@ -1,9 +1,10 @@
 -- Records: what the bytes of one say.
-use Rattle.std.specs.Prelude.{ℕ, ◌+◌, ◌-◌, ◌/◌, ◌%◌, ◌^◌, ◌==◌, ◌||◌, Bool, true, false, List, [], ◌∷◌, Option, Some, None, length, nat_le, nat_lt, slice_index, slice_index_or, if◌then◌else◌}
+use Rattle.std.specs.Prelude.{ℕ, ◌≤◌, ◌+◌, ◌-◌, ◌/◌, ◌%◌, ◌^◌, ◌==◌, ◌||◌, Bool, true, false, List, [], ◌∷◌, Option, Some, None, length, nat_le, nat_lt, slice_index, slice_index_or, if◌then◌else◌}
 use Rattle.er_binary.specs.Numbers.{number_in}
 use Rattle.er_binary.specs.declared.records.Head.{Head}
 use Rattle.er_binary.specs.declared.records.Kind.{Kind}
 use Rattle.er_binary.specs.declared.records.Kind.TheVariants as kind
+use Rattle.er_binary.specs.declared.records.Record.{Record}
 use Rattle.er_binary.specs.declared.records.Record.TheVariants as said
 
 -- the kinds of records by their numbers. Of those with one meaning the later are of tries, of loads, and of facts
@@ -12,16 +13,19 @@ kinds = kind.Thread ∷ kind.Node ∷ kind.Lock ∷ kind.Unlock ∷ kind.ReadLoc
     ∷ kind.Signal ∷ kind.Await ∷ kind.Start ∷ kind.Join ∷ kind.IgnoreOn ∷ kind.IgnoreOff ∷ kind.Reuse ∷ kind.Show ∷ kind.Level ∷ kind.Flow ∷ kind.Flow
     ∷ kind.ThreadName ∷ kind.LockName ∷ kind.Place ∷ kind.NewNode ∷ kind.Note ∷ kind.Fact ∷ kind.Fact ∷ kind.Fact ∷ kind.Fact ∷ kind.Lost ∷ kind.End ∷ []
 
+-- the kind of a record by its number
 abbrev pub kind_of : ℕ → Kind
 kind_of n = slice_index_or kinds n kind.Fact
 
--- how many bytes an operand, a distance and a node have, by two bits of the tag
+-- how many bytes an operand has, by the two lowest bits of the tag
 abbrev pub operand_len : ℕ → ℕ
 operand_len tag = slice_index (1 ∷ 2 ∷ 4 ∷ 8 ∷ []) (tag % 4)
 
+-- how many bytes a distance has, by the next two bits
 abbrev pub distance_len : ℕ → ℕ
 distance_len tag = slice_index (1 ∷ 2 ∷ 4 ∷ 6 ∷ []) (tag / 4 % 4)
 
+-- how many bytes the node of an access has, by the two lowest bits; with none it is the node before
 abbrev pub node_len : ℕ → ℕ
 node_len tag = slice_index (0 ∷ 1 ∷ 2 ∷ 4 ∷ []) (tag % 4)
 
@@ -92,3 +96,8 @@ is_event kind.Fact = false
 is_event kind.Lost = false
 is_event kind.End = false
 is_event k = true
+
+-- an access is of 1 to 16 bytes
+abbrev pub IsSized : Record → Type 0
+IsSized (said.Access a) = (1 ≤ a.size) × (a.size ≤ 16)
+IsSized (said.Other k n) = Unit {0}

@@ -32,10 +32,11 @@ at_block s = record s { thread = None; node = 0; last = replicate 256 0 }
 abbrev pub slot : State → ℕ
 slot s = unwrap_or s.thread 0 % 256
 
--- the address of an access, and its node
+-- the address of an access: so far behind the last one of its slot
 abbrev pub address_of : State → Access → ℕ
 address_of s a = (slice_index s.last (slot s) + a.distance) % 2 ^ 48
 
+-- the node of an access: the one that it names, or the last one
 abbrev pub node_of : State → Access → ℕ
 node_of s a = unwrap_or a.node s.node
 
@@ -43,6 +44,7 @@ node_of s a = unwrap_or a.node s.node
 abbrev pub is_access : State → Access → Bool
 is_access s a = is_some s.thread && nat_le (node_of s a) (length s.nodes) && nat_le (address_of s a + a.size) (2 ^ 48)
 
+-- what an access changes: the last node, the last address of its slot, and the count of events
 abbrev pub after_access : State → Access → State
 after_access s a = record s { node = node_of s a; last = slice_set s.last (slot s) (address_of s a); events = plus s.events 1 }
 

@@ -12,6 +12,7 @@ use Rattle.er_binary.specs.declared.state.State.{State}
 abbrev pub word : List ℕ → List ℕ
 word bytes = 32 ∷ bytes
 
+-- the end of a line
 abbrev pub feed : List ℕ
 feed = 10 ∷ []
 
@@ -23,6 +24,7 @@ thread_does s verb = name_at s.threads (unwrap_or s.thread 0) ++ word verb
 abbrev pub site : State → ℕ → List ℕ
 site s node = if node == 0 then [] else word (name_at s.places (node_at s.nodes (node_at s.nodes node).shown).place)
 
+-- the verb of an access
 abbrev pub access_verb : Access → List ℕ
 access_verb a = if a.writes then codes "write" else codes "read"
 
@@ -39,6 +41,7 @@ words_of address size = (address + size - 1) / 4 + 1 - address / 4
 abbrev pub access_text : State → Access → List ℕ
 access_text s a = access_lines s (access_verb a) (node_of s a) (address_of s a / 4) (words_of (address_of s a) a.size)
 
+-- the verb of another event; other records have none
 abbrev pub verb : Kind → List ℕ
 verb kind.Lock = codes "lock"
 verb kind.Unlock = codes "unlock"

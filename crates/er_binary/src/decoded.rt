@@ -20,7 +20,6 @@ pub trait Listener {
     fn hear(&mut self, bytes: &[u8], text: &[u8], state: &State);
 }
 
-// It hears nothing.
 impl Listener for () {
     fn hear(&mut self, _bytes: &[u8], _text: &[u8], _state: &State) {}
 }
@@ -150,7 +149,8 @@ impl<R: Drop> Decoded<R> {
 }
 
 impl<R: Read> Decoded<R> {
-    ghost use Rattle.er_binary.specs.Decoded.{is_noting, source_of, to_come, to_touch};
+    ghost use Rattle.er_binary.specs.Decoded.{is_noting, names_of, source_of, to_come, to_touch};
+    ghost use Rattle.er_lines.specs.Ready.{HasTaken, IsRight, KeepsNames, line_text};
     ghost use Rattle.er_lines.specs.Touches.{StaysKnown};
     ghost use Rattle.er_binary.specs.declared.decoded.Form.TheVariants as form;
 
@@ -220,15 +220,6 @@ impl<R: Read> Decoded<R> {
         self.given += count;
         Ok(count)
     }
-}
-
-/// Takes accesses and lock events of a binary trace before they are text, and hands out what was noted of accesses, if that is noted.
-#[derive(Clone, Copy)]
-pub struct Directly;
-
-impl<R: Read> Decoded<R> {
-    ghost use Rattle.er_binary.specs.Decoded.{is_noting, names_of, source_of, to_come, to_touch};
-    ghost use Rattle.er_lines.specs.Ready.{HasTaken, IsRight, KeepsNames, line_text};
 
     // Takes the next line, if it is ready.
     fn take_line(&mut self) -> Option<ReadyLine>
@@ -246,6 +237,10 @@ impl<R: Read> Decoded<R> {
     }
 }
 
+/// Takes accesses and lock events of a binary trace before they are text, and hands out what was noted of accesses, if that is noted.
+#[derive(Clone, Copy)]
+pub struct Directly;
+
 impl<R: Read> Shortcut<Decoded<R>> for Directly {
     ghost use Rattle.er_binary.specs.Decoded.{known_touches, names_of};
 
@@ -255,6 +250,10 @@ impl<R: Read> Shortcut<Decoded<R>> for Directly {
 
     fn read(&self, reader: &mut Decoded<R>, buffer: &mut [u8]) -> io::Result<usize> {
         reader.read_with(buffer, &mut ())
+    }
+
+    fn takes_most(&self, reader: &Decoded<R>) -> bool {
+        reader.is_binary()
     }
 
     fn take(&self, reader: &mut Decoded<R>) -> Option<ReadyLine> {

@@ -22,13 +22,13 @@ use std::io::{ErrorKind, Read};
 /// A place in a block: how many records were found, the block's number, the byte at which it begins, and the byte of the next record, all modulo
 /// 2^64. The block is to have `count` records and the checksum `sum`. What each record counts on stands apart: side by side it would go by vectors.
 #[derive(Clone, Copy)]
-pub(crate) struct Spot {
-    pub(crate) found: u64,
-    pub(crate) block: u64,
-    pub(crate) start: u64,
-    pub(crate) at: u64,
-    pub(crate) count: u32,
-    pub(crate) sum: u64,
+pub struct Spot {
+    pub found: u64,
+    pub block: u64,
+    pub start: u64,
+    pub at: u64,
+    pub count: u32,
+    pub sum: u64,
 }
 
 impl Spot {
@@ -447,13 +447,10 @@ fn said_in_front(is_asked: bool, state: &State, bytes: &[u8]) -> Said
     ensures few { result.words ≤ 5 }
     ensures below { result.address + result.size < 2 ^ 63 }
 {
-    if !is_asked {
-        return Said::lines(0);
+    if is_asked && let Some(head) = record_at(bytes) {
+        return state.said_by(head.says);
     }
-    match record_at(bytes) {
-        Some(head) => state.said_by(head.says),
-        None => Said::lines(0),
-    }
+    Said::lines(0)
 }
 
 // Whether the records of a block can't have so many bytes.

@@ -16,10 +16,13 @@
 #![tactic(auto)]
 
 pub use decoded::{Decoded, Directly, Listener};
+pub use decoder::Spot;
 pub use laws::a_touch_says_which_bytes_of_a_word;
 pub use names::{Names, number};
+pub use nodes::{Node, Nodes};
 pub use records::{Access, Head, Kind, Record, record_at};
 pub use state::State;
+pub use touches::Said;
 
 mod decoded;
 mod decoder;

@@ -11,10 +11,10 @@ const MOST_PLACES: u32 = 65;
 
 /// A place, the node of the call that it is in or 0, and the node whose place is shown for this one.
 #[derive(Clone, Copy)]
-pub(crate) struct Node {
-    pub(crate) caller: u64,
-    pub(crate) shown: u64,
-    pub(crate) place: u32,
+pub struct Node {
+    pub caller: u64,
+    pub shown: u64,
+    pub place: u32,
 }
 
 const NO_NODE: Node = Node {

@@ -1,7 +1,6 @@
 //! Records: what the bytes of one say.
 ghost use Rattle.std.specs.Prelude.{◌≡◌, ◌<◌, ◌≤◌, ◌^◌, length, IfSome};
-ghost use Rattle.er_binary.specs.Inner.Taking.{IsSized};
-ghost use Rattle.er_binary.specs.Records.{access_at, other_at, record_at, body_len, is_event, kind_of, signed, size_of};
+ghost use Rattle.er_binary.specs.Records.{IsSized, access_at, other_at, record_at, body_len, is_event, kind_of, signed, size_of};
 
 use crate::names::number;
 use Kind::*;

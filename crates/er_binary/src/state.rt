@@ -35,13 +35,18 @@ pub struct State {
     pub places: Names,
     /// Nodes.
     pub nodes: Nodes,
-    pub(crate) thread: Option<u64>,
+    /// The thread of what comes next, once the block has named one.
+    pub thread: Option<u64>,
     /// The node of the last event, or 0.
     pub node: u64,
-    pub(crate) last: [u64; 256],
-    pub(crate) events: u64,
-    pub(crate) lost: u64,
-    pub(crate) ended: bool,
+    /// The last address of the threads whose numbers leave this remainder by 256.
+    pub last: [u64; 256],
+    /// How many events there were, modulo 2^64.
+    pub events: u64,
+    /// How many were lost.
+    pub lost: u64,
+    /// Whether the record of the end came.
+    pub ended: bool,
 }
 
 /// Words of an access that are still to come: those from the address on, up to the end, which is counted in words.

@@ -2,7 +2,7 @@
 ghost use Rattle.std.specs.Prelude.{◌≡◌, ◌≤◌, ◌<◌, ◌^◌, ◌-◌, ◌*◌, ◌++◌, OnOk, codes, decimal, length};
 ghost use Rattle.er_binary.specs.Records.{body_len};
 ghost use Rattle.er_binary.specs.Inner.Words.{words_text};
-ghost use Rattle.er_binary.specs.Texts.{feed, lost_text, operand, site, text_of, thread_does, verb, word};
+ghost use Rattle.er_binary.specs.Texts.{lost_text, operand, site, text_of, thread_does, verb, word};
 
 use crate::names::{Put, number, put_address};
 use crate::records::Kind;

@@ -1,6 +1,6 @@
 //! Which bytes of their words accesses touch, by the lines of the text.
 ghost use Rattle.std.specs.Prelude.{◌≡◌, ◌∷◌, ℕ, ◌+◌, ◌<◌, ◌≤◌, ◌^◌, ◌++◌, [], IfOk, OnOk, OnErr, true, false, cond, vec_capacity, vec_len};
-ghost use Rattle.er_binary.specs.Inner.Taking.{IsSized};
+ghost use Rattle.er_binary.specs.Records.{IsSized};
 ghost use Rattle.er_binary.specs.Texts.{words_of};
 ghost use Rattle.er_binary.specs.Touches.{is_whole, lines_alone, lines_of, passed_by, said_by, touch_at, touches_said};
 
@@ -11,11 +11,11 @@ use std::alloc::{AllocError, Global};
 
 /// What a record says of the lines of its text: how many there are, and of an access, whose lines are of one word each, its address and size.
 #[derive(Clone, Copy)]
-pub(crate) struct Said {
-    pub(crate) address: u64,
-    pub(crate) size: u64,
-    pub(crate) words: u64,
-    pub(crate) lines: u64,
+pub struct Said {
+    pub address: u64,
+    pub size: u64,
+    pub words: u64,
+    pub lines: u64,
 }
 
 impl Said {

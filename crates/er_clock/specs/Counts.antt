@@ -15,6 +15,6 @@ own_begun t u = cond (t == u) 1 0
 abbrev pub known_to : ClockMap → ℕ → ℕ → ℕ
 known_to clocks t u = max (known_by clocks t u) (own_begun t u)
 
--- the same of one thread's clock
+-- the count of thread u up to which the thread of this clock knows its steps
 abbrev pub count_by : ℕ × Counts → ℕ → ℕ
 count_by clock u = max (count_in clock.1 u) (own_begun clock.0 u)

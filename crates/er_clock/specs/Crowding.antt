@@ -17,7 +17,7 @@ crowds_by t (Started other) = is_late t || is_late other
 crowds_by t (Joined other) = is_late t || is_late other
 crowds_by t _ = is_late t
 
--- the same of an act; a refused step is none
+-- the act is done by a late thread, or starts or joins one; a refused step does nothing
 abbrev pub crowds : Option Act → Bool
 crowds None = false
 crowds (Some a) = crowds_by a.thread a.sync
@@ -27,12 +27,12 @@ abbrev pub act_flows : Option Act → ℕ → Bool
 act_flows None t = false
 act_flows (Some a) t = flows a t
 
--- an effect orders threads
+-- what is done orders threads
 abbrev pub orders_by : Effect → Bool
 orders_by Local = false
 orders_by _ = true
 
--- an act does; a refused step is none
+-- the act orders threads; a refused step orders none
 abbrev pub orders : Option Act → Bool
 orders None = false
 orders (Some a) = orders_by a.sync
@@ -57,12 +57,12 @@ takes_part (Some a) t = a.thread == t || joins a.sync t
 abbrev pub HasLater : Acts → ℕ → Type 0
 HasLater acts n = (m t : ℕ) × (m ≤ n) × (128 ≤ t) × (takes_part (acts m) t ≡ true)
 
--- so it must be for clocks that are too large
+-- clocks are too large only where that is so; the other limits ask nothing of earlier steps
 abbrev pub HasLaterFor : Limit → Acts → ℕ → Type 0
 HasLaterFor limit.Clocks acts n = HasLater acts n
 HasLaterFor _ acts n = Unit {0}
 
--- one of the steps is
+-- one of the steps may be beyond this limit of the clocks, as they are when it is taken
 pub record BeyondIn (limit : Limit) (steps : List Step) : Type 0 where
   pub at : ℕ
   pub within : at < length steps

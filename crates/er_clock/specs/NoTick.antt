@@ -11,7 +11,7 @@ limit_text Count = codes "count full"
 limit_text Threads = codes "too many threads"
 limit_text Clocks = codes "clocks too large"
 
--- what is displayed
+-- why a clock does not tick, as it is displayed
 abbrev pub text_of : NoTick → List ℕ
 text_of (Beyond limit) = limit_text limit
 text_of OutOfMemory = codes "out of memory"

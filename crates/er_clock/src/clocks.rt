@@ -1,5 +1,5 @@
 //! The clocks of a list of steps.
-ghost use Rattle.std.specs.Prelude.{◌≡◌, ◌↔◌, ◌≤◌, ◌-◌, ◌^◌, ◌++◌, ◌∷◌, [], ℕ, List, Some, IsTrue, OnOk, OnErr, IsErrOf};
+ghost use Rattle.std.specs.Prelude.{◌≡◌, ◌↔◌, ◌-◌, ◌^◌, ◌++◌, ◌∷◌, [], ℕ, List, Some, IsTrue, OnOk, OnErr, IsErrOf};
 ghost use Rattle.er_event.specs.declared.steps.Step.{Step as Steps};
 ghost use Rattle.er_order.specs.Order.{Effect, sync_of, effect_of};
 ghost use Rattle.er_order.specs.Clocks.{OfThread};
@@ -76,8 +76,8 @@ impl Clocks {
     ///
     /// # Errors
     /// `Limit::Threads`: an accepted step that orders threads is by a thread whose number is 65,536 or more, or starts or joins one. Else
-    /// `Limit::Clocks`: the clocks are too large, or were too much work, and its thread knows a step of a thread after the first 128, be it its own. Else `Limit::Count`: a thread's
-    /// own count would rise, and is the greatest. `OutOfMemory`: memory was refused.
+    /// `Limit::Clocks`: the clocks are too large, or were too much work, and the step's thread knows a step of a thread after the first 128, be it its
+    /// own. Else `Limit::Count`: a thread's own count would rise, and is the greatest. `OutOfMemory`: memory was refused.
     pub fn follow(&mut self, step: &Step, accepted: bool) -> Result<(), NoTick>
         ensures goes_on { (steps : List Steps) → StandsForClocksOf self.old steps → accepted ≡ is_accepted steps step.now
             → OnOk result (StandsForClocksOf self.new (steps ++ step.now ∷ [])) }

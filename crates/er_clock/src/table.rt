@@ -22,7 +22,7 @@ pub(crate) struct ClockTable {
 }
 
 impl Model for ClockTable {
-    ghost use Rattle.std.specs.Prelude.{◌≡◌, ℕ, List};
+    ghost use Rattle.std.specs.Prelude.{ℕ, List};
     ghost use Rattle.er_clock.specs.Clock.{Counts, IsZero};
 
     ghost Value = { List (ℕ × Counts) };

@@ -1,7 +1,7 @@
 -- A count of the numbers that pass a test changes by one if the test changes at one number.
 use Rattle.std.proofs.Common.{◌≡◌, ℕ, zero, suc, ◌+◌, ◌-◌, ◌==◌, ◌<◌, ◌≤◌, nat_lt, Bool, true, false, cond, refl, ap, ap₂, sym, ◌∙◌, arith}
 use Rattle.std.proofs.lemmas.Bool.{eqb-true, eqb-false, ltb-true, ltb-false}
-use Rattle.er_damage.specs.Inner.Counts.{count_below, IsCount}
+use Rattle.er_damage.specs.Counts.{count_below, IsCount}
 
 -- tests that agree below the bound
 pub count-agree : (n : ℕ) (p q : ℕ → Bool) → ((t : ℕ) → t < n → q t ≡ p t) → count_below n q ≡ count_below n p

@@ -13,7 +13,7 @@ use Rattle.er_model.specs.Threads.{accepted}
 use Rattle.er_model.specs.Holdings.{Holdings, refused_by, changed_by, changed_unless, after_step}
 use Rattle.er_model.proofs.Changes.{has-at_level}
 use Rattle.er_model.proofs.Threads.{has-without_lock}
-use Rattle.er_damage.specs.Inner.Counts.{IsCount}
+use Rattle.er_damage.specs.Counts.{IsCount}
 use Rattle.er_damage.specs.Inner.Steps.{holders_after, writers_after, unless_refused}
 use Rattle.er_damage.proofs.CountLemmas.{count_same, count_up, count_down}
 

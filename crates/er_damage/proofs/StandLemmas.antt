@@ -20,7 +20,7 @@ use Rattle.er_model.proofs.Changes.{write-held}
 use Rattle.er_model.proofs.Prefixes.{holdings-front, answer-front, holdings-grow, holdings-empty, answer-grow}
 use Rattle.er_damage.specs.Damage.{IsRefusedAt, IsHeldTwiceAt, IsFirstLine, kept_from}
 use Rattle.er_damage.specs.Standing.{Inspected, StandsFor}
-use Rattle.er_damage.specs.Inner.Counts.{IsCount}
+use Rattle.er_damage.specs.Counts.{IsCount}
 use Rattle.er_damage.specs.Inner.Steps.{Follows, holders_after, writers_after, unless_refused, doubles, doubles_unless, found_line}
 use Rattle.er_damage.proofs.CountLemmas.{count_same, count_found, count_none, count_nobody}
 use Rattle.er_damage.proofs.HoldLemmas.{plain_lock, free_lock, holders_step, writers_step}

@@ -1,3 +1,2 @@
--- What an inspector counts and keeps from step to step. No clause that a caller needs cites these modules.
-pub mod Counts
+-- What an inspector makes of each step. No clause that a caller needs cites these modules.
 pub mod Steps

@@ -1,3 +1,4 @@
+pub mod Counts
 pub mod Inner
 pub mod Damage
 pub mod Damaged

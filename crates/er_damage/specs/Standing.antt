@@ -5,10 +5,9 @@ use Rattle.er_event.specs.Lockset.{has, is_level_lock}
 use Rattle.er_held.specs.ThreadLocks.{held_by}
 use Rattle.er_model.specs.Holdings.{Holdings, holdings_end}
 use Rattle.er_damage.specs.Damage.{IsRefusedAt, IsHeldTwiceAt, IsFirstLine}
-use Rattle.er_damage.specs.Inner.Counts.{IsCount}
+use Rattle.er_damage.specs.Counts.{IsCount}
 
--- what each thread holds; how many threads hold each lock, and how many to write; the line of the first refused step, and that of the first step
--- by which a lock is held twice
+-- what each thread holds, how many threads hold each lock, and to write, and the lines of the first refused step and the first by which a lock is held twice
 pub record Inspected : Type 0 where
   pub threads : List Holdings
   pub holders : List ℕ

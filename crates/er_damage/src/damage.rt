@@ -1,5 +1,5 @@
 //! `Damage`, what is damaged in a trace.
-ghost use Rattle.std.specs.Prelude.{◌≡◌, ℕ, List};
+ghost use Rattle.std.specs.Prelude.{◌≡◌};
 ghost use Rattle.er_damage.specs.Damaged.{has_damage};
 
 use er_text::Lost;

@@ -28,7 +28,7 @@ is_shard_of detector shard word = shard.name == detector.name && shard.number ==
 abbrev pub IsListed : SeatList → SeatList → ℕ → Kind → ℕ → ℕ → Reply → Type 0
 IsListed seat next word kind site ticket reply = next ≡ with_call seat (ticketed (Access kind word site) ticket reply)
 
--- and the shard's journal has one entry more, with what the seat's thread holds
+-- the shard's journal has one entry more, the access with the locks that the seat's thread holds
 abbrev pub IsEntered : SeatList → Journaled → Journaled → ℕ → Kind → ℕ → ℕ → Reply → Type 0
 IsEntered seat shard longer word kind site ticket reply = longer ≡ with_entry shard (entry_of ticket seat.thread (Stamped (access_stamp seat word kind site)) reply)
 

@@ -1,5 +1,5 @@
 //! How a detector is made.
-ghost use Rattle.std.specs.Prelude.{◌≡◌, ◌≤◌, IsSome, IfSome};
+ghost use Rattle.std.specs.Prelude.{◌≡◌, IsSome, IfSome};
 ghost use Rattle.er_detector.specs.Limits.{IsShardCount, IsLimit};
 
 /// How a detector is made. The numbers are in their limits.

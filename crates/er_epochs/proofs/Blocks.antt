@@ -93,11 +93,6 @@ module _ {A : Type 0} where
       by true e = ap (λ v. known_beside new.lists w v) (silent (eqb-true n w e)) ∙ sym (ap (λ v. known_beside old.lists w v) (silent (eqb-true n w e)))
       by false e = ap (λ reads. known_with (slot_among old.blocks w) reads) (others w e)
 
-  -- as before any access
-  pub absent_word : (all : AllWords A) (word number : ℕ) → number ≡ word / 32 → lookup (nat_eq number) all.blocks ≡ None → known_among all word ≡ Since []
-  unfolding known_among
-  absent_word all word number is absent = ap (λ o. known_beside all.lists word (slot_in_block o (word % 32))) (ap (λ q. lookup (nat_eq q) all.blocks) (sym is) ∙ absent)
-
   -- some words of a block are reset
   pub reset_block : (old new : AllWords A) (number lo hi : ℕ) (was words : BlockWords A)
       → Some was ≡ lookup (nat_eq number) old.blocks → Puts old.blocks new.blocks number words

@@ -93,12 +93,6 @@ module _ {A : Type 0} (clock : ℕ → ℕ) where
           ap (λ o. is_some (option_or o (find (is_apart clock) (option_to_list latest.write)))) e
           ∙ (one latest.write ∙ sym (ap (λ b. some_apart clock latest.write || b) (any-found (is_apart clock) latest.reads ∙ ap is_some e)))
 
-  pub found_raced : (stored : Stored A) (kind : Kind) (a : A) → Some a ≡ tag_found clock stored kind → is_raced clock stored kind ≡ true
-  found_raced stored kind a is = sym (some_raced stored kind) ∙ ap is_some (sym is)
-
-  pub found_quiet : (stored : Stored A) (kind : Kind) → None ≡ tag_found clock stored kind → is_raced clock stored kind ≡ false
-  found_quiet stored kind is = sym (some_raced stored kind) ∙ ap is_some (sym is)
-
   pub quiet_found : (stored : Stored A) (kind : Kind) → is_raced clock stored kind ≡ false → None ≡ tag_found clock stored kind
   quiet_found stored kind quiet = none_if (tag_found clock stored kind) (some_raced stored kind ∙ quiet)
 

@@ -15,10 +15,6 @@ pub record Latest (A : Type 0) : Type 0 where
   pub write : Option (Tagged A)
   pub reads : List (Tagged A)
 
--- with no access in it
-abbrev pub untouched : {A : Type 0} → Latest A
-untouched = record { write = None; reads = [] }
-
 -- what is stored of a word: these, or that a race was reported
 pub data Stored (A : Type 0) : Type 0 where
   Accesses : (latest : Latest A) → Stored A
@@ -28,11 +24,11 @@ pub data Stored (A : Type 0) : Type 0 where
 abbrev pub tagged : {A : Type 0} → ℕ → ℕ → A → Tagged A
 tagged t n a = record { epoch = record { thread = t; count = n }; tag = a }
 
--- its thread and its count
+-- the epoch of an access: its thread and that thread's count
 abbrev pub pair_of : {A : Type 0} → Tagged A → Epoch
 pair_of access = (access.epoch.thread, access.epoch.count)
 
--- that of a thread's number and its count; from 2^30 on no thread has the number
+-- the access that a word has by a thread's number, a count and a tag; no thread has a number from 2^30 on, so that says that there is none
 abbrev pub access_in : {A : Type 0} → ℕ → ℕ → A → Option (Tagged A)
 access_in number count tag = cond (nat_lt number (2 ^ 30)) (Some (tagged number count tag)) None
 
@@ -41,6 +37,7 @@ pub data Readers (A : Type 0) : Type 0 where
   Alone : (read : Option (Tagged A)) → Readers A
   Listed : Readers A
 
+-- the reads that a word has by a thread's number, a count and a tag; one number says that the reads are in a list
 abbrev pub readers_in : {A : Type 0} → ℕ → ℕ → A → Readers A
 readers_in number count tag = cond (nat_eq number (2 ^ 30 + 1)) Listed (Alone (access_in number count tag))
 
@@ -53,17 +50,17 @@ reads_beside Listed listed = listed
 abbrev pub is_apart : {A : Type 0} → (ℕ → ℕ) → Tagged A → Bool
 is_apart clock access = is_unordered clock (pair_of access)
 
--- the same of one that there may be
+-- there is an access, and the clock doesn't cover it
 abbrev pub some_apart : {A : Type 0} → (ℕ → ℕ) → Option (Tagged A) → Bool
 some_apart clock None = false
 some_apart clock (Some access) = is_apart clock access
 
--- an access of this kind, by a thread whose clock this is, is reported
+-- an access of this kind, by a thread whose clock this is, is reported: the clock does not cover an access that it conflicts with
 abbrev pub is_raced : {A : Type 0} → (ℕ → ℕ) → Stored A → Kind → Bool
 is_raced clock Told kind = false
 is_raced clock (Accesses latest) kind = some_apart clock latest.write || (is_writing kind && list_any (is_apart clock) latest.reads)
 
--- the access in the place of those that the clock covers
+-- the latest accesses after one more: a read takes the place of the reads that the clock covers, a write that of all
 abbrev pub latest_by : {A : Type 0} → (ℕ → ℕ) → Latest A → Tagged A → Kind → Latest A
 latest_by clock before access reading = record { write = before.write; reads = access ∷ filter (is_apart clock) before.reads }
 latest_by clock before access writing = record { write = Some access; reads = [] }
@@ -78,17 +75,17 @@ abbrev pub reads_of : {A : Type 0} → Stored A → List (Tagged A)
 reads_of Told = []
 reads_of (Accesses latest) = latest.reads
 
--- the same with these reads
+-- what is stored, with these reads in the place of its own
 abbrev pub with_reads : {A : Type 0} → Stored A → List (Tagged A) → Stored A
 with_reads Told reads = Told
 with_reads (Accesses latest) reads = Accesses (record { write = latest.write; reads = reads })
 
--- what may be stored after it
+-- what may be stored after an access: of reads any that serve as well as all of them
 abbrev pub IsStoredBy : {A : Type 0} → (ℕ → ℕ) → Stored A → Tagged A → Kind → Stored A → Type 0
 IsStoredBy {A} clock before access reading after = (noted : List (Tagged A)) × (after ≡ with_reads (stored_by clock before access reading) noted) × IsNoted pair_of clock (reads_of before) access noted
 IsStoredBy clock before access writing after = after ≡ stored_by clock before access writing
 
--- those that an access of this kind conflicts with, the last one first
+-- the accesses that one of this kind conflicts with, the last one first
 abbrev pub rivals_of : {A : Type 0} → Latest A → Kind → List (Tagged A)
 rivals_of latest kind = cond (is_writing kind) latest.reads [] ++ option_to_list latest.write
 
@@ -101,7 +98,7 @@ abbrev pub tag_found : {A : Type 0} → (ℕ → ℕ) → Stored A → Kind → 
 tag_found clock Told kind = None
 tag_found clock (Accesses latest) kind = tag_of_first clock (rivals_of latest kind)
 
--- a count that its thread has, if it has one, is no less
+-- the newest access of a thread, if it has one, is no older than one of this count
 abbrev pub is_replaced : Option ℕ → ℕ → Bool
 is_replaced None count = false
 is_replaced (Some newest) count = nat_le count newest

@@ -47,7 +47,7 @@ whole_access kind access = record { access = access; kind = kind; bytes = whole 
 abbrev pub accesses_of : {A : Type 0} → Latest A → List (ByteAccess A)
 accesses_of latest = map (whole_access reading) latest.reads ++ map (whole_access writing) (option_to_list latest.write)
 
--- what is known by what is stored of a word that all accesses touch whole
+-- what is known by what is stored, if all accesses touch the whole word
 abbrev pub known_of : {A : Type 0} → Stored A → Known A
 known_of Told = Raced
 known_of (Accesses latest) = Since (accesses_of latest)

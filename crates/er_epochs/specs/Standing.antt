@@ -22,19 +22,19 @@ use Rattle.er_epochs.specs.Words.{AllWords, known_among}
 abbrev pub access_at : {A : Type 0} → Acts → Reading → (ℕ → A) → ℕ → Tagged A
 access_at acts r tags k = tagged (thread_of (r k)) (own_count acts k (thread_of (r k))) (tags k)
 
--- a write or else a read
+-- a write, or else a read
 abbrev pub kind_of : Mark → Kind
 kind_of mark = cond (writes mark) writing reading
 
--- and its kind and bytes
+-- the access at position k, with its tag, its kind and its bytes
 abbrev pub byte_access_at : {A : Type 0} → Acts → Reading → (ℕ → A) → Touched → ℕ → ByteAccess A
 byte_access_at acts r tags touched k = record { access = access_at acts r tags k; kind = kind_of (r k); bytes = touched k }
 
--- what the reading says of the word
+-- what a list, read so, says at point n of word w: the accesses of its era, or that the era had a race
 unfoldable pub known : {A : Type 0} → Acts → Reading → (ℕ → A) → Touched → ℕ → ℕ → Known A
 known acts r tags touched w n = cond (had_race (by_bytes touched (happens_before acts)) r w n) Raced (Since (map (byte_access_at acts r tags touched) (accesses r w n)))
 
--- after the first n steps of a list
+-- what a list of steps says of word w after its first n steps
 abbrev pub known_at : {A : Type 0} → (ℕ → A) → Touched → List Step → ℕ → ℕ → Known A
 known_at tags touched steps w n = known (acts_of steps) (reading_of steps) tags touched w n
 

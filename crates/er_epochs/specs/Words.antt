@@ -13,11 +13,11 @@ pub record Said (A : Type 0) : Type 0 where
   pub write : Option (Tagged A)
   pub readers : Readers A
 
--- a writer of this number is none: a race was reported
+-- what a word says by its numbers and counts; a certain number in the place of the writer says that a race was reported
 abbrev pub said : {A : Type 0} → OrderWord A → Said A
 said word = record { told = nat_eq word.writer (2 ^ 30 + 1); write = access_in word.writer word.write_count word.write_tag; readers = readers_in word.reader word.read_count word.read_tag }
 
--- the other word is the same, but for its tags
+-- the two words say the same, but for their tags
 abbrev pub IsButForTags : {A : Type 0} → OrderWord A → OrderWord A → Type 0
 IsButForTags word other = (other.writer ≡ word.writer) × (other.write_count ≡ word.write_count) × (other.reader ≡ word.reader) × (other.read_count ≡ word.read_count)
 
@@ -25,10 +25,11 @@ IsButForTags word other = (other.writer ≡ word.writer) × (other.write_count �
 abbrev pub blank : {A : Type 0} → Said A
 blank = record { told = false; write = None; readers = Alone None }
 
--- what it says with the list beside it
+-- what is stored of a word by what it says and the list of reads beside it
 abbrev pub stored_with : {A : Type 0} → Said A → List (Tagged A) → Stored A
 stored_with word listed = cond word.told Told (Accesses (record { write = word.write; reads = reads_beside word.readers listed }))
 
+-- what is stored of a word with this list of reads beside it
 abbrev pub stored_in : {A : Type 0} → OrderWord A → List (Tagged A) → Stored A
 stored_in word listed = stored_with (said word) listed
 
@@ -58,13 +59,15 @@ pub record Slot (A : Type 0) : Type 0 where
   pub word : Said A
   pub split : Option (Known A)
 
+-- what stands at a place of a block
 abbrev pub slot_at : {A : Type 0} → BlockWords A → ℕ → Slot A
 slot_at block place = record { word = word_at block.words place; split = lookup (nat_eq place) block.split }
 
--- where there is no block, words say nothing
+-- what stands at a place of a block that is not there
 abbrev pub vacant : {A : Type 0} → Slot A
 vacant = record { word = blank; split = None }
 
+-- what stands at a place of a block that may not be there
 abbrev pub slot_in_block : {A : Type 0} → Option (BlockWords A) → ℕ → Slot A
 slot_in_block None place = vacant
 slot_in_block (Some block) place = slot_at block place
@@ -73,11 +76,11 @@ slot_in_block (Some block) place = slot_at block place
 abbrev pub WordBlocks : Type 0 → Type 0
 WordBlocks A = List (ℕ × BlockWords A)
 
--- the word of this number
+-- what stands at the place of the word of this number
 abbrev pub slot_among : {A : Type 0} → WordBlocks A → ℕ → Slot A
 slot_among blocks w = slot_in_block (lookup (nat_eq (w / 32)) blocks) (w % 32)
 
--- what is known of it with the list beside it
+-- what is known of a word by what stands at its place and the list of reads beside it
 abbrev pub known_with : {A : Type 0} → Slot A → List (Tagged A) → Known A
 known_with slot listed = unwrap_or slot.split (known_of (stored_with slot.word listed))
 
@@ -90,7 +93,7 @@ pub record AllWords (A : Type 0) : Type 0 where
   pub blocks : WordBlocks A
   pub lists : WordLists A
 
--- what is known of the word
+-- what is known of the word of this number
 unfoldable pub known_among : {A : Type 0} → AllWords A → ℕ → Known A
 known_among all w = known_beside all.lists w (slot_among all.blocks w)
 

@@ -1,5 +1,5 @@
 -- Facts on what a call answers that std doesn't have, and that several crates use.
-use Rattle.std.proofs.Common.{Result, Ok, Err, OnOk, OnErr, IfErr, IsErrAnd}
+use Rattle.std.proofs.Common.{Result, Ok, Err, OnOk, OnErr}
 
 -- what follows from a fact about one outcome
 pub on_ok : {T E : Type 0} (r : Result T E) (P Q : Type 0) → OnOk r P → (P → Q) → OnOk r Q

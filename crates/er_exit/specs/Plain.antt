@@ -7,7 +7,7 @@ use Rattle.std.specs.Char.{digit_char}
 abbrev pub is_printable : ℕ → Bool
 is_printable byte = nat_le 32 byte && nat_le byte 126
 
--- or a line feed
+-- a printable byte of ASCII, or a line feed
 abbrev pub is_plain_byte : ℕ → Bool
 is_plain_byte byte = is_printable byte || byte == 10
 
@@ -23,6 +23,7 @@ escape byte = cond (byte == 9) (codes "\\t") (cond (byte == 13) (codes "\\r") (c
 unfoldable pub shown_byte : ℕ → List ℕ
 shown_byte byte = cond (is_printable byte) (byte ∷ []) (escape byte)
 
+-- bytes as a terminal shows them
 abbrev pub shown : List ℕ → List ℕ
 shown bytes = flat_map shown_byte bytes
 

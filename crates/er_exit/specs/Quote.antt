@@ -16,5 +16,6 @@ quote_from line start place =
     codes "    " ++ front_mark start ++ fitting 100 (drop start line) ++ 10 ∷ []
     ++ codes "    " ++ map (λ byte. 32) (front_mark start ++ shown (take (place - start) (drop start line))) ++ codes "^\n"
 
+-- a line of a trace with a mark under one of its bytes
 abbrev pub quote_text : List ℕ → ℕ → List ℕ
 quote_text line place = quote_from line (start_of line place) place

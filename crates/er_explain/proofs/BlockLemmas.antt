@@ -265,13 +265,6 @@ module _ {A : Type 0} where
   unfolding kept_books
   own_book places books now place seen within = kept_at _ now place seen within
 
-  past_block : (places : List ℕ) (books now : List (Book A)) (place : ℕ) → kept_books places books ≡ now → nat_lt place 32 ≡ false → book_at_place now place ≡ Untouched
-  unfolding kept_books
-  past_block places books now place seen past =
-      ap (λ bs. book_at_place bs place) (sym seen)
-      ∙ (listed-from (book_of places books) 32 place
-      ∙ ap (λ b. cond b (book_of places books place) Untouched) past)
-
   -- the books of a block without books
   pub nothing_kept : (places : List ℕ) (books : List (Book A)) → books ≡ [] → (i : ℕ) → book_at_place (kept_books places books) i ≡ Untouched
   unfolding kept_books

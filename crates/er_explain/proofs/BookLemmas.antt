@@ -51,10 +51,6 @@ joining-injective e f same =
     let pairs : e.uncovered ≡ f.uncovered = placed-injective e.uncovered f.uncovered (ap (λ (j : Joining ℕ). j.pairs) same) in
     λ i. record { first = same_first i; join = same_join i; write = same_write i; uncovered = pairs i }
 
--- a joining whose write isn't found is no explanation's
-pub unwritten : (j : Joining ℕ) (e : Explanation) → j.write ≡ None → j ≡ joining_of e → ⊥
-unwritten j e none is = let never : None ≡ Some e.write = sym none ∙ ap (λ (k : Joining ℕ). k.write) is in cc
-
 abbrev at_of : Option (Pair ℕ) → Option ℕ
 at_of None = None
 at_of (Some q) = q.at

@@ -323,25 +323,6 @@ pub record AreEmptiedFrom {A : Type 0} (ps : List ℕ) (books : List (Book A)) (
   pub inside : (i : ℕ) → is_between lo hi i ≡ true → (number_at left i < number) ⊎ (book_of left fewer i ≡ Untouched)
 
 module _ {A : Type 0} (ps : List ℕ) (books : List (Book A)) (lo hi : ℕ) where
-  pub emptied-all : (number : ℕ) → number ≡ length books → AreApart ps (length books) → AreEmptiedFrom ps books ps books lo hi number
-  emptied-all number all was =
-      record { apart = was; few = omega (arith, all); outside = λ i out. refl; inside = λ i in_it. by i (below_or (number_at ps i) number) }
-    where
-      by : (i : ℕ) → (number_at ps i < number) ⊎ (number ≤ number_at ps i) → (number_at ps i < number) ⊎ (book_of ps books i ≡ Untouched)
-      by i (inl below) = inl below
-      by i (inr past) = inr (past_end books (number_at ps i) (omega (arith, past, all)))
-
-  pub emptied-none : (left : List ℕ) (fewer : List (Book A)) (number : ℕ) → number ≡ 0 → AreEmptiedFrom ps books left fewer lo hi number
-      → (i : ℕ) → book_of left fewer i ≡ cond (is_between lo hi i) Untouched (book_of ps books i)
-  emptied-none left fewer number zero_left so_far i = by (is_between lo hi i) refl
-    where
-      nothing : (number_at left i < number) ⊎ (book_of left fewer i ≡ Untouched) → book_of left fewer i ≡ Untouched
-      nothing (inl below) = absurd (omega (arith, below, zero_left))
-      nothing (inr empty) = empty
-
-      by : (t : Bool) → is_between lo hi i ≡ t → book_of left fewer i ≡ cond t Untouched (book_of ps books i)
-      by true e = nothing (so_far.inside i e)
-      by false e = so_far.outside i e
 
   module _ (left : List ℕ) (fewer : List (Book A)) (before number : ℕ) (next : number + 1 ≡ before) (so_far : AreEmptiedFrom ps books left fewer lo hi before) where
     -- a number of another place

@@ -9,9 +9,11 @@ abbrev pub named_option : {A B : Type 0} → (A → B) → Option A → Option B
 named_option f None = None
 named_option f (Some a) = Some (f a)
 
+-- a lock, and the access that it doesn't cover by its other name
 abbrev pub named_pair : {A B : Type 0} → (A → B) → Pair A → Pair B
 named_pair f pair = record { lock = pair.lock; at = named_option f pair.at }
 
+-- what was found of a word that two threads accessed, each access by its other name
 abbrev pub named_joining : {A B : Type 0} → (A → B) → Joining A → Joining B
 named_joining f j = record { first = f j.first; join = f j.join; write = named_option f j.write; pairs = map (named_pair f) j.pairs }
 

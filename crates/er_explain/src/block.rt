@@ -1,5 +1,5 @@
 //! `Block`, the books of words that lie side by side.
-ghost use Rattle.std.specs.Prelude.{◌≡◌, ◌<◌, ◌≤◌, ◌+◌, ◌&&◌, ℕ, nat_eq, nat_le, cond, [], length, slice_index_or, option_copied, OnOk, ◌==◌};
+ghost use Rattle.std.specs.Prelude.{◌≡◌, ◌<◌, ◌≤◌, ◌+◌, ◌&&◌, ℕ, nat_eq, nat_le, cond, length, option_copied, OnOk, ◌==◌};
 ghost use Rattle.er_explain.specs.Book.{Untouched};
 ghost use Rattle.er_explain.specs.Books.{book_accessed};
 ghost use Rattle.er_explain.specs.Inner.Places.{book_of, number_at, place_at, AreApart};

@@ -1,5 +1,5 @@
 //! `Book`, what one pass over a list of steps keeps of a word.
-ghost use Rattle.std.specs.Prelude.{◌≡◌, ◌<◌, ◌≤◌, ◌↔◌, ℕ, length, map, IfOk, OnOk, None, Some, option_copied};
+ghost use Rattle.std.specs.Prelude.{◌≡◌, ◌<◌, map, IfOk, OnOk, None, Some, option_copied};
 ghost use Rattle.er_explain.specs.Book.{Owned};
 ghost use Rattle.er_explain.specs.Books.{begun, gone_on, pair_after, book_accessed};
 ghost use Rattle.er_explain.specs.WordBooks.{joining_in};

@@ -1,11 +1,11 @@
 //! `WordBooks`, the books of all words.
-ghost use Rattle.std.specs.Prelude.{◌≡◌, ◌==◌, ◌<◌, ◌≤◌, ◌/◌, ◌%◌, ℕ, nat_eq, nat_le, cond, slice_get, option_copied, Some, None, IfSome, IfNone, OnOk};
+ghost use Rattle.std.specs.Prelude.{◌≡◌, ◌==◌, ◌<◌, ℕ, cond, option_copied, Some, None, OnOk};
 ghost use Rattle.er_explain.specs.Book.{Untouched, access_of};
 ghost use Rattle.er_explain.specs.Books.{book_accessed, book_after};
 ghost use Rattle.er_explain.specs.WordBooks.{book_in, is_place_in, joining_in};
 ghost use Rattle.er_held.specs.ThreadLocks.{held_by};
 ghost use Rattle.er_model.specs.Following.{locks_for, marked};
-ghost use Rattle.er_model.specs.Words.{is_within, Reused};
+ghost use Rattle.er_model.specs.Words.{is_within};
 
 use crate::Made;
 use crate::block::Block;

@@ -193,11 +193,6 @@ unfolding locks_from
 locks-last l zero = let here : l + zero ≡ l = omega arith in rw here refl
 locks-last l (suc n) = let next : l + suc n ≡ suc l + n = omega arith in rw next (ap (λ xs. l ∷ xs) (locks-last (suc l) n))
 
-length-locks_from : (l n : ℕ) → length (locks_from l n) ≡ n
-unfolding locks_from
-length-locks_from l zero = refl
-length-locks_from l (suc n) = ap suc (length-locks_from (suc l) n)
-
 -- a part of them
 drop-locks : (l k n : ℕ) → drop k (locks_from l (k + n)) ≡ locks_from (l + k) n
 unfolding locks_from

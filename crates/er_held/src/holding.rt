@@ -1,10 +1,11 @@
 //! `Held`, what one thread holds.
-ghost use Rattle.std.specs.Prelude.{◌≡◌, ◌+◌, ◌-◌, ◌<◌, ◌≤◌, ◌↔◌, ◌++◌, ℕ, false, IsTrue, IsFalse, IsOk, IfOk, IfErr, IfNone, IsOkUnless, OnOk, OnErr, insert, length, slice_index, None, Some};
+ghost use Rattle.std.specs.Prelude.{◌≡◌, ◌+◌, ◌-◌, ◌<◌, ◌≤◌, ◌↔◌, ℕ, false, IsTrue, IsFalse, IsOk, IfOk, IfErr, IsOkUnless, OnOk, OnErr, insert, length, slice_index, None, Some};
 ghost use Rattle.er_event.specs.Lockset.{has, level_locks, is_level_lock, with_lock};
+ghost use Rattle.er_model.specs.Following.{locks_for};
 ghost use Rattle.er_model.specs.Holdings.{acquired_among, refused_by, changed_by, changed_unless};
 ghost use Rattle.er_held.specs.Held.{nothing_held, takes_memory};
 
-use er_event::{Event, Level, LockId, Lockset, Mode, Refusal};
+use er_event::{Event, Kind, Level, LockId, Lockset, Mode, Refusal};
 use std::alloc::{AllocError, Global};
 use std::marker::Model;
 
@@ -64,7 +65,16 @@ impl Held {
     pub fn write_held(&self) -> &Lockset
         ensures { result.now ≡ self.now.write_held }
     {
-        if self.is_apart {
+        self.cover(Kind::Write)
+    }
+
+    /// The locks that cover an access of this kind: those that are held in any mode for a read, and those in write mode for a write.
+    // Mostly both are the same list, and then nothing asks for the kind, which is hard to foretell.
+    #[inline(always)]
+    pub fn cover(&self, kind: Kind) -> &Lockset
+        ensures { result.now ≡ locks_for self.now kind }
+    {
+        if self.is_apart && kind == Kind::Write {
             &self.write_mode
         } else {
             &self.any_mode

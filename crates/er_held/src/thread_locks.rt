@@ -58,10 +58,9 @@ impl ThreadLocks {
     ) -> Result<Lockset, AllocError>
         ensures { IfOk result (λ locks. locks ≡ locks_for (held_by self.now thread) kind) }
     {
-        match (self.by_thread.get(thread.number() as usize), kind) {
-            (Some(held), Kind::Read) => held.held().copy(),
-            (Some(held), Kind::Write) => held.write_held().copy(),
-            (None, _) => Ok(Lockset::new(alloc)),
+        match self.by_thread.get(thread.number() as usize) {
+            Some(held) => held.cover(kind).copy(),
+            None => Ok(Lockset::new(alloc)),
         }
     }
 
@@ -69,10 +68,9 @@ impl ThreadLocks {
     pub fn covers(&self, thread: ThreadId, kind: Kind, lock: LockId) -> bool
         ensures { result ≡ has (locks_for (held_by self.now thread) kind) lock }
     {
-        match (self.by_thread.get(thread.number() as usize), kind) {
-            (Some(held), Kind::Read) => held.held().contains(lock),
-            (Some(held), Kind::Write) => held.write_held().contains(lock),
-            (None, _) => false,
+        match self.by_thread.get(thread.number() as usize) {
+            Some(held) => held.cover(kind).contains(lock),
+            None => false,
         }
     }
 

@@ -15,7 +15,7 @@ shown answer.Ignored = Ok reply.Ignored
 shown (answer.State state) = Ok (reply.State state.now)
 shown (answer.Refused why) = Err why
 
--- the answer of a show
+-- it is the answer of a show
 abbrev pub is_state : Result Reply Refusal → Bool
 is_state (Ok (reply.State state)) = true
 is_state _ = false

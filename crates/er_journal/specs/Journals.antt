@@ -24,11 +24,11 @@ mark_of_what (Reset range) = Reused range
 abbrev pub note_of : Entry → Noted
 note_of entry = record { mark = mark_of_what entry.what; reply = entry.reply }
 
--- the journal's, in order
+-- the journal's entries as marks with their replies, in order
 abbrev pub notes_of : List Entry → List Noted
 notes_of entries = map note_of entries
 
--- each reply is the one that the journal, read so, gives
+-- each entry's reply is the one that the lockset rule gives after the entries before it
 abbrev pub IsLegalJournal : List Entry → Type 0
 IsLegalJournal entries = IsLegal (notes_of entries)
 

@@ -42,10 +42,11 @@ unfoldable pub replies_of : List Step → List Reply → ℕ → ℕ → List Re
 replies_of steps replies t zero = []
 replies_of steps replies t (suc n) = replies_of steps replies t n ++ reply_by t (slice_get steps n) (reply_at replies n)
 
--- the calls' events, and their replies
+-- the events of the calls, in order
 abbrev pub events_in : List Call → List Event
 events_in calls = map (λ call. call.event) calls
 
+-- the replies of the calls, in order
 abbrev pub replies_in : List Call → List Reply
 replies_in calls = map (λ call. call.reply) calls
 
@@ -64,11 +65,12 @@ unfoldable pub stamps_of : ℕ → ℕ → List Step → ℕ → List Stamp
 stamps_of shards i steps zero = []
 stamps_of shards i steps (suc n) = stamps_of shards i steps n ++ cond (is_in_shard shards i (reading_of steps n)) (stamp_of steps n (slice_get steps n)) []
 
--- the stamps of a journal, in order
+-- the stamp of what an entry records: an access has one, a reuse has none
 abbrev pub stamp_in : What → Option Stamp
 stamp_in (Stamped stamp) = Some stamp
 stamp_in (Reset range) = None
 
+-- the stamps of a journal, in order
 abbrev pub stamps_in : List Entry → List Stamp
 stamps_in entries = filter_map (λ entry. stamp_in entry.what) entries
 

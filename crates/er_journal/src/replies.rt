@@ -1,5 +1,5 @@
 //! Replies that tell no state, kept small.
-ghost use Rattle.std.specs.Prelude.{◌≡◌, ◌↔◌, Bool, cond, IsTrue};
+ghost use Rattle.std.specs.Prelude.{◌≡◌, ◌↔◌, cond, IsTrue};
 
 use er_event::Reply;
 use std::marker::Model;

@@ -10,7 +10,7 @@ use Rattle.er_report.specs.declared.report.Line.{Line}
 use Rattle.er_report.specs.declared.report.Line.TheVariants.{Race, Reused, Refused, Shown}
 use Rattle.er_json.specs.Sarif.{races_like, results_below, results_of}
 use Rattle.er_print.specs.declared.lines.ReportKind.{ReportKind}
-use Rattle.er_sites.specs.Inner.Counted.{AreCounts, count_like}
+use Rattle.er_sites.specs.Counted.{AreCounts, count_like}
 use Rattle.er_sites.specs.declared.counts.Counts.{Counts}
 use Rattle.er_trace.specs.Names.{NameTable}
 

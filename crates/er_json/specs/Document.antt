@@ -74,6 +74,7 @@ abbrev pub calls_member : PlaceTable → List ℕ → List ℕ
 calls_member table [] = []
 calls_member table (call ∷ calls) = codes ",\"calls\":" ++ array_text (call_text table) (call ∷ calls)
 
+-- the name is known: it has a byte
 abbrev pub is_known : List ℕ → Bool
 is_known [] = false
 is_known (byte ∷ name) = true
@@ -92,7 +93,7 @@ abbrev pub functions_text : PlaceTable → Option Place → List ℕ
 functions_text table place =
     codes ",\"functions\":[" ++ name_value (function_of table place) ++ flat_map (function_item table) (calls_of table place) ++ codes "]"
 
--- if one of them is known
+-- the functions of an access and its calls, if one of them is known
 abbrev pub functions_member : PlaceTable → Option Place → List ℕ
 functions_member table place =
     cond (is_known (function_of table place) || list_any (λ (call : ℕ). is_known (call_function table call)) (calls_of table place)) (functions_text table place) []
@@ -133,7 +134,7 @@ subject_by table word None (Some block) =
     ++ taken_at table block.place
 subject_by table word None None = []
 
--- a reuse has none
+-- what raced, if that is known; a reuse has nothing
 unfoldable pub subject_member : PlaceTable → ℕ → Deed → List ℕ
 subject_member table number (deed.Access kind word) = subject_by table word (variable_of table word) (block_of table number word)
 subject_member table number (deed.Reuse range) = []
@@ -170,16 +171,19 @@ row_text names table (RefusedView number step refusal) = refused_text names numb
 row_text names table (ShownView number word state) =
     codes "{\"line\":" ++ decimal number ++ codes ",\"address\":\"" ++ address_text word ++ codes "\",\"state\":\"" ++ state_member names state
 
+-- the line tells a race
 abbrev pub is_race : LineView → Bool
 is_race (RacedView race) = true
 is_race (RefusedView number step refusal) = false
 is_race (ShownView number word state) = false
 
+-- the line tells of a refused step
 abbrev pub is_refused : LineView → Bool
 is_refused (RacedView race) = false
 is_refused (RefusedView number step refusal) = true
 is_refused (ShownView number word state) = false
 
+-- the line tells the state of a word
 abbrev pub is_shown : LineView → Bool
 is_shown (RacedView race) = false
 is_shown (RefusedView number step refusal) = false
@@ -223,7 +227,7 @@ abbrev pub began_row : NameTable → PlaceTable → ℕ → Option Start → Lis
 began_row names table thread None = []
 began_row names table thread (Some start) = started_row names table thread start.name.items start.place
 
--- and of the thread of a number
+-- where the thread of a number was started, if that is known
 abbrev pub thread_row : NameTable → PlaceTable → ℕ → List ℕ
 thread_row names table thread = began_row names table thread (start_of table (name_at names.threads thread))
 
@@ -232,13 +236,13 @@ abbrev pub created_text : Bool → List ℕ
 created_text true = codes ",\"created\":true}"
 created_text false = codes ",\"created\":false}"
 
--- where that call was, if it is known
+-- where the life of a lock began, if that is known
 abbrev pub born_row : PlaceTable → ℕ → Option Birth → List ℕ
 born_row table lock None = []
 born_row table lock (Some birth) =
     codes ",\n{\"lock\":" ++ lock_in style.Json table.names lock ++ codes ",\"site\":" ++ string_text (call_name table birth.place) ++ created_text birth.is_created
 
--- and of the lock of a number
+-- where the life of the lock of a number began, if that is known
 abbrev pub birth_row : PlaceTable → ℕ → List ℕ
 birth_row table lock = born_row table lock (birth_of table lock)
 
@@ -267,15 +271,16 @@ document_text heading names table s =
     lists_text heading names table s.lines ++ stop_member s.stop ++ counts_member s.rule_counts ++ mentions_member mention.Threads names table s.lines
     ++ mentions_member mention.Locks names table s.lines ++ totals_member s
 
--- if there is such a report
+-- the document of a report, if there is one
 abbrev pub document_if : List ℕ → NameTable → PlaceTable → Option Report → List ℕ
 document_if heading names table None = []
 document_if heading names table (Some report) = document_text heading names table (told report)
 
--- what the documents begin with: only that by happens-before names its analysis
+-- what the document of the lockset rule begins with
 abbrev pub lockset_heading : List ℕ
 lockset_heading = codes "{\"format\":1,\n\"races\":["
 
+-- what the document by happens-before begins with: it names its analysis
 abbrev pub order_heading : List ℕ
 order_heading = codes "{\"format\":1,\"analysis\":\"happens-before\",\n\"races\":["
 

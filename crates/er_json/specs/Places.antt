@@ -2,6 +2,7 @@
 use Rattle.std.specs.Prelude.{ℕ, zero, suc, ◌+◌, ◌==◌, ◌&&◌, Bool, false, cond, nat_le, nat_lt, List, [], ◌∷◌, length, drop, slice_index, Option, Some, None}
 use Rattle.std.specs.List.{list_all}
 
+-- the byte is a decimal digit
 abbrev pub is_digit : ℕ → Bool
 is_digit byte = nat_le 48 byte && nat_le byte 57
 
@@ -21,5 +22,6 @@ colon_of name None = None
 colon_of name (Some zero) = None
 colon_of name (Some (suc n)) = cond (is_line (drop (suc n + 1) name)) (Some (suc n)) None
 
+-- the colon of a site's name between a file and a line, if the name ends with both
 abbrev pub file_end : List ℕ → Option ℕ
 file_end name = colon_of name (colon_below name (length name))

@@ -32,11 +32,12 @@ use Rattle.er_sites.specs.Text.{did_text, subject_text}
 use Rattle.er_trace.specs.Names.{NameTable}
 use Rattle.er_triage.specs.Texts.{target_text}
 
--- what a thread did that is a race, as a verb and in words
+-- what a thread did that is a race, as a verb
 abbrev pub verb_of : Deed → List ℕ
 verb_of (deed.Access kind word) = kind_text kind
 verb_of (deed.Reuse range) = codes "reuse"
 
+-- what a thread did that is a race, in words, with what raced
 abbrev pub deed_words : PlaceTable → ℕ → Deed → List ℕ
 deed_words table number (deed.Access kind word) = did_text kind ++ subject_text style.InString table number word ++ (codes " the word at " ++ address_text word)
 deed_words table number (deed.Reuse range) = codes " gave back " ++ decimal (bytes_between range.lo range.hi) ++ codes " bytes at " ++ address_text range.lo
@@ -71,6 +72,7 @@ place_by site function (Some n) = file_member site n ++ function_text (codes ",\
 unfoldable pub open_location : List ℕ → List ℕ → List ℕ
 open_location site function = place_by site function (file_end site)
 
+-- the one location of a result
 unfoldable pub location_member : List ℕ → List ℕ
 location_member site = codes ",\"locations\":[" ++ open_location site [] ++ codes "}]"
 
@@ -93,7 +95,7 @@ abbrev pub locks_words : NameTable → List ℕ → List ℕ → List ℕ
 locks_words names writes [] = codes " no lock"
 locks_words names writes (lock ∷ locks) = values_text (lock_words names writes) (lock ∷ locks)
 
--- if that is known
+-- the locks that the thread of an access held, if that is known
 unfoldable pub holding_words : NameTable → Option Place → List ℕ
 holding_words names None = []
 holding_words names (Some place) = codes ", holding" ++ locks_words names place.write_held place.held
@@ -103,14 +105,14 @@ abbrev pub opening_of : NameTable → List ℕ → ℕ → List ℕ
 opening_of names function zero = codes "{"
 opening_of names function (suc n) = open_location (name_at names.sites n) function ++ codes ","
 
--- if that is known
+-- where an access stood, as far as that is known
 abbrev pub opening_text : PlaceTable → Option Place → List ℕ
 opening_text table None = codes "{"
 opening_text table (Some place) = opening_of table.names (function_of table (Some place)) place.site
 
--- one of a race's reasons
-unfoldable pub reason_text : NameTable → PlaceTable → Because → List ℕ
-reason_text names table because =
+-- one of a race's reasons as a location: where its access stood, what it has to do with the race, and which locks its thread held
+unfoldable pub reason_location : NameTable → PlaceTable → Because → List ℕ
+reason_location names table because =
     opening_text table (reason_place table because) ++ sentence_words names because ++ holding_words table.names (reason_place table because) ++ codes "\"}}"
 
 -- what is wrong, and how often; then comes where
@@ -119,7 +121,7 @@ front_text of names table race count =
     rule_front of ++ verb_of race.deed ++ codes "\",\"level\":\"error\",\"message\":{\"text\":\"" ++ thread_in style.InString names race.thread ++ deed_words table race.line race.deed
     ++ (cause_words of ++ codes "\"},\"occurrenceCount\":" ++ decimal count ++ codes ",\"locations\":[")
 
--- where it is: at its site, or a reuse without one at the address of its first byte
+-- where a race is: at its site, or a reuse without one at the address of its first byte
 abbrev pub race_site : NameTable → ℕ → Deed → List ℕ
 race_site names zero (deed.Reuse range) = address_text range.lo
 race_site names (suc n) (deed.Reuse range) = site_text names (suc n)
@@ -134,7 +136,7 @@ place_text site function deed =
 unfoldable pub frame_text : List ℕ → List ℕ → List ℕ
 frame_text site function = codes "{\"location\":" ++ open_location site function ++ codes "}}"
 
--- that of a call, behind a comma
+-- the frame of a call, behind a comma
 abbrev pub call_frame : PlaceTable → ℕ → List ℕ
 call_frame table call = codes "," ++ frame_text (call_name table call) (call_function table call)
 
@@ -145,12 +147,12 @@ stack_text table place (call ∷ calls) =
     codes ",{\"message\":{\"text\":\"line " ++ decimal place.line ++ codes " of the trace\"},\"frames\":[" ++ frame_text (site_text table.names place.site) (function_of table (Some place))
     ++ flat_map (call_frame table) (call ∷ calls) ++ codes "]}"
 
--- if the place is known
+-- the stack of an access, if its place is known
 abbrev pub stack_if : PlaceTable → Option Place → List ℕ
 stack_if table None = []
 stack_if table (Some place) = stack_text table place (calls_of table (Some place))
 
--- that of a reason, unless it is the race itself, which is on this line
+-- the stack of a reason, unless it is the race itself, which is on this line
 abbrev pub reason_stack : PlaceTable → ℕ → Because → List ℕ
 reason_stack table number because = cond (because.line == number) [] (stack_if table (reason_place table because))
 
@@ -165,7 +167,7 @@ stacks_member stacks = list_member (codes ",\"stacks\":[") stacks
 -- how it came about, the calls that led there, the line of the first race, and the locks that its thread held
 unfoldable pub back_text : NameTable → PlaceTable → RaceView → List ℕ
 back_text names table race =
-    values_text (reason_text names table) race.explained ++ codes "]" ++ stacks_member (stacks_text table race)
+    values_text (reason_location names table) race.explained ++ codes "]" ++ stacks_member (stacks_text table race)
     ++ (codes ",\"properties\":{\"line\":" ++ decimal race.line ++ codes ",\"held\":" ++ locks_in style.Json names race.held ++ codes "}}")
 
 -- a result: so many races here, and the first of them
@@ -187,9 +189,11 @@ abbrev pub results_if : ReportKind → NameTable → PlaceTable → ℕ → ℕ 
 results_if of names table before count None = []
 results_if of names table before count (Some race) = cond (before == 0) (result_text of names table race (max count 1) ∷ []) []
 
+-- the result of a line, if it is the first race of its site and kind
 abbrev pub results_of : ReportKind → NameTable → PlaceTable → ℕ → ℕ → Line → List (List ℕ)
 results_of of names table before count line = results_if of names table before count (race_of (line_view line))
 
+-- the result of the line at position n
 abbrev pub results_at : ReportKind → NameTable → PlaceTable → List Line → ℕ → Option Line → List (List ℕ)
 results_at of names table lines n None = []
 results_at of names table lines n (Some line) = results_of of names table (races_like (take n lines) line) (races_like lines line) line
@@ -205,7 +209,7 @@ taken_text of rule count =
     rule_front of ++ codes "suppressed\",\"level\":\"error\",\"message\":{\"text\":\"Races that a rule takes: " ++ escaped_text rule
     ++ codes "\"},\"occurrenceCount\":" ++ decimal count
 
--- where they are, if the rule is for one site that has a name
+-- where the races that a rule takes are, if it is for one site that has a name
 abbrev pub target_location : Target → List ℕ
 target_location (AtSite (Some name)) = location_member name
 target_location (AtSite None) = []
@@ -213,7 +217,7 @@ target_location (AtSites pattern) = []
 target_location (AtFact kind pattern) = []
 target_location (AtWords words) = []
 
--- that they count as suppressed, by the rule of this text and number; the fingerprint is the same in each run
+-- that races count as suppressed, by the rule of this text and number; the fingerprint is the same in each run
 unfoldable pub suppression_text : List ℕ → ℕ → List ℕ
 suppression_text rule number =
     codes ",\"partialFingerprints\":{\"rule/v1\":\"" ++ escaped_text rule ++ codes "\"},\"suppressions\":[{\"kind\":\"external\",\"justification\":\"rule " ++ decimal number ++ codes "\"}]}"
@@ -227,6 +231,7 @@ abbrev pub suppressed_of : ReportKind → ℕ → Option ℕ → Target → List
 suppressed_of of number None target = []
 suppressed_of of number (Some count) target = cond (count == 0) [] (suppressed_text of number count target ∷ [])
 
+-- the result of the rule at position k
 abbrev pub suppressed_at : ReportKind → List ℕ → ℕ → Option Target → List (List ℕ)
 suppressed_at of counts k None = []
 suppressed_at of counts k (Some target) = suppressed_of of (k + 1) (slice_get counts k) target
@@ -249,10 +254,11 @@ rules_text Unordered = codes "{\"id\":\"unordered/read\",\"shortDescription\":{\
 unfoldable pub start_text : ReportKind → List ℕ
 start_text of = codes "{\n\"tool\":{\"driver\":{\"name\":\"eraser\",\"rules\":[" ++ rules_text of ++ codes ",\n\"results\":["
 
--- what is said of the run, between these, if events were lost
+-- what stands before the number of lost events
 abbrev pub before_lost : List ℕ
 before_lost = codes ",\n\"invocations\":[{\"executionSuccessful\":true,\"toolExecutionNotifications\":[{\"level\":\"warning\",\"message\":{\"text\":\""
 
+-- what stands behind the number of lost events
 abbrev pub after_lost : List ℕ
 after_lost = codes " events were lost: the report is of a part of the run\"}}]}]"
 
@@ -265,7 +271,7 @@ unfoldable pub run_text : ReportKind → NameTable → PlaceTable → List Targe
 run_text of names table targets r =
     start_text of ++ rows_text (all_results of names table r.lines.items r.rule_counts.items targets) ++ end_text r.lost
 
--- if there is such a report
+-- the run of a report, if there is one
 abbrev pub run_if : ReportKind → NameTable → PlaceTable → List Target → Option Report → List ℕ
 run_if of names table targets None = []
 run_if of names table targets (Some r) = run_text of names table targets r

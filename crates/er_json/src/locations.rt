@@ -1,8 +1,8 @@
 //! Where in the program accesses stand, what their threads held, and the reasons of a result.
-ghost use Rattle.std.specs.Prelude.{◌≡◌, ◌++◌, ◌<◌, flat_map, length, option_copied, All, IfSome, OnOk};
+ghost use Rattle.std.specs.Prelude.{◌≡◌, ◌++◌, ◌<◌, flat_map, length, option_copied, IfSome, OnOk};
 ghost use Rattle.std.specs.List.{list_all};
 ghost use Rattle.er_json.specs.Places.{colon_below, file_end, is_digit, is_line};
-ghost use Rattle.er_json.specs.Sarif.{HasLockNames, HasPlaceNames, HasReasonNames, file_member, function_text, holding_words, location_member, locks_words, mode_words, open_location, opening_text, reason_place, reason_text, sentence_words, values_text};
+ghost use Rattle.er_json.specs.Sarif.{HasLockNames, HasPlaceNames, HasReasonNames, file_member, function_text, holding_words, location_member, locks_words, mode_words, open_location, opening_text, reason_location};
 ghost use Rattle.er_json.specs.Uris.{digit_byte, is_path_byte, uri_byte};
 
 use er_event::{LockId, Lockset};
@@ -73,22 +73,11 @@ fn put_file(out: &mut Vec<u8>, site: &[u8], place: usize) -> Put
     Ok(())
 }
 
-/// Puts the accesses that make the first race.
-pub(crate) fn put_reasons(out: &mut Vec<u8>, legend: &Legend, explained: &[Because]) -> Put
-    requires { All (HasReasonNames legend.now.names.now) explained.now }
-    ensures { OnOk result (out.new.items ≡ out.old.items ++ values_text (reason_text legend.now.names.now legend.now.places.now) explained.now) }
-{
-    for (place, because) in explained.iter().enumerate() {
-        out.extend_from_slice(comma_before(place))?;
-        put_reason(out, legend, because)?;
-    }
-    Ok(())
-}
-
-#[tactic(auto, unfolding(crate::specs::Sarif::reason_text))]
-fn put_reason(out: &mut Vec<u8>, legend: &Legend, because: &Because) -> Put
+/// Puts a reason as a location of a log.
+#[tactic(auto, unfolding(crate::specs::Sarif::reason_location))]
+pub(crate) fn put_reason(out: &mut Vec<u8>, legend: &Legend, because: &Because) -> Put
     requires { HasReasonNames legend.now.names.now because.now }
-    ensures { OnOk result (out.new.items ≡ out.old.items ++ reason_text legend.now.names.now legend.now.places.now because.now) }
+    ensures { OnOk result (out.new.items ≡ out.old.items ++ reason_location legend.now.names.now legend.now.places.now because.now) }
 {
     let names = legend.places.names();
     let place = legend.places.of_reason(because);

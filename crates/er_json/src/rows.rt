@@ -2,8 +2,10 @@
 ghost use Rattle.std.specs.Prelude.{◌≡◌, ◌++◌, ◌<◌, ◌||◌, All, filter, flat_map, length, option_copied, None, Some, IfOk, OnOk};
 ghost use Rattle.std.specs.List.{list_any};
 ghost use Rattle.er_places.specs.Names.{call_function};
-ghost use Rattle.er_json.specs.Document.{HasEventNames, HasLabelName, HasNames, HasPlaceNames, HasRaceNames, HasReasonNames, HasStateNames, call_text, calls_member, event_lock, is_held_to_read, label_member, line_view, place_if, place_member, race_front, reason_place, reason_text, reasons_end, refused_text, row_text, state_member, values_text, function_item, functions_member, is_known, name_value, subject_by, subject_member};
+ghost use Rattle.er_json.specs.Document.{HasEventNames, HasLabelName, HasNames, HasPlaceNames, HasRaceNames, HasReasonNames, HasStateNames, calls_member, event_lock, is_held_to_read, label_member, line_view, place_if, place_member, race_front, reason_place, reason_text, reasons_end, refused_text, row_text, state_member, values_text, function_item, functions_member, is_known, name_value, subject_by, subject_member};
+ghost use Rattle.er_json.specs.Inner.Sections.{reason_in};
 
+use crate::locations;
 use er_event::{Event, LockId, Lockset, Refusal, Step, Word, WordState};
 use er_places::{Block, Legend, Place, Places};
 use er_print::Piece::{Address, Lock, Locks, Name, NamedSite, Number, Site, Text, Thread, Verb};
@@ -11,6 +13,13 @@ use er_print::{Put, Style, bytes_of, comma_before, event_verb, put, put_string};
 use er_report::{Because, Deed, Label, Line, Race};
 use er_trace::Names;
 use std::alloc::{AllocError, Global};
+
+/// What a reason of a race is written as: an object of a document, or a location of a log.
+#[derive(Clone, Copy, Drop)]
+pub(crate) enum Form {
+    Object,
+    Location,
+}
 
 /// Puts the object of a line.
 pub(crate) fn put_row(out: &mut Vec<u8>, legend: &Legend, line: &Line) -> Put
@@ -65,7 +74,7 @@ fn put_end(out: &mut Vec<u8>, legend: &Legend, race: &Race<'_>) -> Put
     ensures { OnOk result (out.new.items ≡ out.old.items ++ reasons_end legend.now.names.now legend.now.places.now race.now) }
 {
     let places = legend.places;
-    put_reasons(out, legend, race.explained)?;
+    put_reasons(out, Form::Object, legend, race.explained)?;
     out.extend_from_slice(b"]")?;
     let own = places.of_race(race);
     put_calls(out, places, places.calls_of(own))?;
@@ -74,15 +83,26 @@ fn put_end(out: &mut Vec<u8>, legend: &Legend, race: &Race<'_>) -> Put
     out.extend_from_slice(b"}")
 }
 
-fn put_reasons(out: &mut Vec<u8>, legend: &Legend, explained: &[Because]) -> Put
-    requires { All (HasReasonNames legend.now.names.now) explained.now }
-    ensures { OnOk result (out.new.items ≡ out.old.items ++ values_text (reason_text legend.now.names.now legend.now.places.now) explained.now) }
+/// Puts the accesses that make a race, each in this form.
+pub(crate) fn put_reasons(out: &mut Vec<u8>, of: Form, legend: &Legend, reasons: &[Because]) -> Put
+    requires { All (HasReasonNames legend.now.names.now) reasons.now }
+    ensures { OnOk result (out.new.items ≡ out.old.items ++ values_text (reason_in of legend.now.names.now legend.now.places.now) reasons.now) }
 {
-    for (place, because) in explained.iter().enumerate() {
+    for (place, because) in reasons.iter().enumerate() {
         out.extend_from_slice(comma_before(place))?;
-        put_reason(out, legend, because)?;
+        put_reason_in(out, of, legend, because)?;
     }
     Ok(())
+}
+
+fn put_reason_in(out: &mut Vec<u8>, of: Form, legend: &Legend, because: &Because) -> Put
+    requires { HasReasonNames legend.now.names.now because.now }
+    ensures { OnOk result (out.new.items ≡ out.old.items ++ reason_in of legend.now.names.now legend.now.places.now because.now) }
+{
+    match of {
+        Form::Object => put_reason(out, legend, because),
+        Form::Location => locations::put_reason(out, legend, because),
+    }
 }
 
 #[tactic(auto, unfolding(crate::specs::Document::reason_text))]

@@ -1,5 +1,5 @@
 //! A result for each rule of suppressions that takes races.
-ghost use Rattle.std.specs.Prelude.{◌≡◌, ◌++◌, ◌&&◌, ◌==◌, ℕ, List, length, IfOk, OnOk};
+ghost use Rattle.std.specs.Prelude.{◌≡◌, ◌++◌, ◌&&◌, ℕ, List, length, IfOk, OnOk};
 ghost use Rattle.er_json.specs.Inner.Sections.{has_none, next_text, rows_text};
 ghost use Rattle.er_rules.specs.Rules.{target_of, targets_of};
 ghost use Rattle.er_json.specs.Sarif.{suppressed_below, suppressed_of, suppressed_text, suppression_text, taken_text, target_location};

@@ -79,6 +79,10 @@ impl<R: Read, S: Shortcut<R>> Shortcut<Prefix<'_, R, S>> for ByPrefix {
         prefix.read(buffer)
     }
 
+    fn takes_most(&self, _prefix: &Prefix<'_, R, S>) -> bool {
+        false
+    }
+
     fn take(&self, _prefix: &mut Prefix<'_, R, S>) -> Option<ReadyLine> {
         None
     }

@@ -74,6 +74,9 @@ pub trait Shortcut<R: Read> {
         ensures bytes { ReadConsumes (R.remaining reader.old) (R.remaining reader.new) result buffer.new }
         ensures touches { StaysKnown (touches reader.old) (touches reader.new) };
 
+    /// Whether most lines are ready, so that one thread that takes them is faster than several that read text. It changes nothing of what they are.
+    fn takes_most(&self, reader: &R) -> bool;
+
     /// Takes the next line, if it is ready. None changes nothing of what the reader gives.
     fn take(&self, reader: &mut R) -> Option<ReadyLine>
         ensures taken { HasTaken (R.remaining reader.old) (R.remaining reader.new) (line_text (names_of reader.new)) result }
@@ -112,6 +115,10 @@ impl<R: Read> Shortcut<R> for ByText {
     #[inline(always)]
     fn read(&self, reader: &mut R, buffer: &mut [u8]) -> io::Result<usize> {
         reader.read(buffer)
+    }
+
+    fn takes_most(&self, _reader: &R) -> bool {
+        false
     }
 
     #[inline(always)]

@@ -1,7 +1,7 @@
 -- Workers that are joined one by one.
 use Rattle.std.proofs.Common.{inl, inr, ◌≡◌, ◌∙◌, ℕ, zero, suc, ◌<◌, List, [], ◌∷◌, ◌++◌, length, map, refl, sym, ap, arith, append_assoc, length-append}
 use Rattle.std.specs.Prelude.{◌⊎◌, Some, slice_get, Result, Ok, Err, IfOk, IfErr, IsErrAnd, IsTrue}
-use Rattle.std.proofs.lemmas.List.{map-append, length-map}
+use Rattle.std.proofs.lemmas.List.{length-map}
 use Rattle.std.proofs.lemmas.Bool.{cases_lt}
 use Rattle.std.proofs.lemmas.Option.{slice_get_within}
 use Rattle.er_event.specs.declared.refusals.Refusal.{Refusal}
@@ -44,15 +44,6 @@ pub record AreJoined (workers rest : List Worker) (answers : List (Result SeatLi
   pub answered : (workload : Workload) (stage : Stage) → AreWorkers workload stage workers → AreAnswersAt (done_after workload stage) answers
   pub met : AreMet answers
 
-pub joined-none : (workers rest : List Worker) (answers : List (Result SeatList Refusal)) → answers ≡ [] → rest ≡ workers → AreJoined workers rest answers
-joined-none workers rest answers empty all = record {
-  gone = [];
-  split = sym all;
-  count = ap length empty;
-  met = λ t answer is. absurd (let nowhere : slice_get [] t ≡ Some answer = sym (ap (λ (xs : List (Result SeatList Refusal)). slice_get xs t) empty) ∙ is in let within = slice_get_within [] t answer nowhere in omega arith);
-  answered = λ workload stage are t answer is. absurd (let nowhere : slice_get [] t ≡ Some answer = sym (ap (λ (xs : List (Result SeatList Refusal)). slice_get xs t) empty) ∙ is in let within = slice_get_within [] t answer nowhere in omega arith);
-}
-
 pub joined-more : (workers rest left : List Worker) (answers now : List (Result SeatList Refusal)) (w : Worker) (answer : Result SeatList Refusal)
     → AreJoined workers rest answers → rest ≡ w ∷ left → now ≡ answers ++ answer ∷ []
     → ((workload : Workload) (stage : Stage) (t : ℕ) → EndsAt workload stage t w → IfOk answer (λ seat. IsSeatAt t (done_after workload stage t) seat))
@@ -67,15 +58,6 @@ joined-more workers rest left answers now w answer far next grown ends meets = r
       let last : IfOk answer (λ seat. IsSeatAt (length far.gone) (done_after workload stage (length far.gone)) seat) = ends workload stage (length far.gone) (are (length far.gone) w at) in
       rw grown (placed-push (λ t r. IfOk r (λ seat. IsSeatAt t (done_after workload stage t) seat)) answers answer (far.answered workload stage are) (rw far.count last)));
 }
-
--- the seats among the answers so far
-pub seats-more : (all rest left : List (Result SeatList Refusal)) (seats now : List SeatList) (seat : SeatList)
-    → all ≡ map Ok seats ++ rest → rest ≡ Ok seat ∷ left → now ≡ seats ++ seat ∷ [] → all ≡ map Ok now ++ left
-seats-more all rest left seats now seat far next grown =
-    far ∙ ap (λ (xs : List (Result SeatList Refusal)). map Ok seats ++ xs) next
-    ∙ sym (append_assoc (map Ok seats) (Ok seat ∷ []) left)
-    ∙ ap (λ (xs : List (Result SeatList Refusal)). xs ++ left) (sym (map-append Ok seats (seat ∷ [])))
-    ∙ ap (λ (ss : List SeatList). map Ok ss ++ left) (sym grown)
 
 first-behind : (seats : List SeatList) (why : Refusal) (left : List (Result SeatList Refusal)) → first_refusal (map Ok seats ++ Err why ∷ left) ≡ Some why
 first-behind [] why left = refl

@@ -2,7 +2,6 @@
 use Rattle.std.proofs.Common.{inl, inr, ◌≡◌, ◌∙◌, ℕ, zero, suc, ◌+◌, ◌<◌, ◌≤◌, Bool, true, false, ◌==◌, cond, List, [], ◌∷◌, ◌++◌, map, filter, length, refl, sym, ap, arith, append_assoc, append-nil, length-append, nat_lt}
 use Rattle.std.specs.Prelude.{Some, slice_get}
 use Rattle.std.proofs.lemmas.Bool.{cases_lt, eqb-true, eq-eqb, lt-ltb, le-ltb}
-use Rattle.std.proofs.lemmas.Option.{slice_get_within}
 use Rattle.er_event.specs.declared.steps.Event.{Event}
 use Rattle.er_event.specs.declared.steps.Reply.{Reply}
 use Rattle.er_event.specs.declared.steps.Step.{Step}
@@ -80,9 +79,6 @@ pub events-turns : (t : ℕ) (turns : List TurnShown) → events_of (steps_of tu
 events-turns t turns = events-own t (steps_of turns) ∙ own-turns t turns
 
 -- seats that are opened one by one
-pub opened-none : (w : Workload) (seats : List SeatList) → seats ≡ [] → AreSeatsAt (done_before w First) seats
-opened-none w seats empty t seat is = absurd (let nowhere : slice_get [] t ≡ Some seat = sym (ap (λ (xs : List SeatList). slice_get xs t) empty) ∙ is in let within = slice_get_within [] t seat nowhere in omega arith)
-
 pub opened-more : (w : Workload) (seats now : List SeatList) (seat : SeatList) → AreSeatsAt (done_before w First) seats → now ≡ seats ++ seat ∷ [] → seat.name ≡ detector_name → seat.thread ≡ length seats → seat.calls ≡ []
     → AreSeatsAt (done_before w First) now
 opened-more w seats now seat far grown named thread none =

@@ -1,15 +1,12 @@
 -- Workers that are started one by one.
-use Rattle.std.proofs.Common.{◌≡◌, ◌∙◌, ℕ, ◌<◌, List, [], ◌∷◌, ◌++◌, length, sym, ap, arith, append_assoc, append-nil, length-append}
+use Rattle.std.proofs.Common.{◌≡◌, ◌∙◌, ℕ, ◌<◌, List, [], ◌∷◌, ◌++◌, length, sym, ap, arith, append_assoc, length-append}
 use Rattle.std.specs.Prelude.{Some, slice_get}
 use Rattle.std.proofs.lemmas.Option.{slice_get_within}
-use Rattle.er_event.specs.declared.steps.Event.{Event}
 use Rattle.er_settle.specs.Seats.{SeatList}
 use Rattle.er_load.specs.declared.runs.Worker.{Worker}
 use Rattle.er_load.specs.declared.workloads.Workload.{Workload}
 use Rattle.er_load.specs.declared.workloads.Stage.{Stage}
-use Rattle.er_load.specs.declared.workloads.Stage.TheVariants.{First, Second}
-use Rattle.er_load.specs.Inner.Progress.{IsSeatAt, AreSeatsAt, EndsAt, AreWorkers, done_before, done_after}
-use Rattle.er_load.specs.Workloads.{stage_events}
+use Rattle.er_load.specs.Inner.Progress.{IsSeatAt, AreSeatsAt, EndsAt, AreWorkers, done_before}
 use Rattle.er_event.proofs.Lists.{get_seam}
 use Rattle.er_load.proofs.JoinLemmas.{placed-push}
 
@@ -19,14 +16,6 @@ pub record AreStarted (w : Workload) (s : Stage) (seats rest : List SeatList) (w
   pub split : seats ≡ gone ++ rest
   pub count : length workers ≡ length gone
   pub ends : AreWorkers w s workers
-
-pub started-none : (w : Workload) (s : Stage) (seats rest : List SeatList) (workers : List Worker) → workers ≡ [] → rest ≡ seats → AreStarted w s seats rest workers
-started-none w s seats rest workers empty all = record {
-  gone = [];
-  split = sym all;
-  count = ap length empty;
-  ends = λ t worker is. absurd (let nowhere : slice_get [] t ≡ Some worker = sym (ap (λ (xs : List Worker). slice_get xs t) empty) ∙ is in let within = slice_get_within [] t worker nowhere in omega arith);
-}
 
 -- the next seat is that of its place
 pub next-seat : (w : Workload) (s : Stage) (seats rest left : List SeatList) (workers : List Worker) (seat : SeatList) → AreStarted w s seats rest workers → rest ≡ seat ∷ left
@@ -44,7 +33,3 @@ started-more w s seats rest left workers now seat worker far next grown last = r
   count = (let c = far.count in let a = length-append workers (worker ∷ []) in let b = length-append far.gone (seat ∷ []) in rw grown (omega arith));
   ends = rw grown (placed-push (λ t x. EndsAt w s t x) workers worker far.ends last);
 }
-
--- at the end there is one for each seat
-pub started-all : (w : Workload) (s : Stage) (seats rest : List SeatList) (workers : List Worker) → AreStarted w s seats rest workers → rest ≡ [] → length workers ≡ length seats
-started-all w s seats rest workers far over = far.count ∙ ap length (sym (far.split ∙ (ap (λ (xs : List SeatList). far.gone ++ xs) over ∙ append-nil far.gone)))

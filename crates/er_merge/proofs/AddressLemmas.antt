@@ -32,10 +32,6 @@ use Rattle.er_merge.proofs.WholeLemmas.{deed_pieces}
 abbrev pub no_gap : ℕ → Bool
 no_gap byte = not (is_gap byte)
 
-abbrev onto : ℕ → List (List ℕ) → List (List ℕ)
-onto x [] = (x ∷ []) ∷ []
-onto x (part ∷ parts) = (x ∷ part) ∷ parts
-
 not_true : (b : Bool) → not b ≡ true → b ≡ false
 not_true true e = absurd (cc)
 not_true false e = refl

@@ -22,7 +22,7 @@ use Rattle.er_text.specs.Ending.{comment_after, comment_past, if_any_lost, is_te
 use Rattle.er_text.specs.declared.endings.Lost.{Lost}
 use Rattle.er_trace.specs.Trace.{Recording}
 use Rattle.er_merge.specs.Texts.{CountsFit, Fits, lost_number}
-use Rattle.er_merge.specs.Traces.{Divided, IsCounted, report_of_part}
+use Rattle.er_merge.specs.Traces.{Divided, IsCountable, report_of_part}
 use Rattle.er_merge.proofs.TraceSteps.{few_kept}
 
 -- how many events were lost
@@ -147,5 +147,5 @@ module _ (r : Recording) (rules : List Target) (explain : Bool) (part : PartView
       in_sum (x ∷ xs) zero = omega (arith, sum_by-cons (λ n. n) x xs)
       in_sum (x ∷ xs) (suc j) = let more = in_sum xs j in omega (arith, more, sum_by-cons (λ n. n) x xs)
 
-pub part_counts_fit : (d : Divided) (i : ℕ) → IsCounted d → CountsFit (report_of_part d i)
+pub part_counts_fit : (d : Divided) (i : ℕ) → IsCountable d → CountsFit (report_of_part d i)
 part_counts_fit d i counted = counts_fit d.trace d.rules d.explain (part_at d.count i) (lost_told d.text) counted.steps counted.rules (lost_small d.text)

@@ -1,11 +1,11 @@
 -- The lines of a report, one by one.
-use Rattle.std.proofs.Common.{◌≡◌, ◌⊎◌, ℕ, zero, suc, ◌+◌, ◌-◌, ◌<◌, true, false, List, [], ◌∷◌, ◌++◌, length, map, take, get_or, Option, Result, Ok, Err, refl, sym, ap, subst, ◌∙◌, inl, inr, arith}
+use Rattle.std.proofs.Common.{◌≡◌, ◌⊎◌, ℕ, zero, suc, ◌+◌, ◌-◌, ◌<◌, true, false, List, [], ◌∷◌, ◌++◌, length, map, take, get_or, Option, Result, Ok, Err, sym, ap, subst, ◌∙◌, inl, inr, arith}
 use Rattle.std.proofs.lemmas.List.{map_push, take_more}
 use Rattle.er_lines.specs.Lines.{Line, lines_of}
 use Rattle.er_merge.specs.Merging.{AreParts, FailsToRead, IsFirstFault}
-use Rattle.er_merge.specs.Parts.{BodyView, ContentView, HeadingView, PartView, Reads, body_from, go_on, headed, headed_by, heading_in, part_in, part_of, part_view, with_line}
+use Rattle.er_merge.specs.Parts.{BodyView, ContentView, HeadingView, ReportView, Reads, body_from, go_on, headed, headed_by, heading_in, part_in, part_of, report_view, with_line}
 use Rattle.er_merge.specs.declared.faults.LineFault.{LineFault}
-use Rattle.er_merge.specs.declared.faults.LineFault.TheVariants.{CutOff, NoPart}
+use Rattle.er_merge.specs.declared.faults.LineFault.TheVariants.{NoPart}
 use Rattle.er_merge.specs.declared.faults.MergeFault.{MergeFault}
 use Rattle.er_merge.specs.declared.faults.MergeFault.TheVariants as merging
 use Rattle.er_merge.specs.declared.parts.PartReport.{PartReport}
@@ -22,16 +22,6 @@ pub wrong_line : (n : ℕ) (b : BodyView) (lines rest : List Line) (bytes : List
 wrong_line n b lines rest bytes fault first refused =
     ap (body_from n b) first ∙ ap (λ (r : Result BodyView LineFault). go_on n r (λ (now : BodyView). body_from (n + 1) now rest)) refused
 
--- a last line without its LF
-pub cut_line : (n : ℕ) (b : BodyView) (text : List ℕ) → 0 < length text → (text ≡ []) ⊎ (lines_of text ≡ record { bytes = text; ended = false } ∷ []) → body_from n b (lines_of text) ≡ Err (n, CutOff)
-cut_line n b text some (inl none) = let empty : length text ≡ 0 = ap length none in absurd (omega (arith, some, empty))
-cut_line n b text some (inr last) = ap (body_from n b) last
-
--- no line is left
-pub ended_all : (n : ℕ) (b : BodyView) (text : List ℕ) → length text ≡ 0 → body_from n b (lines_of text) ≡ body_from n b []
-ended_all n b [] none = refl
-ended_all n b (byte ∷ bytes) none = absurd (omega (arith, none))
-
 -- a text without a first line is no report
 pub no_line : (text : List ℕ) → (text ≡ []) ⊎ (lines_of text ≡ record { bytes = text; ended = false } ∷ []) → part_of text ≡ Err (1, NoPart)
 unfolding part_of
@@ -45,7 +35,7 @@ unfolding part_of
 by_heading text line rest heading first is = ap part_in first ∙ ap (λ (h : Option HeadingView). headed_by h rest) (sym is)
 
 -- a fault of the other lines is one of the report
-pub headed_fault : {X Y : Type 0} (view : X → ContentView) (whole : Y → PartView) (number : ℕ) (part : Result PartView (ℕ × LineFault)) (heading : HeadingView) (content : Result ContentView (ℕ × LineFault)) (fault : MergeFault)
+pub headed_fault : {X Y : Type 0} (view : X → ContentView) (whole : Y → ReportView) (number : ℕ) (part : Result ReportView (ℕ × LineFault)) (heading : HeadingView) (content : Result ContentView (ℕ × LineFault)) (fault : MergeFault)
     → part ≡ headed heading content → Reads view number content (Err fault) → Reads whole number part (Err fault)
 headed_fault view whole number part heading content (merging.Line n line fault) is wrong = (wrong.0, is ∙ ap (headed heading) wrong.1)
 headed_fault view whole number part heading content (merging.Other n) is wrong = wrong
@@ -60,17 +50,17 @@ at_map f [] k x within is = absurd (omega (arith, within))
 at_map f (y ∷ ys) zero x within is = ap f (sym is)
 at_map f (y ∷ ys) (suc k) x within is = at_map f ys k x (omega (arith, within)) is
 
-abbrev right : PartReport → Result PartView (ℕ × LineFault)
-right part = Ok (part_view part)
+abbrev right : PartReport → Result ReportView (ℕ × LineFault)
+right part = Ok (report_view part)
 
 -- one report more
 pub one_part_more : (texts : List (List ℕ)) (k : ℕ) (text : List ℕ) (parts more : List PartReport) (part : PartReport) → k < length texts → get_or texts k [] ≡ text
-    → AreParts (take k texts) parts → part_of text ≡ Ok (part_view part) → more ≡ parts ++ part ∷ [] → AreParts (take (k + 1) texts) more
+    → AreParts (take k texts) parts → part_of text ≡ Ok (report_view part) → more ≡ parts ++ part ∷ [] → AreParts (take (k + 1) texts) more
 one_part_more texts k text parts more part within here before is pushed =
     let this : part_of (get_or texts k []) ≡ right part = ap part_of here ∙ is in
     ap (map part_of) (take_more texts k [] within) ∙ map_push part_of (take k texts) (get_or texts k [])
-    ∙ ap (λ (found : List (Result PartView (ℕ × LineFault))). found ++ part_of (get_or texts k []) ∷ []) before
-    ∙ ap (λ (last : Result PartView (ℕ × LineFault)). map right parts ++ last ∷ []) this
+    ∙ ap (λ (found : List (Result ReportView (ℕ × LineFault))). found ++ part_of (get_or texts k []) ∷ []) before
+    ∙ ap (λ (last : Result ReportView (ℕ × LineFault)). map right parts ++ last ∷ []) this
     ∙ sym (map_push right parts part) ∙ sym (ap (map right) pushed)
 
 first_fault : (texts : List (List ℕ)) (k n line : ℕ) (text : List ℕ) (parts : List PartReport) (fault : LineFault) → n ≡ k + 1 → k < length texts → get_or texts k [] ≡ text
@@ -86,7 +76,7 @@ first_fault texts k n line text parts fault number within here before wrong =
     }
 
 -- the first text that is no report
-pub not_read : {X : Type 0} (view : X → PartView) (texts : List (List ℕ)) (k : ℕ) (text : List ℕ) (parts : List PartReport) (fault : MergeFault) → k < length texts → get_or texts k [] ≡ text
+pub not_read : {X : Type 0} (view : X → ReportView) (texts : List (List ℕ)) (k : ℕ) (text : List ℕ) (parts : List PartReport) (fault : MergeFault) → k < length texts → get_or texts k [] ≡ text
     → AreParts (take k texts) parts → Reads view (k + 1) (part_of text) (Err fault) → FailsToRead texts fault
 not_read view texts k text parts (merging.Line n line fault) within here before wrong = first_fault texts k n line text parts fault wrong.0 within here before wrong.1
 not_read view texts k text parts (merging.Other n) within here before wrong = wrong

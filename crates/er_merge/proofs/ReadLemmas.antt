@@ -99,5 +99,3 @@ head_read names (RacedView race) small = place_read race.line _ small
 head_read names (RefusedView number step refusal) small = place_read number _ small
 head_read names (ShownView number word state) small = place_read number _ small
 
-reason_read : (names : NameTable) (because : Because) → report_line (joined (reason_pieces names because)) ≡ is.Reason
-reason_read names because = refl

@@ -12,7 +12,7 @@ use Rattle.er_print.specs.declared.lines.ReportKind.TheVariants.{Lockset}
 use Rattle.er_report.specs.Report.{Summary}
 use Rattle.er_trace.specs.Names.{NameTable}
 use Rattle.er_merge.specs.Merging.{AreParts, Merges, entries_in, figure_of, kind_if, kind_of, lost_of, rule_sum, rules_in, sum_in, sums_of}
-use Rattle.er_merge.specs.Parts.{ContentView, EntryView, PartView, content_view, entry_view, part_of, part_view}
+use Rattle.er_merge.specs.Parts.{ContentView, EntryView, ReportView, content_view, entry_view, part_of, report_view}
 use Rattle.er_merge.specs.Texts.{AddressesFollow, ArePartTexts, HasPlainNames, IsPartText, all_lines, content_of, entries_of, lost_number}
 use Rattle.er_merge.specs.declared.merging.Figure.{Figure}
 use Rattle.er_merge.specs.declared.merging.Figure.TheVariants.{Steps, Races, Suppressed, Refused, Rule}
@@ -41,10 +41,10 @@ all_say names (s ∷ reports) [] parts plain are read = absurd are
 all_say names (s ∷ reports) (text ∷ texts) [] plain are read = absurd (cc)
 all_say names (s ∷ reports) (text ∷ texts) (part ∷ parts) plain are read =
     let this = text_read names s text are.0 plain in
-    let head : part_of text ≡ Ok (part_view part) = cc in
-    let tail : map part_of texts ≡ map (λ (part : PartReport). Ok (part_view part)) parts = cc in
-    let whole : part_view part ≡ record { heading = are.0.heading; content = content_of names s } = cc in
-    (ap (λ (view : PartView). view.content) whole, all_say names reports texts parts plain are.1 tail)
+    let head : part_of text ≡ Ok (report_view part) = cc in
+    let tail : map part_of texts ≡ map (λ (part : PartReport). Ok (report_view part)) parts = cc in
+    let whole : report_view part ≡ record { heading = are.0.heading; content = content_of names s } = cc in
+    (ap (λ (view : ReportView). view.content) whole, all_say names reports texts parts plain are.1 tail)
 
 entries_say : (names : NameTable) (reports : List Summary) (parts : List PartReport) → Say names reports parts → map entry_view (flat_map entries_in parts) ≡ flat_map (entries_of names) (all_lines reports)
 entries_say names [] [] say = refl

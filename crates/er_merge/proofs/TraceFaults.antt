@@ -11,7 +11,7 @@ use Rattle.er_parts.specs.Parts.{part_at}
 use Rattle.er_report.specs.Lines.{LineView}
 use Rattle.er_report.specs.Report.{Summary, count_below}
 use Rattle.er_merge.specs.Merging.{AreParts, IsGap, Merges, gap_from, is_like, number_of_parts, other_from, other_in, places_of, sum_in}
-use Rattle.er_merge.specs.Parts.{ContentView, PartView, part_of, part_view}
+use Rattle.er_merge.specs.Parts.{ContentView, ReportView, part_of, report_view}
 use Rattle.er_merge.specs.Texts.{Fits, all_lines, content_of}
 use Rattle.er_merge.specs.Traces.{AreTextsOfParts, Divided, IsTextOfPart, report_of_part, whole_report}
 use Rattle.er_merge.specs.declared.faults.MergeFault.{MergeFault}
@@ -37,13 +37,13 @@ same_bytes [] = refl
 same_bytes (x ∷ xs) = rw (same_number x x refl, same_bytes xs) refl
 
 -- by what reports say
-abbrev like_of : PartView → PartView → Bool
+abbrev like_of : ReportView → ReportView → Bool
 like_of a b =
     nat_eq a.heading.parts b.heading.parts && bytes_eq a.heading.about b.heading.about && nat_eq (length a.content.counts) (length b.content.counts)
     && beq a.content.totals.unordered b.content.totals.unordered && nat_eq a.content.totals.lost b.content.totals.lost
 
 -- what the report of a part says
-abbrev view_of : Divided → List ℕ → ℕ → PartView
+abbrev view_of : Divided → List ℕ → ℕ → ReportView
 view_of d about i = record { heading = record { part = i; parts = d.count; about = about }; content = content_of d.trace.names (report_of_part d i) }
 
 views_like : (d : Divided) (about : List ℕ) (i j : ℕ) → like_of (view_of d about i) (view_of d about j) ≡ true
@@ -57,25 +57,25 @@ abbrev AreRead : Divided → List ℕ → List ℕ → List PartReport → Type 
 AreRead d about [] [] = Unit {0}
 AreRead d about [] (part ∷ parts) = ⊥
 AreRead d about (i ∷ is) [] = ⊥
-AreRead d about (i ∷ is) (part ∷ parts) = (part_view part ≡ view_of d about i) × AreRead d about is parts
+AreRead d about (i ∷ is) (part ∷ parts) = (report_view part ≡ view_of d about i) × AreRead d about is parts
 
 places_are : (d : Divided) (about : List ℕ) (is : List ℕ) (parts : List PartReport) → AreRead d about is parts → places_of parts ≡ is
 places_are d about [] [] read = refl
 places_are d about [] (part ∷ parts) read = absurd read
 places_are d about (i ∷ is) [] read = absurd read
 places_are d about (i ∷ is) (part ∷ parts) read =
-    ap (λ (n : ℕ). n ∷ places_of parts) (ap (λ (view : PartView). view.heading.part) read.0) ∙ ap (λ (ns : List ℕ). i ∷ ns) (places_are d about is parts read.1)
+    ap (λ (n : ℕ). n ∷ places_of parts) (ap (λ (view : ReportView). view.heading.part) read.0) ∙ ap (λ (ns : List ℕ). i ∷ ns) (places_are d about is parts read.1)
 
 number_is : (d : Divided) (about : List ℕ) (is : List ℕ) (parts : List PartReport) → 0 < length is → AreRead d about is parts → number_of_parts parts ≡ d.count
 number_is d about [] parts some read = absurd (omega (arith, some))
 number_is d about (i ∷ is) [] some read = absurd read
-number_is d about (i ∷ is) (part ∷ parts) some read = ap (λ (view : PartView). view.heading.parts) read.0
+number_is d about (i ∷ is) (part ∷ parts) some read = ap (λ (view : ReportView). view.heading.parts) read.0
 
-parts_like : (d : Divided) (about : List ℕ) (i j : ℕ) (first part : PartReport) → part_view first ≡ view_of d about i → part_view part ≡ view_of d about j → is_like first part ≡ true
+parts_like : (d : Divided) (about : List ℕ) (i j : ℕ) (first part : PartReport) → report_view first ≡ view_of d about i → report_view part ≡ view_of d about j → is_like first part ≡ true
 parts_like d about i j first part one two =
-    ap (λ (view : PartView). like_of view (part_view part)) one ∙ ap (λ (view : PartView). like_of (view_of d about i) view) two ∙ views_like d about i j
+    ap (λ (view : ReportView). like_of view (report_view part)) one ∙ ap (λ (view : ReportView). like_of (view_of d about i) view) two ∙ views_like d about i j
 
-none_from : (d : Divided) (about : List ℕ) (n i : ℕ) (first : PartReport) (is : List ℕ) (parts : List PartReport) → part_view first ≡ view_of d about i → AreRead d about is parts → other_from n first parts ≡ None
+none_from : (d : Divided) (about : List ℕ) (n i : ℕ) (first : PartReport) (is : List ℕ) (parts : List PartReport) → report_view first ≡ view_of d about i → AreRead d about is parts → other_from n first parts ≡ None
 none_from d about n i first [] [] one read = refl
 none_from d about n i first [] (part ∷ parts) one read = absurd read
 none_from d about n i first (j ∷ is) [] one read = absurd read
@@ -113,8 +113,8 @@ module _ (d : Divided) (parts : List ℕ) (about : List ℕ) (texts : ℕ → Li
   read_by (i ∷ is) (part ∷ found) printed lines same =
       let text = text_of_part d parts (λ (j : ℕ). about) texts are i (All-head PrintedSo i is printed) (All-front One (report_of_part d i).lines (all_lines (map (report_of_part d) is)) lines) in
       let this : part_of (texts i) ≡ Ok (view_of d about i) = text_read d.trace.names (report_of_part d i) (texts i) text (plain d parts (λ (j : ℕ). about) texts are) in
-      let head : part_of (texts i) ≡ Ok (part_view part) = cc in
-      let tail : map part_of (map texts is) ≡ map (λ (part : PartReport). Ok (part_view part)) found = cc in (
+      let head : part_of (texts i) ≡ Ok (report_view part) = cc in
+      let tail : map part_of (map texts is) ≡ map (λ (part : PartReport). Ok (report_view part)) found = cc in (
         (cc),
         read_by is found (All-tail PrintedSo i is printed) (All-back One (report_of_part d i).lines (all_lines (map (report_of_part d) is)) lines) tail,
       )

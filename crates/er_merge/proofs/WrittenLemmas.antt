@@ -11,7 +11,7 @@ use Rattle.er_print.specs.Printed.{report_text}
 use Rattle.er_text.specs.Trace.{IsTrace}
 use Rattle.er_merge.specs.Headings.{about_text}
 use Rattle.er_merge.specs.Merging.{Merges}
-use Rattle.er_merge.specs.Traces.{AreTextsOfParts, Divided, IsCounted, IsHeadingOf, IsTextOfPart, whole_report, written_part}
+use Rattle.er_merge.specs.Traces.{AreTextsOfParts, Divided, IsCountable, IsHeadingOf, IsTextOfPart, whole_report, written_part}
 use Rattle.er_merge.specs.declared.faults.MergeFault.{MergeFault}
 use Rattle.er_merge.specs.declared.faults.MergeFault.TheVariants.{Memory}
 use Rattle.er_merge.specs.declared.headings.PartHeading.{PartHeading}
@@ -32,7 +32,7 @@ range_among a (suc n) =
 each_of : (count : ℕ) (parts : List ℕ) → IsPermutation (range_with_len 1 count) parts → HasEachPart count parts
 each_of count parts same = λ i first last. sum_by-IsPermutation (λ part. cond (i == part) 1 0) (range_with_len 1 count) parts same ∙ each-in-turn count i first last
 
-module _ (d : Divided) (limit : ℕ) (heading : PartHeading) (parts : List ℕ) (trace : IsTrace d.text limit d.trace) (counted : IsCounted d) (is : IsHeadingOf d heading) (some : 1 ≤ d.count)
+module _ (d : Divided) (limit : ℕ) (heading : PartHeading) (parts : List ℕ) (trace : IsTrace d.text limit d.trace) (counted : IsCountable d) (is : IsHeadingOf d heading) (some : 1 ≤ d.count)
     (same : IsPermutation (range_with_len 1 d.count) parts) where
   texts_so : AreTextsOfParts d parts (λ (i : ℕ). about_text heading) (written_part d heading)
   texts_so = record {

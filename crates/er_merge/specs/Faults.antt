@@ -5,12 +5,14 @@ use Rattle.er_merge.specs.declared.faults.LineFault.TheVariants.{NoPart, Foreign
 use Rattle.er_merge.specs.declared.faults.MergeFault.{MergeFault}
 use Rattle.er_merge.specs.declared.faults.MergeFault.TheVariants.{Line, Other, Twice, Missing, CountsTooLarge, Memory}
 
+-- what is wrong with a line, in words
 abbrev pub line_text : LineFault → List ℕ
 line_text NoPart = codes "no report of a part"
 line_text Foreign = codes "no line of a report"
 line_text CutOff = codes "cut off"
 line_text Stopped = codes "stopped"
 
+-- why reports are not merged, in words
 abbrev pub text_of : MergeFault → List ℕ
 text_of (Line number line fault) = line_text fault
 text_of (Other number) = codes "another trace"

@@ -18,6 +18,7 @@ abbrev pub digest_after : ℕ → List ℕ → ℕ
 digest_after digest (a ∷ b ∷ c ∷ d ∷ e ∷ f ∷ g ∷ h ∷ bytes) = digest_after (digest_with digest (from_le_bytes w64 (a ∷ b ∷ c ∷ d ∷ e ∷ f ∷ g ∷ h ∷ []))) bytes
 digest_after digest bytes = digest_each digest bytes
 
+-- whether races have reasons
 abbrev pub reasons : Bool → List ℕ
 reasons true = codes ", with reasons"
 reasons false = codes ", without reasons"

@@ -6,7 +6,7 @@ use Rattle.er_merge.specs.Headings.{about_text}
 use Rattle.er_merge.specs.Merging.{Merges}
 use Rattle.er_merge.specs.Parts.{part_of}
 use Rattle.er_merge.specs.Texts.{AddressesFollow, ArePartTexts, HasPlainNames, IsPartText, LineFits, RacesAloneShare, all_lines, content_of}
-use Rattle.er_merge.specs.Traces.{AreTextsOfParts, Divided, IsCounted, IsHeadingOf, IsTextOfPart, whole_report, written_part}
+use Rattle.er_merge.specs.Traces.{AreTextsOfParts, Divided, IsCountable, IsHeadingOf, IsTextOfPart, whole_report, written_part}
 use Rattle.er_merge.specs.declared.faults.LineFault.{LineFault}
 use Rattle.er_merge.specs.declared.faults.MergeFault.{MergeFault}
 use Rattle.er_merge.specs.declared.faults.MergeFault.TheVariants.{Line, Memory}
@@ -47,8 +47,7 @@ abbrev pub PartsMakeTheText : Type 0
 PartsMakeTheText = (d : Divided) (parts : List ℕ) (about texts : ℕ → List ℕ) (made : Merged) → AreTextsOfParts d parts about texts → Merges (map texts parts) (Ok made)
     → (made.text.items ≡ report_text d.trace.names (whole_report d)) × (made.counts.races ≡ (whole_report d).races)
 
--- and the part that has the pages of the lines of that text reports of the trace what it has as a whole, with reasons or without, but for the counts, which
--- the text has
+-- and the part that has the pages of that text's lines reports, with the counts of the text, what the whole trace has, with reasons or without
 abbrev pub PagesMakeTheReport : Type 0
 PagesMakeTheReport = (d : Divided) (parts : List ℕ) (about texts : ℕ → List ℕ) (made : Merged) (explain : Bool) → AreTextsOfParts d parts about texts → Merges (map texts parts) (Ok made)
     → (made.pages.index ≡ 1) × (counted_as (told made.counts) (record (part_report (Some made.pages) d.trace d.rules explain) { lost = lost_told d.text }) ≡ whole_report (record d { explain = explain }))
@@ -62,10 +61,9 @@ PartsAreMerged = (d : Divided) (parts : List ℕ) (about : List ℕ) (texts : �
 abbrev pub PartsAreWrittenSo : Type 0
 PartsAreWrittenSo = (d : Divided) (heading : PartHeading) (i : ℕ) → IsHeadingOf d heading → 1 ≤ i → i ≤ d.count → IsTextOfPart d i (about_text heading) (written_part d heading i)
 
--- so what is written of all parts of a trace, under one heading and in any order, is merged into what is printed for the report of the trace, or memory is
--- wanting
+-- so what is written of all parts of a trace, in any order, is merged into what is printed for the report of the trace, or memory is wanting
 abbrev pub WrittenPartsAreMerged : Type 0
-WrittenPartsAreMerged = (d : Divided) (limit : ℕ) (heading : PartHeading) (parts : List ℕ) (result : Result Merged MergeFault) → IsTrace d.text limit d.trace → IsCounted d
+WrittenPartsAreMerged = (d : Divided) (limit : ℕ) (heading : PartHeading) (parts : List ℕ) (result : Result Merged MergeFault) → IsTrace d.text limit d.trace → IsCountable d
     → IsHeadingOf d heading → 1 ≤ d.count → IsPermutation (range_with_len 1 d.count) parts → Merges (map (written_part d heading) parts) result
     → MatchResult result (λ made. (made.text.items ≡ report_text d.trace.names (whole_report d)) × (made.counts.races ≡ (whole_report d).races)) (λ fault. fault ≡ Memory)
 

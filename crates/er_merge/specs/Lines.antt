@@ -10,6 +10,7 @@ use Rattle.er_merge.specs.declared.lines.ReportLine.{ReportLine}
 use Rattle.er_merge.specs.declared.lines.ReportLine.TheVariants as is
 use Rattle.er_merge.specs.declared.lines.Totals.{Totals}
 
+-- a byte that is no decimal digit
 abbrev pub is_no_digit : ℕ → Bool
 is_no_digit byte = not (nat_le 48 byte && nat_le byte 57)
 
@@ -51,12 +52,13 @@ step_line line text rest =
     if starts_with nat_eq rest (codes ": stopped: ") then is.Stopped
     else if is_step rest then is.Step (record { line = line; address = address_in text }) else is.Foreign
 
--- a line of the rule of this number, and what follows that
+-- how many races the rule of this number took, if a number ends the line
 abbrev pub count_behind : ℕ → Option (ℕ × List ℕ) → ReportLine
 count_behind number None = is.Foreign
 count_behind number (Some (count, [])) = is.Count number count
 count_behind number (Some (count, byte ∷ bytes)) = is.Foreign
 
+-- the same, by what follows the number of the rule
 abbrev pub count_line : ℕ → List ℕ → ReportLine
 count_line number rest = count_behind number (number_behind (codes ": ") rest)
 
@@ -89,18 +91,21 @@ totals_in text =
     (number_behind (races_label unordered) steps.1))
     (number_behind (codes "steps ") text)
 
+-- the totals, if their numbers were read
 abbrev pub totals_if : Option Totals → ReportLine
 totals_if None = is.Foreign
 totals_if (Some totals) = is.Totals totals
 
+-- the totals that a line has, or else it is no line of a report
 abbrev pub totals_line : List ℕ → ReportLine
 totals_line text = totals_if (totals_in text)
 
--- a line of a step, or else one of those that follow the steps
+-- the count of a rule, or else the totals
 abbrev pub or_count : List ℕ → Option (ℕ × List ℕ) → ReportLine
 or_count text None = totals_line text
 or_count text (Some found) = count_line found.0 found.1
 
+-- a line that names a line of the trace, or else one of those that follow the steps
 abbrev pub or_step : List ℕ → Option (ℕ × List ℕ) → ReportLine
 or_step text None = or_count text (number_behind (codes "suppression ") text)
 or_step text (Some found) = step_line found.0 text found.1

@@ -13,7 +13,7 @@ use Rattle.er_print.specs.declared.lines.ReportKind.{ReportKind}
 use Rattle.er_print.specs.declared.lines.ReportKind.TheVariants.{Lockset, Unordered}
 use Rattle.er_report.specs.Report.{Summary, told}
 use Rattle.er_report.specs.declared.report.Report.{Report}
-use Rattle.er_merge.specs.Parts.{part_of, part_view}
+use Rattle.er_merge.specs.Parts.{part_of, report_view}
 use Rattle.er_merge.specs.declared.faults.LineFault.{LineFault}
 use Rattle.er_merge.specs.declared.faults.MergeFault.{MergeFault}
 use Rattle.er_merge.specs.declared.faults.MergeFault.TheVariants.{Line, Other, Twice, Missing, CountsTooLarge, Memory}
@@ -27,7 +27,7 @@ use Rattle.er_merge.specs.declared.parts.PartReport.{PartReport}
 
 -- these texts are these reports
 abbrev pub AreParts : List (List ℕ) → List PartReport → Type 0
-AreParts texts parts = map part_of texts ≡ map (λ (part : PartReport). Ok (part_view part)) parts
+AreParts texts parts = map part_of texts ≡ map (λ (part : PartReport). Ok (report_view part)) parts
 
 -- the text of this number is none, for this fault on this line, and those before it are reports
 pub record IsFirstFault (texts : List (List ℕ)) (number line : ℕ) (fault : LineFault) : Type 0 where
@@ -64,14 +64,17 @@ abbrev pub other_from : ℕ → PartReport → List PartReport → Option ℕ
 other_from number first [] = None
 other_from number first (part ∷ parts) = if is_like first part then other_from (number + 1) first parts else Some number
 
+-- the first report that is not like the one in front, by its number
 abbrev pub other_in : List PartReport → Option ℕ
 other_in [] = None
 other_in (first ∷ others) = other_from 2 first others
 
+-- how many parts there should be, by the first report
 abbrev pub number_of_parts : List PartReport → ℕ
 number_of_parts [] = 1
 number_of_parts (first ∷ others) = first.heading.parts
 
+-- which parts the reports are of
 abbrev pub places_of : List PartReport → List ℕ
 places_of parts = map (λ (part : PartReport). part.heading.part) parts
 
@@ -96,9 +99,11 @@ figure_of Suppressed part = part.content.totals.suppressed
 figure_of Refused part = part.content.totals.refused
 figure_of (Rule place) part = slice_index part.content.counts.items place
 
+-- what the reports count of this together
 abbrev pub sum_in : List PartReport → Figure → ℕ
 sum_in parts figure = sum_by (figure_of figure) parts
 
+-- how many races the rule in this place took in all of them
 abbrev pub rule_sum : List PartReport → ℕ → ℕ
 rule_sum parts place = sum_in parts (Rule place)
 
@@ -111,7 +116,7 @@ abbrev pub Sums : List PartReport → Figure → Result ℕ MergeFault → Type 
 Sums parts figure (Ok sum) = sum ≡ sum_in parts figure
 Sums parts figure (Err fault) = (fault ≡ CountsTooLarge) × (2 ^ 64 ≤ sum_in parts figure)
 
--- these sums, or a fault
+-- why the sums were not made
 abbrev pub Fails : List PartReport → MergeFault → Type 0
 Fails parts (Line number line fault) = ⊥
 Fails parts (Other number) = ⊥
@@ -120,22 +125,27 @@ Fails parts (Missing part) = ⊥
 Fails parts CountsTooLarge = HasLargeSum parts
 Fails parts Memory = Unit {0}
 
+-- these sums, or why they were not made
 abbrev pub GivesSums : {A : Type 0} → List PartReport → List ℕ → Result (Vec ℕ A) MergeFault → Type 0
 GivesSums parts sums (Ok given) = given.items ≡ sums
 GivesSums parts sums (Err fault) = Fails parts fault
 
+-- how many rules have counts, by the first report
 abbrev pub rules_in : List PartReport → ℕ
 rules_in [] = 0
 rules_in (first ∷ others) = length first.content.counts.items
 
+-- how many events were lost, by the first report
 abbrev pub lost_of : List PartReport → Option ℕ
 lost_of [] = None
 lost_of (first ∷ others) = Some first.content.totals.lost
 
+-- a report by happens-before calls races unordered
 abbrev pub kind_if : Bool → ReportKind
 kind_if true = Unordered
 kind_if false = Lockset
 
+-- which analysis the reports are of, by the first one
 abbrev pub kind_of : List PartReport → ReportKind
 kind_of [] = Lockset
 kind_of (first ∷ others) = kind_if first.content.totals.unordered
@@ -154,13 +164,16 @@ sums_of parts =
       lost = lost_of parts;
     }
 
+-- what all reports count together, or why that was not made
 abbrev pub EndsAs : List PartReport → Result Report MergeFault → Type 0
 EndsAs parts (Ok end) = told end ≡ sums_of parts
 EndsAs parts (Err fault) = Fails parts fault
 
+-- the lines of steps and reasons of a report
 abbrev pub entries_in : PartReport → List Entry
 entries_in part = part.content.entries.items
 
+-- such a line with its LF
 abbrev pub entry_text : Entry → List ℕ
 entry_text entry = entry.text.now ++ 10 ∷ []
 
@@ -174,6 +187,7 @@ pub record IsInOrder (old new : List Entry) : Type 0 where
   pub sorted : IsSorted place_order new
   pub stable : IsStable place_order old new
 
+-- the text of these lines, and then of this end
 abbrev pub text_of_entries : List Entry → ReportKind → Report → List ℕ
 text_of_entries entries of end = flat_map entry_text entries ++ end_text of (told end)
 
@@ -192,8 +206,7 @@ pub record GivesText (parts : List PartReport) (end : Report) (text : List ℕ) 
   pub is : text ≡ text_of_entries entries (kind_of parts) end
   pub pages : HasPagesOf entries part
 
--- each part is there once, all are of one trace, and this is the text of their lines in their order, and then of their sums; and these sums and the part
--- that has the lines' pages are told
+-- each part is there once, all are of one trace; the text has their lines in their order and then their sums, and these and the lines' pages are told
 pub record IsMerged (parts : List PartReport) (merged : Merged) : Type 0 where
   pub like : other_in parts ≡ None
   pub each : IsGap (number_of_parts parts) (places_of parts) None
@@ -212,6 +225,7 @@ Refuses parts (Missing part) = (other_in parts ≡ None) × IsGap (number_of_par
 Refuses parts CountsTooLarge = (other_in parts ≡ None) × IsGap (number_of_parts parts) (places_of parts) None × HasLargeSum parts
 Refuses parts Memory = Unit {0}
 
+-- these reports are merged so, or make no one report
 abbrev pub MergesParts : List PartReport → Result Merged MergeFault → Type 0
 MergesParts parts (Ok merged) = IsMerged parts merged
 MergesParts parts (Err fault) = Refuses parts fault

@@ -43,25 +43,31 @@ pub record HeadingView : Type 0 where
   pub about : List ℕ
 
 -- the report of a part
-pub record PartView : Type 0 where
+pub record ReportView : Type 0 where
   pub heading : HeadingView
   pub content : ContentView
 
+-- an entry without where its text lies in memory
 abbrev pub entry_view : Entry → EntryView
 entry_view entry = record { place = entry.place; text = entry.text.now }
 
+-- and so the lines that were read so far
 abbrev pub body_view : Body → BodyView
 body_view body = record { entries = map entry_view body.entries.items; counts = body.counts.items; totals = body.totals; last = body.last }
 
+-- and what a report says behind its first line
 abbrev pub content_view : Content → ContentView
 content_view content = record { entries = map entry_view content.entries.items; counts = content.counts.items; totals = content.totals }
 
+-- and what the first line says
 abbrev pub heading_view : Heading → HeadingView
 heading_view heading = record { part = heading.part; parts = heading.parts; about = heading.about.now }
 
-abbrev pub part_view : PartReport → PartView
-part_view part = record { heading = heading_view part.heading; content = content_view part.content }
+-- and the whole report
+abbrev pub report_view : PartReport → ReportView
+report_view part = record { heading = heading_view part.heading; content = content_view part.content }
 
+-- and what a first line says, if it names a part
 abbrev pub seen_heading : Option Heading → Option HeadingView
 seen_heading None = None
 seen_heading (Some heading) = Some (heading_view heading)
@@ -115,6 +121,7 @@ body_from number b [] = whole number b b.totals
 body_from number b (line ∷ lines) =
     if line.ended then go_on number (with_line b line.bytes) (λ (next : BodyView). body_from (number + 1) next lines) else Err (number, CutOff)
 
+-- the number of the part is from 1 up to the number of parts
 abbrev right_heading : HeadingView → Option HeadingView
 right_heading heading = if heading.part == 0 || nat_lt heading.parts heading.part then None else Some heading
 
@@ -127,21 +134,22 @@ heading_in line =
     (number_behind (codes "# part ") line)
 
 -- a heading, and what its lines say
-abbrev pub headed : HeadingView → Result ContentView (ℕ × LineFault) → Result PartView (ℕ × LineFault)
+abbrev pub headed : HeadingView → Result ContentView (ℕ × LineFault) → Result ReportView (ℕ × LineFault)
 headed heading (Ok content) = Ok (record { heading = heading; content = content })
 headed heading (Err fault) = Err fault
 
-abbrev pub headed_by : Option HeadingView → List Line → Result PartView (ℕ × LineFault)
+-- the lines behind the first, if that names a part
+abbrev pub headed_by : Option HeadingView → List Line → Result ReportView (ℕ × LineFault)
 headed_by None lines = Err (1, NoPart)
 headed_by (Some heading) lines = headed heading (body_from 2 empty_body lines)
 
 -- a report by its lines
-abbrev pub part_in : List Line → Result PartView (ℕ × LineFault)
+abbrev pub part_in : List Line → Result ReportView (ℕ × LineFault)
 part_in [] = Err (1, NoPart)
 part_in (line ∷ lines) = if line.ended then headed_by (heading_in line.bytes) lines else Err (1, NoPart)
 
 -- the report that a text is, or its first line with a fault, and the fault
-unfoldable pub part_of : List ℕ → Result PartView (ℕ × LineFault)
+unfoldable pub part_of : List ℕ → Result ReportView (ℕ × LineFault)
 part_of text = part_in (lines_of text)
 
 -- what a call returned of the text of this number, if this is what the text is

@@ -69,13 +69,16 @@ pub record HasPlainNames (names : NameTable) : Type 0 where
   pub locks : list_all (list_all (λ byte. not (is_end byte))) names.locks ≡ true
   pub sites : list_all (list_all (λ byte. not (is_end byte))) names.sites ≡ true
 
+-- the number fits in 64 bits
 abbrev pub Fits : ℕ → Type 0
 Fits n = n < 2 ^ 64
 
+-- so do the numbers that are printed for what a thread did
 abbrev pub DeedFits : Deed → Type 0
 DeedFits (deed.Access kind word) = Unit {0}
 DeedFits (deed.Reuse range) = Fits (bytes_between range.lo range.hi)
 
+-- and for what an access has to do with a race
 abbrev pub LabelFits : Label → Type 0
 LabelFits label.First = Unit {0}
 LabelFits label.Joined = Unit {0}
@@ -83,9 +86,11 @@ LabelFits label.Write = Unit {0}
 LabelFits (label.Uncovered lock) = Fits lock
 LabelFits label.Unordered = Unit {0}
 
+-- and for a reason
 abbrev pub ReasonFits : Because → Type 0
 ReasonFits because = Fits because.line × LabelFits because.label
 
+-- and for an event
 abbrev pub EventFits : Event → Type 0
 EventFits (Acquire lock mode) = Fits lock
 EventFits (Release lock mode) = Fits lock
@@ -97,13 +102,14 @@ EventFits (Show word) = Unit {0}
 EventFits (Level level) = Unit {0}
 EventFits (Sync sync) = Unit {0}
 
+-- and for the state of a word
 abbrev pub StateFits : WordState → Type 0
 StateFits Virgin = Unit {0}
 StateFits (Exclusive thread) = Unit {0}
 StateFits (Shared locks) = All Fits locks
 StateFits (SharedModified locks) = All Fits locks
 
--- the numbers that are printed for a line fit in 64 bits
+-- and for a line
 abbrev pub LineFits : LineView → Type 0
 LineFits (RacedView race) = Fits race.line × DeedFits race.deed × All Fits race.held × All ReasonFits race.explained
 LineFits (RefusedView number step refusal) = Fits number × EventFits step.event

@@ -39,7 +39,7 @@ pub record IsTextOfPart (d : Divided) (i : ℕ) (about : List ℕ) (text : List 
   pub is : text ≡ line ++ 10 ∷ report_text d.trace.names (report_of_part d i)
 
 -- numbers of 64 bits count the bytes of the text, the steps of the trace and the rules
-pub record IsCounted (d : Divided) : Type 0 where
+pub record IsCountable (d : Divided) : Type 0 where
   pub bytes : length d.text < 2 ^ 64
   pub steps : length d.trace.steps < 2 ^ 64
   pub rules : 1 + length d.rules < 2 ^ 64
@@ -48,7 +48,7 @@ pub record IsCounted (d : Divided) : Type 0 where
 pub record AreTextsOfParts (d : Divided) (parts : List ℕ) (about texts : ℕ → List ℕ) : Type 0 where
   pub limit : ℕ
   pub trace : IsTrace d.text limit d.trace
-  pub counted : IsCounted d
+  pub counted : IsCountable d
   pub some : 1 ≤ d.count
   pub each : HasEachPart d.count parts
   pub printed : All (λ (i : ℕ). IsTextOfPart d i (about i) (texts i)) parts

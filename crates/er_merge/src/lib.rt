@@ -5,7 +5,8 @@
 //!
 //! What it promises, by the definitions of `specs/Merging`: the one report has the lines of all, in the order of the lines of the trace that they name,
 //! and the sums of their counts. Otherwise a fault says which text is no report of a part, and on which line, which report is of another trace, or
-//! which part is there twice or missing. A line is known by its bytes alone (`specs/Lines`), so no names are needed.
+//! which part is there twice or missing. A line is known by its bytes alone (`specs/Lines`), so no names are needed. What the definitions say of a text
+//! they say of it as it is read, by [`PartReport`], [`ReportLine`] and the types of their parts.
 //!
 //! ```
 //! // The texts of the reports of `eraser replay --part 1/2` and `--part 2/2`.
@@ -24,4 +25,5 @@ mod parts;
 pub use faults::{LineFault, MergeFault};
 pub use headings::{NO_DIGEST, PartHeading, digest_after, put_heading};
 pub use lines::{Place, ReportLine, Totals};
-pub use merging::{Merged, merge_reports};
+pub use merging::{Figure, Gap, Merged, merge_reports};
+pub use parts::{Content, Entry, Heading, PartReport};

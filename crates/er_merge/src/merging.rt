@@ -7,14 +7,12 @@ ghost use Rattle.er_merge.specs.declared.faults.MergeFault.TheVariants.{Memory};
 
 use crate::faults::MergeFault;
 use crate::parts::{Entry, PartReport, read_part};
+use er_event::Word;
 use er_parts::Part;
 use er_print::{ReportKind, put_end};
 use er_report::Report;
 use std::alloc::{AllocError, Global};
 use std::cmp::Ordering;
-
-// How many bytes a page has.
-const PAGE: u64 = 4096;
 
 /// The one report.
 #[derive(Drop)]
@@ -132,12 +130,12 @@ fn is_like(first: &PartReport<'_>, part: &PartReport<'_>) -> bool
         && first.content.totals.lost == part.content.totals.lost
 }
 
-// What is wrong with the numbers of parts.
+/// What is wrong with the numbers of parts.
 #[derive(Clone, Copy, Drop)]
-enum Gap {
-    // This part is given twice.
+pub enum Gap {
+    /// This part is given twice.
     Twice(u64),
-    // This part is missing.
+    /// This part is missing.
     Missing(u64),
 }
 
@@ -183,14 +181,14 @@ fn gap_in(places: &[u64], parts: u64) -> Option<Gap>
     (next <= parts).then_some(Gap::Missing(next))
 }
 
-// What the reports count.
+/// What the reports count.
 #[derive(Clone, Copy)]
-enum Figure {
+pub enum Figure {
     Steps,
     Races,
     Suppressed,
     Refused,
-    // The races that the rule in this place took.
+    /// The races that the rule in this place took.
     Rule(usize),
 }
 
@@ -305,7 +303,7 @@ fn pages_of(alloc: Global, entries: &[Entry<'_>]) -> Result<Part, AllocError>
 {
     let pages: Vec<u64> = entries
         .iter()
-        .map(|entry| entry.place.address / PAGE)
+        .map(|entry| entry.place.address / (Word::PER_PAGE * Word::BYTES))
         .collect(alloc)?;
     let part = Part::of_pages(&pages);
     drop(pages);

@@ -1,30 +1,30 @@
 //! The report of one part, read.
-ghost use Rattle.std.specs.Prelude.{◌≡◌, ℕ, List};
+ghost use Rattle.std.specs.Prelude.{◌≡◌};
 ghost use Rattle.er_lines.specs.Lines.{lines_of};
-ghost use Rattle.er_merge.specs.Parts.{Adds, IsFirstLine, Reads, body_from, body_view, content_view, empty_body, heading_in, part_of, part_view, seen_heading, with_count, with_entry, with_kind, with_line, whole};
+ghost use Rattle.er_merge.specs.Parts.{Adds, IsFirstLine, Reads, body_from, body_view, content_view, empty_body, heading_in, part_of, report_view, seen_heading, with_count, with_entry, with_kind, with_line, whole};
 
 use crate::faults::{LineFault, MergeFault};
 use crate::lines::{Place, ReportLine, Totals, number_behind, report_line};
 use er_lines::line_len;
 use std::alloc::{AllocError, Global};
 
-/// A line of a step, or of a reason, and where it belongs. A reason belongs where the line of its race does.
+/// A line of a step, or of a reason, and where it belongs. A reason belongs where the line of a step above it does.
 #[derive(Clone, Copy)]
-pub(crate) struct Entry<'a> {
+pub struct Entry<'a> {
     pub place: Place,
     pub text: &'a [u8],
 }
 
-/// The report of a part.
+/// What the text of a part's report says: clauses speak of texts by it.
 #[derive(Drop)]
-pub(crate) struct PartReport<'a> {
+pub struct PartReport<'a> {
     pub heading: Heading<'a>,
     pub content: Content<'a>,
 }
 
-/// What its first line says.
+/// What its first line says. A [`PartHeading`](crate::PartHeading) writes such a line.
 #[derive(Clone, Copy)]
-pub(crate) struct Heading<'a> {
+pub struct Heading<'a> {
     /// Which part it is, from 1.
     pub part: u64,
     /// How many parts there are.
@@ -35,7 +35,7 @@ pub(crate) struct Heading<'a> {
 
 /// What its other lines say.
 #[derive(Drop)]
-pub(crate) struct Content<'a> {
+pub struct Content<'a> {
     pub entries: Vec<Entry<'a>>,
     pub counts: Vec<u64>,
     pub totals: Totals,
@@ -122,7 +122,7 @@ pub(crate) fn read_part(
     number: u64,
     text: &[u8],
 ) -> Result<PartReport<'_>, MergeFault>
-    ensures { Reads part_view number (part_of text.now) result }
+    ensures { Reads report_view number (part_of text.now) result }
 {
     let Some((line, rest)) = first_line(text) else {
         return Err(MergeFault::Line(number, 1, LineFault::NoPart));

@@ -16,7 +16,7 @@ pub record Holdings : Type 0 where
   pub level : ℕ
   pub depth : ℕ
 
--- the thread's, after these accepted steps
+-- what the thread holds after these accepted steps
 unfoldable pub holdings : List Step → ℕ → Holdings
 holdings past t = record { held = held_after past t; write_held = write_held_after past t; level = level_of past t; depth = depth_after past t }
 

@@ -76,10 +76,11 @@ is_up_to_level n l = is_level_lock l && nat_le l (level_lock n)
 unfoldable pub holds : List Step → ℕ → ℕ → Mode → Bool
 holds past t l m = acquired past t l m || (same_mode m Write && is_up_to_level (level_of past t) l)
 
--- in some mode
+-- the thread has acquired the lock in one of the modes, and not released it since
 abbrev pub acquired_any : List Step → ℕ → ℕ → Bool
 acquired_any past t l = acquired past t l Read || acquired past t l Write
 
+-- the thread holds the lock in one of the modes, be it acquired or a lock of its level
 abbrev pub holds_any : List Step → ℕ → ℕ → Bool
 holds_any past t l = holds past t l Read || holds past t l Write
 
@@ -109,10 +110,11 @@ held past t = acquired_locks past t ++ level_locks (level_of past t)
 unfoldable pub write_held : List Step → ℕ → List ℕ
 write_held past t = acquired_to_write past t ++ level_locks (level_of past t)
 
--- how many of the steps turn the thread's ignoring on, and how many off
+-- how many of the steps open an ignore bracket of the thread
 abbrev pub ignore_ons : List Step → ℕ → ℕ
 ignore_ons past t = count_by (λ step. step.thread == t && is_ignore_on step.event) past
 
+-- how many of the steps close one
 abbrev pub ignore_offs : List Step → ℕ → ℕ
 ignore_offs past t = count_by (λ step. step.thread == t && is_ignore_off step.event) past
 

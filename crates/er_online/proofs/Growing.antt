@@ -10,31 +10,31 @@ use Rattle.er_model.specs.Words.{Counted}
 use Rattle.er_model.proofs.Parts.{legal-grow, state-noted}
 use Rattle.er_model.proofs.Prefixes.{state-start}
 use Rattle.er_shadow.specs.Shadows.{Shadows, states}
-use Rattle.er_online.specs.declared.calls.Call.{Call}
+use Rattle.er_online.specs.declared.calls.ShardCall.{ShardCall}
 use Rattle.er_online.specs.Taken.{IsReplay, mark_of, reply_of, note_of, notes_of}
 
-pub notes-grow : (calls : List (Call × List ℕ)) (call : Call × List ℕ) → notes_of (calls ++ call ∷ []) ≡ notes_of calls ++ note_of call ∷ []
+pub notes-grow : (calls : List (ShardCall × List ℕ)) (call : ShardCall × List ℕ) → notes_of (calls ++ call ∷ []) ≡ notes_of calls ++ note_of call ∷ []
 notes-grow calls call = map-append note_of calls (call ∷ [])
 
 no_notes : (k : ℕ) (noted : Noted) → slice_get [] k ≡ Some noted → ⊥
 no_notes k noted is = cc
 
 -- words that are all virgin are the replay of no calls
-pub replay-starts : (calls : List (Call × List ℕ)) (words : Shadows) → calls ≡ [] → ((w : ℕ) → states words w ≡ Virgin) → IsReplay calls words
+pub replay-starts : (calls : List (ShardCall × List ℕ)) (words : Shadows) → calls ≡ [] → ((w : ℕ) → states words w ≡ Virgin) → IsReplay calls words
 replay-starts calls words none virgin = rw none (record {
   legal = λ k noted is. absurd (no_notes k noted is);
   states = λ w. virgin w ∙ sym (state-start (as_reading []) w);
 })
 
 -- an access of words that are the replay of the calls is answered as the list says
-pub access-fits : (calls : List (Call × List ℕ)) (words : Shadows) (thread : ℕ) (kind : Kind) (word : ℕ) (cover : List ℕ) (race : Bool) → IsReplay calls words
+pub access-fits : (calls : List (ShardCall × List ℕ)) (words : Shadows) (thread : ℕ) (kind : Kind) (word : ℕ) (cover : List ℕ) (race : Bool) → IsReplay calls words
     → race ≡ reports (states words word) (advanced (states words word) thread kind cover)
     → FitsEnd (notes_of calls) (Counted thread kind word cover) (cond race Race Quiet)
 access-fits calls words thread kind word cover race was is =
     ap (λ r. cond r Race Quiet) is ∙ ap (λ s. cond (reports s (advanced s thread kind cover)) Race Quiet) (was.states word)
 
 -- where the words move as one more call says, and its answer fits, they are the replay of the longer list
-pub replay-grows : (calls now : List (Call × List ℕ)) (before after : Shadows) (call : Call) (cover : List ℕ) → IsReplay calls before
+pub replay-grows : (calls now : List (ShardCall × List ℕ)) (before after : Shadows) (call : ShardCall) (cover : List ℕ) → IsReplay calls before
     → now ≡ calls ++ (call, cover) ∷ []
     → FitsEnd (notes_of calls) (mark_of call cover) (reply_of call)
     → ((w : ℕ) → states after w ≡ moved (states before w) w (mark_of call cover))

@@ -10,8 +10,8 @@ use Rattle.er_model.proofs.Parts.{legal-grow}
 use Rattle.er_model.proofs.Prefixes.{state-agree}
 use Rattle.er_online.specs.LeftOut.{AreSettled, IsSettledAgain, Made, Told, LeftOut, all_of, told_of}
 use Rattle.er_online.specs.Taken.{HasSameStates, access_of, mark_of, note_of, notes_of, reply_of, state_now}
-use Rattle.er_online.specs.declared.calls.Call.{Call}
-use Rattle.er_online.specs.declared.calls.Call.TheVariants.{Access, Reset}
+use Rattle.er_online.specs.declared.calls.ShardCall.{ShardCall}
+use Rattle.er_online.specs.declared.calls.ShardCall.TheVariants.{Access, Reset}
 use Rattle.er_online.proofs.Growing.{notes-grow}
 use Rattle.er_online.proofs.Settled.{state-grows, stays, fits-quiet, leaves-all}
 
@@ -21,7 +21,7 @@ module _ (notes rest : List Noted) where
   front noted k low = ap mark_in (get_front notes (noted ∷ rest) k low)
 
 -- in a list whose answers are the definitions' each call's answer is the one that those before it give
-fits-within : (calls rest : List (Call × List ℕ)) (call : Call) (cover : List ℕ) → IsLegal (notes_of (calls ++ (call, cover) ∷ rest))
+fits-within : (calls rest : List (ShardCall × List ℕ)) (call : ShardCall) (cover : List ℕ) → IsLegal (notes_of (calls ++ (call, cover) ∷ rest))
     → FitsEnd (notes_of calls) (mark_of call cover) (reply_of call)
 fits-within calls rest (Access thread kind word race) cover legal =
     let notes = notes_of calls in
@@ -37,25 +37,25 @@ fits-within calls rest (Access thread kind word race) cover legal =
 fits-within calls rest (Reset range) cover legal = refl
 
 -- an answer depends on the words' states alone
-fits-same : (calls others : List (Call × List ℕ)) (call : Call) (cover : List ℕ) → HasSameStates calls others
+fits-same : (calls others : List (ShardCall × List ℕ)) (call : ShardCall) (cover : List ℕ) → HasSameStates calls others
     → FitsEnd (notes_of calls) (mark_of call cover) (reply_of call) → FitsEnd (notes_of others) (mark_of call cover) (reply_of call)
 fits-same calls others (Access thread kind word race) cover same fits =
     fits ∙ ap (λ s. cond (reports s (advanced s thread kind cover)) Race Quiet) (sym (same word))
 fits-same calls others (Reset range) cover same fits = refl
 
 -- a list whose answers are the definitions', with one more
-legal-more : (calls : List (Call × List ℕ)) (call : Call) (cover : List ℕ) → IsLegal (notes_of calls) → FitsEnd (notes_of calls) (mark_of call cover) (reply_of call)
+legal-more : (calls : List (ShardCall × List ℕ)) (call : ShardCall) (cover : List ℕ) → IsLegal (notes_of calls) → FitsEnd (notes_of calls) (mark_of call cover) (reply_of call)
     → IsLegal (notes_of (calls ++ (call, cover) ∷ []))
 legal-more calls call cover legal fits = rw (notes-grow calls (call, cover)) (legal-grow (notes_of calls) (note_of (call, cover)) legal fits)
 
 -- the same call after lists with the same states
-same-more : (calls others : List (Call × List ℕ)) (call : Call) (cover : List ℕ) → HasSameStates calls others
+same-more : (calls others : List (ShardCall × List ℕ)) (call : ShardCall) (cover : List ℕ) → HasSameStates calls others
     → HasSameStates (calls ++ (call, cover) ∷ []) (others ++ (call, cover) ∷ [])
 same-more calls others call cover same w =
     state-grows others call cover w ∙ (ap (λ s. moved s w (mark_of call cover)) (same w) ∙ sym (state-grows calls call cover w))
 
 -- one that was settled before is quiet, and leaves all as it is
-leave : (told all : List (Call × List ℕ)) (call : Call × List ℕ) → HasSameStates told all → IsLegal (notes_of all) → IsSettledAgain told call
+leave : (told all : List (ShardCall × List ℕ)) (call : ShardCall × List ℕ) → HasSameStates told all → IsLegal (notes_of all) → IsSettledAgain told call
     → IsLegal (notes_of (all ++ call ∷ [])) × HasSameStates told (all ++ call ∷ [])
 leave told all call same legal was =
     let left = subst (λ c. state_now (was.before ++ c ∷ []) was.word ≡ state_now was.before was.word) was.access was.left in
@@ -72,7 +72,7 @@ pub legal-none : IsLegal (notes_of [])
 legal-none = λ k noted is. absurd (nothing k noted is)
 
 -- the lists so far have the same states, and go on
-pub go-on : (told all : List (Call × List ℕ)) (made : List Made) → HasSameStates told all → IsLegal (notes_of all) → AreSettled told made
+pub go-on : (told all : List (ShardCall × List ℕ)) (made : List Made) → HasSameStates told all → IsLegal (notes_of all) → AreSettled told made
     → IsLegal (notes_of (told ++ told_of made)) → IsLegal (notes_of (all ++ all_of made)) × HasSameStates (told ++ told_of made) (all ++ all_of made)
 unfolding told_of AreSettled
 go-on told all [] same legal settled ends = (rw (append-nil all) legal, rw (append-nil told, append-nil all) same)

@@ -11,12 +11,12 @@ use Rattle.er_model.proofs.Parts.{state-noted}
 use Rattle.er_shadow.proofs.Settled.{stays_quiet}
 use Rattle.er_shadow.specs.Replies.{reply_if}
 use Rattle.er_shadow.specs.Shadows.{Shadows, states}
-use Rattle.er_online.specs.declared.calls.Call.{Call}
+use Rattle.er_online.specs.declared.calls.ShardCall.{ShardCall}
 use Rattle.er_online.specs.Taken.{HasSameStates, IsReplay, access_of, mark_of, note_of, notes_of, state_now}
 use Rattle.er_online.proofs.Growing.{notes-grow}
 
 -- each word's state after one call more
-pub state-grows : (calls : List (Call × List ℕ)) (call : Call) (cover : List ℕ) (w : ℕ) → state_now (calls ++ (call, cover) ∷ []) w ≡ moved (state_now calls w) w (mark_of call cover)
+pub state-grows : (calls : List (ShardCall × List ℕ)) (call : ShardCall) (cover : List ℕ) (w : ℕ) → state_now (calls ++ (call, cover) ∷ []) w ≡ moved (state_now calls w) w (mark_of call cover)
 state-grows calls call cover w = ap (λ notes. state_of_notes notes w) (notes-grow calls (call, cover)) ∙ state-noted (notes_of calls) (note_of (call, cover)) w
 
 -- an access that leaves its word's state leaves those of all words
@@ -33,7 +33,7 @@ moves-own : (state : WordState) (thread : ℕ) (kind : Kind) (word : ℕ) (cover
 moves-own state thread kind word cover = cond-true (word == word) (advanced state thread kind cover) state (eq-eqb word word refl)
 
 -- where an access left its word's state once, it leaves it wherever it finds that state
-pub stays : (before later : List (Call × List ℕ)) (thread : ℕ) (kind : Kind) (word : ℕ) (race : Bool) (cover : List ℕ)
+pub stays : (before later : List (ShardCall × List ℕ)) (thread : ℕ) (kind : Kind) (word : ℕ) (race : Bool) (cover : List ℕ)
     → state_now (before ++ (access_of thread kind word race, cover) ∷ []) word ≡ state_now before word → state_now later word ≡ state_now before word
     → advanced (state_now later word) thread kind cover ≡ state_now later word
 stays before later thread kind word race cover left found =
@@ -41,18 +41,18 @@ stays before later thread kind word race cover left found =
     subst (λ (s : WordState). advanced s thread kind cover ≡ s) (sym found) once
 
 -- then it is quiet
-pub fits-quiet : (later : List (Call × List ℕ)) (thread : ℕ) (kind : Kind) (word : ℕ) (cover : List ℕ) → advanced (state_now later word) thread kind cover ≡ state_now later word
+pub fits-quiet : (later : List (ShardCall × List ℕ)) (thread : ℕ) (kind : Kind) (word : ℕ) (cover : List ℕ) → advanced (state_now later word) thread kind cover ≡ state_now later word
     → FitsEnd (notes_of later) (Counted thread kind word cover) (reply_if false)
 fits-quiet later thread kind word cover same = sym (ap (λ r. cond r Race Quiet) (stays_quiet (state_now later word) _ same))
 
 -- and leaves each word's state
-pub leaves-all : (later : List (Call × List ℕ)) (thread : ℕ) (kind : Kind) (word : ℕ) (race : Bool) (cover : List ℕ)
+pub leaves-all : (later : List (ShardCall × List ℕ)) (thread : ℕ) (kind : Kind) (word : ℕ) (race : Bool) (cover : List ℕ)
     → advanced (state_now later word) thread kind cover ≡ state_now later word → HasSameStates later (later ++ (access_of thread kind word race, cover) ∷ [])
 leaves-all later thread kind word race cover same w =
     state-grows later (access_of thread kind word race) cover w ∙ moves-none (λ v. state_now later v) thread kind word cover same w
 
 -- words that are as they were stand for lists with the same states
-pub same-states : (before after : List (Call × List ℕ)) (old new : Shadows) → IsReplay before old → IsReplay after new → ((w : ℕ) → states new w ≡ states old w)
+pub same-states : (before after : List (ShardCall × List ℕ)) (old new : Shadows) → IsReplay before old → IsReplay after new → ((w : ℕ) → states new w ≡ states old w)
     → HasSameStates before after
 same-states before after old new was is same w = sym (is.states w) ∙ (same w ∙ was.states w)
 

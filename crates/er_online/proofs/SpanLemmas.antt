@@ -3,7 +3,7 @@ use Rattle.std.proofs.Common.{◌≡◌, ◌∙◌, ◌+◌, ℕ, suc, add-one, 
 use Rattle.std.proofs.lemmas.List.{map-append, length-append, append_assoc, append-nil}
 use Rattle.er_event.specs.declared.steps.Kind.{Kind}
 use Rattle.er_event.specs.Span.{Span, parts_below, part_of}
-use Rattle.er_online.specs.declared.calls.Call.{Call}
+use Rattle.er_online.specs.declared.calls.ShardCall.{ShardCall}
 use Rattle.er_online.specs.Spans.{accesses, first_race, found_next, reset_call, resets, IsSpanned}
 use Rattle.er_online.specs.Taken.{access_of}
 
@@ -33,12 +33,12 @@ first_race-more word (false ∷ races) race =
     first_race-more (word + 1) races race ∙ ap (λ w. found_next (first_race (word + 1) races) w race) (next word (length races))
 
 -- no word is taken yet
-pub spanned-none : (calls : List (Call × List ℕ)) (thread : ℕ) (kind : Kind) (cover : List ℕ) (word : ℕ) → IsSpanned calls calls thread kind cover word 0 None
+pub spanned-none : (calls : List (ShardCall × List ℕ)) (thread : ℕ) (kind : Kind) (cover : List ℕ) (word : ℕ) → IsSpanned calls calls thread kind cover word 0 None
 unfolding accesses first_race
 spanned-none calls thread kind cover word = record { races = []; size = refl; list = sym (append-nil calls); first = refl }
 
 -- one word more is taken
-pub spanned-more : (before now after : List (Call × List ℕ)) (thread : ℕ) (kind : Kind) (cover : List ℕ) (word count : ℕ) (found : Option ℕ) (race : Bool)
+pub spanned-more : (before now after : List (ShardCall × List ℕ)) (thread : ℕ) (kind : Kind) (cover : List ℕ) (word count : ℕ) (found : Option ℕ) (race : Bool)
     → IsSpanned before now thread kind cover word count found
     → after ≡ now ++ (access_of thread kind (word + count) race, cover) ∷ []
     → IsSpanned before after thread kind cover word (count + 1) (found_next found (word + count) race)
@@ -56,7 +56,7 @@ spanned-more before now after thread kind cover word count found race was is =
     }
 
 -- one page more is reused
-reset-last : (before now after : List (Call × List ℕ)) (words : Span) (n : ℕ) → now ≡ before ++ resets (parts_below words n)
+reset-last : (before now after : List (ShardCall × List ℕ)) (words : Span) (n : ℕ) → now ≡ before ++ resets (parts_below words n)
     → after ≡ now ++ reset_call (part_of words n) ∷ [] → after ≡ before ++ resets (parts_below words (suc n))
 unfolding parts_below
 reset-last before now after words n was is =
@@ -64,6 +64,6 @@ reset-last before now after words n was is =
     ∙ (append_assoc before (resets (parts_below words n)) (reset_call (part_of words n) ∷ [])
     ∙ ap (λ calls. before ++ calls) (sym (map-append reset_call (parts_below words n) (part_of words n ∷ [])))))
 
-pub resets-more : (before now after : List (Call × List ℕ)) (words : Span) (n : ℕ) → now ≡ before ++ resets (parts_below words n)
+pub resets-more : (before now after : List (ShardCall × List ℕ)) (words : Span) (n : ℕ) → now ≡ before ++ resets (parts_below words n)
     → after ≡ now ++ reset_call (part_of words n) ∷ [] → after ≡ before ++ resets (parts_below words (n + 1))
 resets-more before now after words n was is = subst (λ m. after ≡ before ++ resets (parts_below words m)) (sym (add-one n)) (reset-last before now after words n was is)

@@ -10,49 +10,49 @@ use Rattle.er_model.specs.Words.{Mark, Counted, Reused}
 use Rattle.er_model.specs.Parts.{Noted, IsLegal, state_of_notes}
 use Rattle.er_shadow.specs.Replies.{reply_if}
 use Rattle.er_shadow.specs.Shadows.{Shadows, states as states_among}
-use Rattle.er_online.specs.declared.calls.Call.{Call}
-use Rattle.er_online.specs.declared.calls.Call.TheVariants.{Access, Reset}
-use Rattle.er_online.specs.contracts.calls.Call.{the_row}
+use Rattle.er_online.specs.declared.calls.ShardCall.{ShardCall}
+use Rattle.er_online.specs.declared.calls.ShardCall.TheVariants.{Access, Reset}
+use Rattle.er_online.specs.contracts.calls.ShardCall.{the_row}
 
--- an access with its answer
-abbrev pub access_of : ℕ → Kind → ℕ → Bool → Call
+-- an access that was answered with a race, or not
+abbrev pub access_of : ℕ → Kind → ℕ → Bool → ShardCall
 access_of thread kind word race = Access thread kind word race
 
--- a reuse
-abbrev pub reset_of : PageRange → Call
+-- a reuse of a range
+abbrev pub reset_of : PageRange → ShardCall
 reset_of range = Reset range
 
 -- what a call with these locks is to the words
-abbrev pub mark_of : Call → List ℕ → Mark
+abbrev pub mark_of : ShardCall → List ℕ → Mark
 mark_of (Access thread kind word race) cover = Counted thread kind word cover
 mark_of (Reset range) cover = Reused range
 
 -- what a call was answered
-abbrev pub reply_of : Call → Reply
+abbrev pub reply_of : ShardCall → Reply
 reply_of (Access thread kind word race) = reply_if race
 reply_of (Reset range) = Done
 
 -- a call's mark and reply
-abbrev pub note_of : Call × List ℕ → Noted
+abbrev pub note_of : ShardCall × List ℕ → Noted
 note_of c = record { mark = mark_of c.0 c.1; reply = reply_of c.0 }
 
--- the list's, in order
-abbrev pub notes_of : List (Call × List ℕ) → List Noted
+-- the calls as marks with their replies, in order
+abbrev pub notes_of : List (ShardCall × List ℕ) → List Noted
 notes_of calls = map note_of calls
 
--- the state that the definitions give of the list
-abbrev pub state_now : List (Call × List ℕ) → ℕ → WordState
+-- the word's state after these calls, as the lockset rule gives it
+abbrev pub state_now : List (ShardCall × List ℕ) → ℕ → WordState
 state_now calls w = state_of_notes (notes_of calls) w
 
--- each word has the state that it had
-abbrev pub HasSameStates : List (Call × List ℕ) → List (Call × List ℕ) → Type 0
+-- after the one list each word has the state that it has after the other
+abbrev pub HasSameStates : List (ShardCall × List ℕ) → List (ShardCall × List ℕ) → Type 0
 HasSameStates before after = (w : ℕ) → state_now after w ≡ state_now before w
 
 -- each answer is the one that the definitions give of the list, and so is each word's state
-pub record IsReplay (calls : List (Call × List ℕ)) (words : Shadows) : Type 0 where
+pub record IsReplay (calls : List (ShardCall × List ℕ)) (words : Shadows) : Type 0 where
   pub legal : IsLegal (notes_of calls)
   pub states : (w : ℕ) → states_among words w ≡ state_now calls w
 
 -- how a contract stores such a list
-abbrev pub calls_coded : Coded (List (Call × List ℕ))
+abbrev pub calls_coded : Coded (List (ShardCall × List ℕ))
 calls_coded = coded_list (coded× the_row.coded (coded_list coded_ℕ))

@@ -1,17 +1,17 @@
 //! The list of a shard's calls, which exists in contracts only.
 ghost use Rattle.std.specs.Prelude.{◌≡◌, ℕ, List, [], ◌∷◌, ◌++◌};
 ghost use Rattle.std.specs.Borrow.{ftrue};
-ghost use Rattle.er_online.specs.declared.calls.Call.{Call};
+ghost use Rattle.er_online.specs.declared.calls.ShardCall.{ShardCall};
 ghost use Rattle.er_online.specs.Taken.{calls_coded};
 
-use crate::Call;
+use crate::ShardCall;
 use er_event::Lockset;
 use std::marker::Model;
 
 /// The calls that a shard took, oldest first, each with the locks that covered it. It takes no memory, and its methods do nothing at run time.
 #[derive(Drop)]
 pub struct History {
-    pub ghost calls: { List (Call × List ℕ) } by { calls_coded },
+    pub ghost calls: { List (ShardCall × List ℕ) } by { calls_coded },
 }
 
 impl Model for History {
@@ -30,7 +30,7 @@ impl History {
     }
 
     /// One call more.
-    pub fn and(&self, call: &Call, cover: &Lockset) -> History
+    pub fn and(&self, call: &ShardCall, cover: &Lockset) -> History
         ensures { result.calls ≡ self.now.calls ++ (call.now, cover.now) ∷ [] }
     {
         History {}

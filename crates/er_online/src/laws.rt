@@ -1,5 +1,5 @@
 //! A law of the definitions: the function does nothing, and its contract is proved of them.
-ghost use Rattle.std.specs.Prelude.{◌≡◌, ◌++◌, [], ◌∷◌, ℕ, List, false};
+ghost use Rattle.std.specs.Prelude.{[], List};
 ghost use Rattle.er_model.specs.Parts.{IsLegal};
 ghost use Rattle.er_online.specs.LeftOut.{AreSettled, Made, all_of, told_of};
 ghost use Rattle.er_online.specs.Taken.{HasSameStates, notes_of};

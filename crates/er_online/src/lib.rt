@@ -15,7 +15,7 @@
 //! ```
 #![tactic(auto)]
 
-pub use calls::Call;
+pub use calls::ShardCall;
 pub use er_shadow::Noted;
 pub use laws::settled_accesses_may_be_left_out;
 pub use shard::{Shard, Spanned};

@@ -10,7 +10,7 @@ ghost use Rattle.er_online.specs.Taken.{HasSameStates, access_of, notes_of, rese
 ghost use Rattle.er_shadow.specs.Replies.{reply_if};
 ghost use Rattle.er_shadow.specs.Shadows.{needs_set, states};
 
-use crate::Call;
+use crate::ShardCall;
 use crate::history::History;
 use er_event::{Kind, Lockset, NoRoom, PageRange, ThreadId, Word, WordRange, WordState};
 use er_shadow::{Noted, OwnWords};
@@ -41,11 +41,10 @@ pub struct Shard {
 
 impl Model for Shard {
     ghost use Rattle.std.specs.Prelude.{List, ℕ};
-    ghost use Rattle.er_online.specs.declared.calls.Call.{Call};
-    ghost use Rattle.er_online.specs.Spans.{IsSpanned, found_next, resets};
+    ghost use Rattle.er_online.specs.declared.calls.ShardCall.{ShardCall};
     ghost use Rattle.er_online.specs.Taken.{IsReplay, calls_coded};
 
-    ghost Value = { List (Call × List ℕ) };
+    ghost Value = { List (ShardCall × List ℕ) };
 
     ghost coded = { calls_coded };
 
@@ -91,7 +90,7 @@ impl Shard {
         ensures refusals { ¬ IsErrOf result NoRoom.JournalFull }
     {
         let noted = answer(&mut self.words, thread, kind, word, locks)?;
-        let call = Call::Access(thread, kind, word, noted.is_race);
+        let call = ShardCall::Access(thread, kind, word, noted.is_race);
         self.history = self.history.and(&call, locks);
         Ok(noted)
     }
@@ -102,7 +101,7 @@ impl Shard {
     {
         let range = &range;
         self.words.reset(*range);
-        let call = Call::Reset(*range);
+        let call = ShardCall::Reset(*range);
         self.history = self.history.and(&call, &Lockset::new(self.alloc));
     }
 

@@ -32,11 +32,11 @@ meet a b = nat_le a.first b.last && nat_le b.first a.last
 unfoldable pub by_bytes : Touched → Order → Order
 by_bytes touched order j k = order j k || not (meet (touched j) (touched k))
 
--- a reuse touches all bytes: an access of the era doesn't come in order before position k, and no access of it was a race by its bytes
+-- an access of the era, of whatever bytes, doesn't come in order before position k, and no access of the era was a race by its bytes
 unfoldable pub is_in_use_by_bytes : Touched → Order → Reading → ℕ → ℕ → Bool
 is_in_use_by_bytes touched order r w k = is_some (last_use order r w k) && not (had_race (by_bytes touched order) r w k)
 
--- the lowest word of the range of which that holds
+-- the lowest word of the range that is in use so
 unfoldable pub word_in_use_by_bytes : Touched → Order → Reading → ℕ → PageRange → Option ℕ
 word_in_use_by_bytes touched order r k range = least_below (suc range.hi) (λ w. is_within w range && is_in_use_by_bytes touched order r w k)
 
@@ -51,7 +51,7 @@ abbrev pub answer_to_by_bytes : Touched → List Step → ℕ → Option Step �
 answer_to_by_bytes touched steps k None = Ok Done
 answer_to_by_bytes touched steps k (Some step) = answer_unless (refusal (accepted steps k) step.thread step.event) (reply_by_bytes touched steps k step.thread step.event)
 
--- and to the step at position k
+-- the answer by bytes to the step at position k
 unfoldable pub answer_by_bytes : Touched → List Step → ℕ → Result Reply Refusal
 answer_by_bytes touched steps k = answer_to_by_bytes touched steps k (slice_get steps k)
 
@@ -61,11 +61,12 @@ unordered_by_bytes_of touched steps k (Access kind w site) = last_unordered (by_
 unordered_by_bytes_of touched steps k (Reuse range) = use_of steps k (word_in_use_by_bytes touched (happens_before (acts_of steps)) (reading_of steps) k range)
 unordered_by_bytes_of touched steps k event = None
 
+-- the access that the step at position k, if there is one, is unordered with by bytes
 abbrev pub unordered_by_bytes_in : Touched → List Step → ℕ → Option Step → Option ℕ
 unordered_by_bytes_in touched steps k None = None
 unordered_by_bytes_in touched steps k (Some step) = unordered_by_bytes_of touched steps k step.event
 
--- the same of the step at position k
+-- the access that position k of the list is unordered with by bytes
 unfoldable pub unordered_by_bytes : Touched → List Step → ℕ → Option ℕ
 unordered_by_bytes touched steps k = unordered_by_bytes_in touched steps k (slice_get steps k)
 
@@ -74,6 +75,6 @@ unfoldable pub accesses_from : Reading → ℕ → ℕ → ℕ → List ℕ
 accesses_from r w start zero = []
 accesses_from r w start (suc n) = cond (counted_from r w start n) (n ∷ accesses_from r w start n) (accesses_from r w start n)
 
--- those of its era
+-- the counted accesses of the word in its era at point n, the last one first
 unfoldable pub accesses : Reading → ℕ → ℕ → List ℕ
 accesses r w n = accesses_from r w (era r w n) n

@@ -15,19 +15,19 @@ pub data Keeper : Type 0 where
 abbrev pub Clocks : Type 0
 Clocks = Keeper → ℕ → ℕ
 
--- it is the thread's own clock
+-- the clock is thread t's
 abbrev pub is_own : Keeper → ℕ → Bool
 is_own (OfThread thread) t = thread == t
 is_own (OfReleases lock mode) t = false
 is_own (OfObject object) t = false
 
--- it is the lock's for its releases in the mode
+-- the clock is that of lock l for its releases in mode m
 abbrev pub is_of_releases : Keeper → ℕ → Mode → Bool
 is_of_releases (OfReleases lock mode) l m = l == lock && same_mode m mode
 is_of_releases (OfThread thread) l m = false
 is_of_releases (OfObject object) l m = false
 
--- it is the object's
+-- the clock is that of object x
 abbrev pub is_of_object : Keeper → ℕ → Bool
 is_of_object (OfObject object) x = x == object
 is_of_object (OfThread thread) x = false
@@ -49,7 +49,7 @@ gives a (OfThread t) = a.thread == t || starts a.sync t
 gives a (OfReleases l m) = gives_up a.sync l m
 gives a (OfObject x) = signals a.sync x
 
--- it puts it into another clock than its thread's own
+-- what does this puts its thread's knowledge into another clock than the thread's own
 abbrev pub publishes : Effect → Bool
 publishes (Released lock mode) = true
 publishes (Started thread) = true

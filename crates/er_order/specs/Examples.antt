@@ -2,38 +2,22 @@
 use Rattle.std.specs.Prelude.{ℕ, refl, List, [], ◌∷◌}
 use Rattle.std.proofs.Common.{lit≤}
 use Rattle.er_event.specs.declared.addresses.PageRange.{PageRange}
-use Rattle.er_event.specs.declared.steps.Event.{Event}
 use Rattle.er_event.specs.declared.steps.Event.TheVariants.{Acquire, Release, Access, Reuse, Level, IgnoreOn, IgnoreOff, Sync}
-use Rattle.er_event.specs.declared.steps.Kind.TheVariants.{Read as reading, Write as writing}
-use Rattle.er_event.specs.declared.steps.Mode.TheVariants.{Read, Write}
+use Rattle.er_event.specs.declared.steps.Kind.TheVariants.{Read as reading}
+use Rattle.er_event.specs.declared.steps.Mode.TheVariants.{Read}
 use Rattle.er_event.specs.declared.steps.Sync.TheVariants.{Start, Join, Signal, Await}
-use Rattle.er_model.specs.Examples.{one_word}
+use Rattle.er_model.specs.Examples.{one_word, does, writes_at, writes_word, reads_word, takes, gives}
 use Rattle.er_event.specs.declared.steps.Step.{Step}
 
-abbrev pub does : ℕ → Event → Step
-does t event = record { thread = t; event = event }
-
-abbrev pub writes_at : ℕ → ℕ → Step
-writes_at t w = does t (Access writing w 0)
-
+-- thread t reads word w
 abbrev pub reads_at : ℕ → ℕ → Step
 reads_at t w = does t (Access reading w 0)
 
-abbrev pub writes_word : ℕ → Step
-writes_word t = writes_at t 1024
-
-abbrev pub reads_word : ℕ → Step
-reads_word t = reads_at t 1024
-
-abbrev pub takes : ℕ → ℕ → Step
-takes t l = does t (Acquire l Write)
-
-abbrev pub gives : ℕ → ℕ → Step
-gives t l = does t (Release l Write)
-
+-- thread t acquires lock l in read mode
 abbrev pub takes_to_read : ℕ → ℕ → Step
 takes_to_read t l = does t (Acquire l Read)
 
+-- thread t releases lock l from read mode
 abbrev pub gives_read : ℕ → ℕ → Step
 gives_read t l = does t (Release l Read)
 
@@ -129,7 +113,7 @@ reuse_after_race = writes_word 1 ∷ writes_word 2 ∷ does 3 (Reuse one_word) �
 unfoldable pub reuse_in_bracket : List Step
 reuse_in_bracket = writes_word 1 ∷ does 2 IgnoreOn ∷ does 2 (Reuse one_word) ∷ does 2 IgnoreOff ∷ writes_word 2 ∷ []
 
--- three words
+-- a range of three words
 abbrev pub three_words : PageRange
 three_words = record { lo = 1024; hi = 1026; ordered = lit≤ tt; one_page = refl }
 

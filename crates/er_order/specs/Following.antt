@@ -20,7 +20,7 @@ pub data Kept : Type 0 where
   Seen : (write : Option Epoch) → (reads : List Epoch) → Kept
   Reported : Kept
 
--- of a word with no access in its era
+-- what is kept of a word with no access in its era
 abbrev pub fresh : Kept
 fresh = Seen None []
 
@@ -28,7 +28,7 @@ fresh = Seen None []
 abbrev pub epoch_of : Acts → Reading → ℕ → Epoch
 epoch_of acts r k = (thread_of (r k), own_count acts k (thread_of (r k)))
 
--- and that of the last write, if there is one
+-- the epoch of the last write, if there is one
 abbrev pub write_epoch : Acts → Reading → Option ℕ → Option Epoch
 write_epoch acts r None = None
 write_epoch acts r (Some k) = Some (epoch_of acts r k)
@@ -45,7 +45,7 @@ kept_at steps w n = kept (acts_of steps) (reading_of steps) w n
 abbrev pub is_unordered : (ℕ → ℕ) → Epoch → Bool
 is_unordered clock epoch = not (covers clock epoch)
 
--- the same of the last write
+-- the clock doesn't cover the last write, if there is one
 abbrev pub write_is_unordered : (ℕ → ℕ) → Option Epoch → Bool
 write_is_unordered clock None = false
 write_is_unordered clock (Some epoch) = is_unordered clock epoch
@@ -64,7 +64,7 @@ abbrev pub kept_by : (ℕ → ℕ) → Kept → ℕ → Kind → Kept
 kept_by clock Reported t kind = Reported
 kept_by clock (Seen write reads) t kind = cond (races_with clock write reads kind) Reported (seen_by clock write reads t kind)
 
--- after a position that is this to the words
+-- what is kept of word w after a position that is this to the words
 abbrev pub kept_moved : (ℕ → ℕ) → Kept → ℕ → Mark → Kept
 kept_moved clock before w (Counted t kind word cover) = cond (word == w) (kept_by clock before t kind) before
 kept_moved clock before w (Reused range) = cond (is_within w range) fresh before

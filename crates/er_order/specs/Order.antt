@@ -62,7 +62,7 @@ synchronizes _ later = false
 unfoldable pub leads : Act → Act → Bool
 leads a b = a.thread == b.thread || (starts a.sync b.thread || (joins b.sync a.thread || synchronizes a.sync b.sync))
 
--- the same of two positions
+-- the step at one position leads to the step at another; a refused step leads nowhere
 abbrev pub leads_from : Option Act → Option Act → Bool
 leads_from (Some a) (Some b) = leads a b
 leads_from _ _ = false
@@ -94,12 +94,12 @@ sync_of (Release l m) = Released l m
 sync_of (Sync sync) = effect_of sync
 sync_of _ = Local
 
--- a refused step is none
+-- what the step does, unless it is refused
 abbrev pub act_unless : Option Refusal → Step → Option Act
 act_unless None step = Some (record { thread = step.thread; sync = sync_of step.event })
 act_unless (Some refusal) step = None
 
--- nor is what stands past the end
+-- what the step at position k does: nothing if it is refused, or if the list has no such position
 abbrev pub act_after : List Step → ℕ → Option Step → Option Act
 act_after steps k None = None
 act_after steps k (Some step) = act_unless (refusal (accepted steps k) step.thread step.event) step

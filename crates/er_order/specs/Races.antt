@@ -38,11 +38,11 @@ is_reported order r w k = is_race order r w k && every_below k (λ j. not (count
 unfoldable pub last_use : Order → Reading → ℕ → ℕ → Option ℕ
 last_use order r w k = greatest_below k (λ j. counted_from r w (era r w k) j && not (order j k))
 
--- there is one, and no access of the era was a race
+-- the word is in use: an access of its era doesn't come in order before position k, and no access of the era was a race
 unfoldable pub is_in_use : Order → Reading → ℕ → ℕ → Bool
 is_in_use order r w k = is_some (last_use order r w k) && not (had_race order r w k)
 
--- the lowest word of the range of which that holds
+-- the lowest word of the range that is in use
 unfoldable pub word_in_use : Order → Reading → ℕ → PageRange → Option ℕ
 word_in_use order r k range = least_below (suc range.hi) (λ w. is_within w range && is_in_use order r w k)
 

@@ -19,15 +19,16 @@ word_raced_by steps k (Access kind w site) = Some w
 word_raced_by steps k (Reuse range) = word_in_use (happens_before (acts_of steps)) (reading_of steps) k range
 word_raced_by steps k event = None
 
+-- the word that the step at position k, if there is one, is a race on
 abbrev pub word_raced_in : List Step → ℕ → Option Step → Option ℕ
 word_raced_in steps k None = None
 word_raced_in steps k (Some step) = word_raced_by steps k step.event
 
--- the same of the step at position k
+-- the word that position k of the list is a race on, if it is one
 unfoldable pub word_raced : List Step → ℕ → Option ℕ
 word_raced steps k = word_raced_in steps k (slice_get steps k)
 
--- the last access of a word that is in use
+-- the last access of that word that the reuse at position k is unordered with
 abbrev pub use_of : List Step → ℕ → Option ℕ → Option ℕ
 use_of steps k None = None
 use_of steps k (Some w) = last_use (happens_before (acts_of steps)) (reading_of steps) w k
@@ -38,10 +39,11 @@ unordered_by steps k (Access kind w site) = last_unordered (happens_before (acts
 unordered_by steps k (Reuse range) = use_of steps k (word_in_use (happens_before (acts_of steps)) (reading_of steps) k range)
 unordered_by steps k event = None
 
+-- the access that the step at position k, if there is one, is unordered with
 abbrev pub unordered_in : List Step → ℕ → Option Step → Option ℕ
 unordered_in steps k None = None
 unordered_in steps k (Some step) = unordered_by steps k step.event
 
--- the same of the step at position k
+-- the access that position k of the list is unordered with: the last one, if there are several
 unfoldable pub unordered_with : List Step → ℕ → Option ℕ
 unordered_with steps k = unordered_in steps k (slice_get steps k)

@@ -1,5 +1,5 @@
 //! The law that ties happens-before to locks: the function does nothing, and its contract is proved of the definitions in `specs/`.
-ghost use Rattle.std.specs.Prelude.{◌≡◌, ◌<◌, ◌≤◌, ◌||◌, ℕ, suc, List, IsTrue, IsFalse};
+ghost use Rattle.std.specs.Prelude.{◌<◌, ◌≤◌, ◌||◌, ℕ, suc, List, IsTrue, IsFalse};
 ghost use Rattle.er_event.specs.Lockset.{has, is_level_lock};
 ghost use Rattle.er_event.specs.declared.steps.Step.{Step};
 ghost use Rattle.er_model.specs.Answers.{reading_of};

@@ -1,5 +1,5 @@
 //! The laws of races by happens-before: each function does nothing, and its contract is proved of the definitions in `specs/`.
-ghost use Rattle.std.specs.Prelude.{◌≡◌, ◌<◌, ◌≤◌, ◌++◌, ◌⊎◌, ◌||◌, ◌&&◌, slice_get, Option, [], ◌∷◌, ℕ, suc, List, false, IsTrue};
+ghost use Rattle.std.specs.Prelude.{◌≡◌, ◌<◌, ◌⊎◌, ◌||◌, slice_get, Option, ℕ, suc, List, false, IsTrue};
 ghost use Rattle.er_model.specs.Answers.{reading_of};
 ghost use Rattle.er_model.specs.Words.{Reading, counts, thread_of, writes, era, counted_from};
 ghost use Rattle.er_event.specs.Lockset.{has};

@@ -26,11 +26,11 @@ advanced_to (Exclusive u) t kind set = cond (u == t) (Exclusive u) (shared_at ki
 advanced_to (Shared old) t kind set = shared_at kind set
 advanced_to (SharedModified old) t kind set = SharedModified set
 
--- written while shared, with no candidate left
+-- the word was written while shared, and no candidate is left
 abbrev pub has_no_candidates : NumberedState → Bool
 has_no_candidates (SharedModified set) = set == 0
 has_no_candidates _ = false
 
--- a race is reported where the access makes the state so
+-- a race is reported where an access takes the last candidate of a word that was written while shared
 abbrev pub reports_race : NumberedState → NumberedState → Bool
 reports_race before after = has_no_candidates after && not (has_no_candidates before)

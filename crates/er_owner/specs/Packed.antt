@@ -30,8 +30,10 @@ IsSmall (SharedModified set) = set < 2 ^ 30
 abbrev pub same_bits : NumberedState → NumberedState → Bool
 same_bits p q = nat_eq (bits_of p) (bits_of q)
 
+-- `==` of words is reflexive, symmetric and transitive
 abbrev pub same_bits_equiv : IsEquivalence same_bits
 same_bits_equiv = on_equiv bits_of nat_eq_equiv
 
+-- and so it is the last two, which is all that `==` of a type must be
 abbrev pub same_bits_per : IsPartialEquivalence same_bits
 same_bits_per = partial_equiv_from_equiv same_bits_equiv

@@ -37,11 +37,12 @@ unfoldable pub in_order : List LineView → List LineView
 in_order [] = []
 in_order (line ∷ lines) = put line (in_order lines)
 
--- how many rules the reports have counts of, and how many events the trace lost, by the first report
+-- how many rules the reports have counts of, by the first one
 abbrev pub rules_in : List Summary → ℕ
 rules_in [] = 0
 rules_in (report ∷ reports) = length report.rule_counts
 
+-- how many events the trace lost, by the first report
 abbrev pub lost_in : List Summary → Option ℕ
 lost_in [] = None
 lost_in (report ∷ reports) = report.lost

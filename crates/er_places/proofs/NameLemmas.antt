@@ -8,7 +8,7 @@ use Rattle.er_event.specs.declared.steps.Step.{Step}
 use Rattle.er_event.specs.declared.steps.Sync.{Sync as SyncEvent}
 use Rattle.er_event.specs.declared.steps.Sync.TheVariants.{Start, Join, Signal, Await}
 use Rattle.er_model.specs.Holdings.{holdings_at}
-use Rattle.er_places.specs.Inner.Following.{AreNamed, Followed, StandsFor}
+use Rattle.er_places.specs.Inner.Following.{AreNamed, Followed, HasFollowed}
 use Rattle.er_places.specs.Places.{HasPlaceNames, or_else, place_below, place_by, place_of}
 use Rattle.er_places.specs.declared.places.Place.{Place}
 use Rattle.er_report.proofs.NamedLemmas.{named_holdings, named_step}
@@ -81,7 +81,7 @@ module _ (names : NameTable) (steps : List Step) (lines : List ℕ) (all : All (
       (below-named l n)
 
   -- of the places that stand for these steps
-  pub are-named : (wants : ℕ → Bool) (seen : Followed) → StandsFor wants seen steps lines → AreNamed names seen.places
+  pub are-named : (wants : ℕ → Bool) (seen : Followed) → HasFollowed wants seen steps lines → AreNamed names seen.places
   are-named wants seen stands line =
       subst (λ (o : Option Place). IfSome o (HasPlaceNames names)) (sym (stands.places line))
       (cond-named (HasPlaceNames names) (wants line) (place_below steps lines line (length steps)) None (below-named line (length steps)) tt)

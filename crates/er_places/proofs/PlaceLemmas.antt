@@ -10,7 +10,7 @@ use Rattle.er_event.specs.declared.steps.Step.{Step}
 use Rattle.er_held.specs.ThreadLocks.{held_by}
 use Rattle.er_model.proofs.Prefixes.{holdings-front, holdings-grow, holdings-empty}
 use Rattle.er_model.specs.Holdings.{Holdings, after_step, holdings_at, holdings_end}
-use Rattle.er_places.specs.Inner.Following.{Followed, Follows, HasAll, StandsFor}
+use Rattle.er_places.specs.Inner.Following.{Followed, Follows, HasAll, HasFollowed}
 use Rattle.er_places.specs.Places.{or_else, place_below, place_by, place_in, place_of}
 use Rattle.er_places.specs.declared.places.Place.{Place}
 
@@ -68,8 +68,8 @@ module _ (past : List Step) (lines : List ℕ) (step : Step) (line : ℕ) (even 
       ∙ ap (λ (o : Option Place). cond (line == l) (or_else (place_below (past ++ step ∷ []) (lines ++ line ∷ []) l (length past)) o) (place_below (past ++ step ∷ []) (lines ++ line ∷ []) l (length past))) here
       ∙ ap (λ (o : Option Place). cond (line == l) (or_else o (place_by (holdings_end past step.thread) line step.thread step.event)) o) before
 
-  stands-on : (wants : ℕ → Bool) (before after : Followed) → StandsFor wants before past lines → Follows wants before step line after
-      → StandsFor wants after (past ++ step ∷ []) (lines ++ line ∷ [])
+  stands-on : (wants : ℕ → Bool) (before after : Followed) → HasFollowed wants before past lines → Follows wants before step line after
+      → HasFollowed wants after (past ++ step ∷ []) (lines ++ line ∷ [])
   stands-on wants before after stands follows =
       record {
         threads = λ t. follows.threads t ∙ ap (λ (h : Holdings). after_step h t step) (stands.threads t) ∙ sym (holdings-grow past step t);
@@ -85,7 +85,7 @@ cond-none : (b : Bool) (o : Option Place) → o ≡ cond b o o
 cond-none true o = refl
 cond-none false o = refl
 
-pub stands-start : (wants : ℕ → Bool) (seen : Followed) → seen.threads ≡ [] → seen.places ≡ [] → StandsFor wants seen [] []
+pub stands-start : (wants : ℕ → Bool) (seen : Followed) → seen.threads ≡ [] → seen.places ≡ [] → HasFollowed wants seen [] []
 unfolding place_below
 stands-start wants seen threads places =
     record {
@@ -95,8 +95,8 @@ stands-start wants seen threads places =
 
 -- one step more of a batch
 pub stands-more : (wants : ℕ → Bool) (before after : Followed) (past steps : List Step) (numbers lines : List ℕ) (k : ℕ) (step : Step) → length numbers ≡ length past → length lines ≡ length steps
-    → k < length steps → step ≡ get_or steps k step → StandsFor wants before (past ++ take k steps) (numbers ++ take k lines) → Follows wants before step (get_or lines k 0) after
-    → StandsFor wants after (past ++ take (k + 1) steps) (numbers ++ take (k + 1) lines)
+    → k < length steps → step ≡ get_or steps k step → HasFollowed wants before (past ++ take k steps) (numbers ++ take k lines) → Follows wants before step (get_or lines k 0) after
+    → HasFollowed wants after (past ++ take (k + 1) steps) (numbers ++ take (k + 1) lines)
 stands-more wants before after past steps numbers lines k step even level below is stands follows =
     let line : ℕ = get_or lines k 0 in
     let in_lines : k < length lines = omega arith in
@@ -106,8 +106,8 @@ stands-more wants before after past steps numbers lines k step even level below 
     append_assoc numbers (take k lines) (line ∷ []) ∙ ap (λ xs. numbers ++ xs) (sym (take_more lines k 0 in_lines)) in
     let long : length (past ++ take k steps) ≡ length past + k = omega (arith, length-append past (take k steps), length-take-le k steps (omega arith)) in
     let many : length (numbers ++ take k lines) ≡ length numbers + k = omega (arith, length-append numbers (take k lines), length-take-le k lines (omega arith)) in
-    subst (λ xs. StandsFor wants after xs (numbers ++ take (k + 1) lines)) steps_are
-    (subst (λ xs. StandsFor wants after ((past ++ take k steps) ++ step ∷ []) xs) lines_are
+    subst (λ xs. HasFollowed wants after xs (numbers ++ take (k + 1) lines)) steps_are
+    (subst (λ xs. HasFollowed wants after ((past ++ take k steps) ++ step ∷ []) xs) lines_are
     (stands-on (past ++ take k steps) (numbers ++ take k lines) step line (omega arith) wants before after stands follows))
 
 -- a place that was found stays
@@ -124,7 +124,7 @@ still-found steps lines l n zero place found = rw add-zero found
 still-found steps lines l n (suc k) place found = rw add-suc (one-found steps lines l (n + k) place (still-found steps lines l n k place found))
 
 -- so if each wanted line has its place, later steps change nothing
-module _ (wants : ℕ → Bool) (seen : Followed) (past more : List Step) (lines others : List ℕ) (even : length lines ≡ length past) (stands : StandsFor wants seen past lines)
+module _ (wants : ℕ → Bool) (seen : Followed) (past more : List Step) (lines others : List ℕ) (even : length lines ≡ length past) (stands : HasFollowed wants seen past lines)
     (has : HasAll wants seen.places) where
   found-by : (l : ℕ) (b : Bool) (o : Option Place) → wants l ≡ b → place_in seen.places l ≡ o
       → place_in seen.places l ≡ cond (wants l) (place_below (past ++ more) (lines ++ others) l (length (past ++ more))) None

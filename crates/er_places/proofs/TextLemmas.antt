@@ -8,7 +8,7 @@ use Rattle.er_event.specs.declared.steps.Step.{Step}
 use Rattle.er_places.proofs.FrontLemmas.{in-front}
 use Rattle.er_places.proofs.NameLemmas.{all-named, are-named}
 use Rattle.er_places.proofs.PlaceLemmas.{found-all}
-use Rattle.er_places.specs.Inner.Following.{Followed, HasAll, HasCome, HasEnded, StandsFor}
+use Rattle.er_places.specs.Inner.Following.{Followed, HasAll, HasCome, HasEnded, HasFollowed}
 use Rattle.er_places.specs.Places.{place_at, place_below, ArePlaces, HasPlaces, PlaceTable, place_on}
 use Rattle.er_places.specs.declared.places.Place.{Place}
 use Rattle.er_text.proofs.BatchLaws.{forgotten}
@@ -28,7 +28,7 @@ module _ (wants : ℕ → Bool) (told : Option (List ℕ)) (old new : Reached) (
     (state : HasCome wants told known old t seen)
     (gives : (text : List ℕ) (steps : List Step) (numbers sites : List ℕ) → HasRead text steps numbers sites old known t → GivesBatch text steps numbers sites new rest u (Ok batch))
     (kept : KeepsNames t.names u.names) (level : length u.lines ≡ length u.steps) (named : All (IsNamed u.names) u.steps)
-    (stands : StandsFor wants after_it (state.past ++ u.steps) (state.lines ++ u.lines)) where
+    (stands : HasFollowed wants after_it (state.past ++ u.steps) (state.lines ++ u.lines)) where
   all : All (IsNamed u.names) (state.past ++ u.steps)
   all = All-append (IsNamed u.names) state.past u.steps (all-named t.names u.names kept state.past state.named) named
 
@@ -101,7 +101,7 @@ module _ (wants : ℕ → Bool) (told : Option (List ℕ)) (old new : Reached) (
 
 -- before the first batch
 pub come-start : (wants : ℕ → Bool) (reader : Reached) (trace : Recording) (seen : Followed) → trace ≡ no_steps → ((text : List ℕ) → HasRead text [] [] [] reader (Some text) no_steps)
-    → StandsFor wants seen [] [] → (told : Option (List ℕ)) → HasCome wants told told reader trace seen
+    → HasFollowed wants seen [] [] → (told : Option (List ℕ)) → HasCome wants told told reader trace seen
 come-start wants reader trace seen empty starts stands told =
     subst (λ (t : Recording). HasCome wants told told reader t seen) (sym empty)
     (record { past = []; lines = []; sites = []; read = read-by told; even = refl; named = All-nil (IsNamed no_names); stands = stands })

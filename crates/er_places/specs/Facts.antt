@@ -41,10 +41,11 @@ is_told f = not f.failed
 abbrev pub told : Facts → List (List ℕ) → FactTable
 told f names = cond (is_told f) (record (table_of f) { places = names }) (known_places names)
 
--- the lines and the words of which something is asked
+-- the lines of which what led to their events is asked
 abbrev pub lines_asked : Facts → List ℕ
 lines_asked f = vec_items f.wanted
 
+-- the words of which the variable is asked
 abbrev pub words_asked : Facts → List ℕ
 words_asked f = vec_items f.words
 

@@ -19,12 +19,12 @@ use Rattle.er_places.specs.declared.places.Place.{Place}
 unfoldable pub call_function : PlaceTable → ℕ → List ℕ
 call_function table call = function_in table.facts call
 
--- and of the one that the first of these places is in
+-- the name of the function that the first of these places is in
 abbrev pub function_at : PlaceTable → List ℕ → List ℕ
 function_at table [] = []
 function_at table (own ∷ calls) = call_function table own
 
--- and of the one that a place is in
+-- the name of the function that a place is in
 unfoldable pub function_of : PlaceTable → Option Place → List ℕ
 function_of table place = function_at table (way_of table place)
 
@@ -55,6 +55,6 @@ abbrev pub birth_named : PlaceTable → Option (List ℕ) → Option Birth
 birth_named table None = None
 birth_named table (Some name) = lookup (is_at (λ key. slice_cmp nat_cmp name (vec_items key))) table.facts.locks
 
--- and that of the lock of a number, if it is not the lock of a level
+-- where the life of the lock of a number began; of the lock of a level nothing is known
 unfoldable pub birth_of : PlaceTable → ℕ → Option Birth
 birth_of table lock = cond (is_level_lock lock) None (birth_named table (slice_get table.names.locks lock))

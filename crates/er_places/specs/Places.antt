@@ -4,6 +4,7 @@ use Rattle.std.specs.Map.{lookup}
 use Rattle.er_binary.specs.Numbers.{name_at}
 use Rattle.er_event.specs.declared.steps.Event.{Event}
 use Rattle.er_event.specs.declared.steps.Event.TheVariants.{Access}
+use Rattle.er_event.specs.declared.steps.Kind.{Kind}
 use Rattle.er_event.specs.declared.steps.Step.{Step}
 use Rattle.er_model.specs.Holdings.{Holdings, holdings_at}
 use Rattle.er_places.specs.Facts.{FactTable, way_on}
@@ -16,12 +17,16 @@ use Rattle.er_trace.specs.Names.{NameTable}
 pub use Rattle.er_trace.specs.Names.{no_names}
 use Rattle.er_trace.specs.Trace.{Recording}
 
--- the place of an access on this line by a thread that holds these locks; another event has none
+-- where an access on this line stood, by a thread that holds these locks
+abbrev pub stood_at : Holdings → ℕ → ℕ → Kind → ℕ → Place
+stood_at h line t kind site = record { line = line; thread = t; kind = kind; site = site; held = h.held; write_held = h.write_held }
+
+-- the place of an event, if it is an access
 abbrev pub place_by : Holdings → ℕ → ℕ → Event → Option Place
-place_by h line t (Access kind word site) = Some (record { line = line; thread = t; kind = kind; site = site; held = h.held; write_held = h.write_held })
+place_by h line t (Access kind word site) = Some (stood_at h line t kind site)
 place_by h line t _ = None
 
--- past the list's end there is none
+-- the place of the step at position k, if it is an access
 abbrev pub place_of : List Step → List ℕ → ℕ → Option Step → Option Place
 place_of steps lines k None = None
 place_of steps lines k (Some step) = place_by (holdings_at steps step.thread k) (slice_index lines k) step.thread step.event
@@ -37,7 +42,7 @@ place_below steps lines line zero = None
 place_below steps lines line (suc n) =
     cond (slice_index lines n == line) (or_else (place_below steps lines line n) (place_of steps lines n (slice_get steps n))) (place_below steps lines line n)
 
--- among all steps of a recording
+-- the place of the first access on this line of a recording
 abbrev pub place_on : Recording → ℕ → Option Place
 place_on r line = place_below r.steps r.lines line (length r.steps)
 
@@ -47,6 +52,7 @@ pub record PlaceTable : Type 0 where
   pub names : NameTable
   pub facts : FactTable
 
+-- the place of a line among places by line
 abbrev pub place_in : List (ℕ × Place) → ℕ → Option Place
 place_in places line = lookup (nat_eq line) places
 
@@ -59,7 +65,7 @@ abbrev pub way_of : PlaceTable → Option Place → List ℕ
 way_of table None = []
 way_of table (Some place) = way_on table.facts place.line
 
--- the calls alone
+-- the calls that led to the access at a place, innermost first
 abbrev pub calls_of : PlaceTable → Option Place → List ℕ
 calls_of table place = drop 1 (way_of table place)
 

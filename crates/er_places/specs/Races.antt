@@ -12,11 +12,12 @@ use Rattle.er_report.specs.declared.reports.Reports.{Reports}
 abbrev pub is_on : ℕ → RaceView → Bool
 is_on line race = nat_eq line race.line
 
--- it is made by an access to this word; a reuse makes none
+-- what a thread did is an access to this word
 abbrev pub deed_accesses : ℕ → Deed → Bool
 deed_accesses word (Access kind accessed) = nat_eq word accessed
 deed_accesses word (Reuse range) = false
 
+-- the race is made by an access to this word
 abbrev pub accesses : ℕ → RaceView → Bool
 accesses word race = deed_accesses word race.deed
 
@@ -29,7 +30,7 @@ is_such such (Some race) = such race
 abbrev pub tells_race : (RaceView → Bool) → Line → Bool
 tells_race such line = is_such such (race_of (line_view line))
 
--- one of its lines does, if there is a report
+-- there is a report, and one of its lines tells such a race
 abbrev pub has_race : (RaceView → Bool) → Option Report → Bool
 has_race such None = false
 has_race such (Some report) = list_any (tells_race such) report.lines.items

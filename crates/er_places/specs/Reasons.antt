@@ -22,14 +22,15 @@ if_fits thread kind (Some place) = cond (fits thread kind place) (Some place) No
 abbrev pub access_place : PlaceTable → ℕ → ℕ → Kind → Option Place
 access_place table line thread kind = if_fits thread kind (place_at table line)
 
--- and of the access that a reason names
+-- the place of the access that a reason names
 abbrev pub reason_place : PlaceTable → Because → Option Place
 reason_place table because = access_place table because.line because.thread because.kind
 
--- and of a race that is an access; a reuse has none
+-- the place of a race's access; a reuse has none
 abbrev pub deed_place : PlaceTable → RaceView → Deed → Option Place
 deed_place table race (deed.Access kind word) = access_place table race.line race.thread kind
 deed_place table race (deed.Reuse range) = None
 
+-- the place of a race's own access, if it is known
 abbrev pub race_place : PlaceTable → RaceView → Option Place
 race_place table race = deed_place table race race.deed

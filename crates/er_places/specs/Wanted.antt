@@ -43,21 +43,21 @@ asks_unless known line (Shown number word state) = false
 abbrev pub asks : List Line → ℕ → Line → Bool
 asks before line told = asks_unless (λ (s : ℕ) (k : Kind). list_any (is_race_at s k) before) line told
 
--- past the list's end there is nothing
+-- the same of what stands behind these lines; past the list's end there is nothing
 abbrev pub asks_of : List Line → ℕ → Option Line → Bool
 asks_of before line None = false
 asks_of before line (Some told) = asks before line told
 
--- one of the first n lines does
+-- one of the first n lines asks about this line of the trace
 unfoldable pub asked_below : List Line → ℕ → ℕ → Bool
 asked_below lines line zero = false
 asked_below lines line (suc n) = asked_below lines line n || asks_of (take n lines) line (slice_get lines n)
 
--- one of all lines does
+-- one of these lines asks about this line of the trace
 abbrev pub is_asked : List Line → ℕ → Bool
 is_asked lines line = asked_below lines line (length lines)
 
--- one of a report's lines does, if there is a report
+-- there is a report, and one of its lines asks about this line of the trace
 abbrev pub asked_in : Option Report → ℕ → Bool
 asked_in None line = false
 asked_in (Some report) line = is_asked report.lines.items line

@@ -1,5 +1,5 @@
 //! A second look at a trace text, batch by batch.
-ghost use Rattle.std.specs.Prelude.{IsSorted, ◌≡◌, ◌<◌, ◌≤◌, ◌+◌, ◌^◌, ◌++◌, ◌||◌, ℕ, List, Option, All, false, true, None, length, IfSome, IfOk, IfErr, OnOk};
+ghost use Rattle.std.specs.Prelude.{IsSorted, ◌≡◌, ◌<◌, ◌≤◌, ◌+◌, ◌^◌, ◌||◌, ℕ, List, Option, false, true, None, IfSome, IfOk, IfErr, OnOk};
 ghost use Rattle.std.specs.Ordering.{nat_cmp};
 ghost use Rattle.er_places.specs.Facts.{IsFresh, lines_asked, words_asked};
 ghost use Rattle.er_device.specs.Device.{inner_of, has_failed, taken_of};

@@ -1,12 +1,12 @@
 //! `Follower`, which notes places as steps go by.
-ghost use Rattle.std.specs.Prelude.{◌≡◌, ◌++◌, ◌==◌, ◌&&◌, ℕ, List, All, [], true, cond, nat_eq, length, is_some, IfSome, OnOk};
+ghost use Rattle.std.specs.Prelude.{◌≡◌, ◌++◌, ◌==◌, ◌&&◌, ℕ, List, All, [], true, length, is_some, OnOk};
 ghost use Rattle.std.specs.List.{list_all};
 ghost use Rattle.er_event.specs.declared.steps.Step.{Step as Steps};
-ghost use Rattle.er_places.specs.Inner.Following.{Follows, HasAll, IsNamed, StandsFor, held_by, is_wanted, place_in};
+ghost use Rattle.er_places.specs.Inner.Following.{Follows, HasAll, IsNamed, HasFollowed, is_wanted, place_in};
 
 use crate::Place;
 use crate::wanted::{Numbers, Put};
-use er_event::{Event, Kind, Site, Step, ThreadId};
+use er_event::{Event, Step};
 use er_held::ThreadLocks;
 use er_keys::{HashKeys, NumberHasher};
 use er_trace::Trace;
@@ -36,7 +36,7 @@ impl Model for Follower {
 impl Follower {
     /// It has seen no step. Lines are hashed by these keys.
     pub(crate) fn new(alloc: Global, keys: HashKeys) -> Self
-        ensures { (wanted : List ℕ) → StandsFor (is_wanted wanted) result [] [] }
+        ensures { (wanted : List ℕ) → HasFollowed (is_wanted wanted) result [] [] }
     {
         Follower {
             alloc,
@@ -49,8 +49,8 @@ impl Follower {
     pub(crate) fn follow(&mut self, wanted: &Numbers, trace: &Trace) -> Put
         ensures level { length trace.now.lines ≡ length trace.now.steps }
         ensures named { All (IsNamed trace.now.names) trace.now.steps }
-        ensures stands { (past : List Steps) (numbers : List ℕ) → length numbers ≡ length past → StandsFor (is_wanted wanted.now.keys) self.old past numbers
-            → OnOk result (StandsFor (is_wanted wanted.now.keys) self.new (past ++ trace.now.steps) (numbers ++ trace.now.lines)) }
+        ensures stands { (past : List Steps) (numbers : List ℕ) → length numbers ≡ length past → HasFollowed (is_wanted wanted.now.keys) self.old past numbers
+            → OnOk result (HasFollowed (is_wanted wanted.now.keys) self.new (past ++ trace.now.steps) (numbers ++ trace.now.lines)) }
     {
         let steps = trace.steps();
         let lines = trace.lines();
@@ -80,28 +80,12 @@ impl Follower {
     {
         if let Event::Access(kind, _, site) = step.event {
             if wanted.contains(&line) && !self.places.contains_key(&line) {
-                self.note(line, step.thread, kind, site)?;
+                let place = Place::of(self.alloc, &self.threads, line, step.thread, kind, site)?;
+                drop(self.places.insert(line, place)?);
             }
             return Ok(());
         }
         self.threads.follow(self.alloc, step)?;
-        Ok(())
-    }
-
-    fn note(&mut self, line: u64, thread: ThreadId, kind: Kind, site: Site) -> Put
-        ensures threads { self.new.threads ≡ self.old.threads }
-        ensures places { OnOk result ((l : ℕ) → place_in self.new.places l
-            ≡ cond (nat_eq line l) (Some (record { line = line; thread = thread; kind = kind; site = site; held = (held_by self.old.threads thread).held; write_held = (held_by self.old.threads thread).write_held })) (place_in self.old.places l)) }
-    {
-        let place = Place {
-            line,
-            thread,
-            kind,
-            site,
-            held: self.threads.locks_of(self.alloc, thread)?,
-            write_held: self.threads.cover_of(self.alloc, thread, Kind::Write)?,
-        };
-        drop(self.places.insert(line, place)?);
         Ok(())
     }
 }

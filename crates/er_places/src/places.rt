@@ -1,19 +1,21 @@
 //! Where accesses stood: `Place`, and `Places` by line.
-ghost use Rattle.std.specs.Prelude.{◌≡◌, ℕ, None, Some, true, option_copied, IfSome};
+ghost use Rattle.std.specs.Prelude.{◌≡◌, ℕ, None, Some, true, option_copied, IfOk, IfSome};
 ghost use Rattle.er_places.specs.Inner.Following.{AreNamed};
 ghost use Rattle.er_places.specs.Facts.{table_of, way_on};
 ghost use Rattle.er_places.specs.Names.{birth_of, block_of, call_function, function_of, has_word, start_of, variable_of, way_of};
-ghost use Rattle.er_places.specs.Places.{HasPlaceNames, call_name, calls_of, no_names, place_at};
+ghost use Rattle.er_places.specs.Places.{HasPlaceNames, call_name, calls_of, no_names, place_at, stood_at};
+ghost use Rattle.er_held.specs.ThreadLocks.{held_by};
 ghost use Rattle.er_report.specs.Names.{HasLockName};
 ghost use Rattle.er_places.specs.Reasons.{access_place, race_place, reason_place};
 
 use crate::facts::{Birth, Block, Facts, Start, Variable};
 use crate::follower::PlaceMap;
 use er_event::{Kind, LockId, Lockset, Site, ThreadId, Word};
+use er_held::ThreadLocks;
 use er_keys::{HashKeys, NumberHasher};
 use er_report::{Because, Deed, Race};
 use er_trace::{Names, Trace};
-use std::alloc::Global;
+use std::alloc::{AllocError, Global};
 use std::collections::HashMap;
 use std::marker::Model;
 
@@ -32,6 +34,29 @@ pub struct Place {
     pub held: Lockset,
     /// Those of them that it held to write.
     pub write_held: Lockset,
+}
+
+impl Place {
+    /// Where an access on a line of the text stood, if these are the locks that each thread holds before it.
+    pub fn of(
+        alloc: Global,
+        locks: &ThreadLocks,
+        line: u64,
+        thread: ThreadId,
+        kind: Kind,
+        site: Site,
+    ) -> Result<Place, AllocError>
+        ensures { IfOk result (λ place. place ≡ stood_at (held_by locks.now thread) line thread kind site) }
+    {
+        Ok(Place {
+            line,
+            thread,
+            kind,
+            site,
+            held: locks.locks_of(alloc, thread)?,
+            write_held: locks.cover_of(alloc, thread, Kind::Write)?,
+        })
+    }
 }
 
 /// The places of some accesses, by the line of each, and the names of their numbers. Of a binary trace also what it says of the program.

@@ -3,7 +3,7 @@ ghost use Rattle.std.specs.Prelude.{IsSorted, ◌≡◌, ℕ, ◌||◌, false, t
 ghost use Rattle.std.specs.Ordering.{nat_cmp};
 ghost use Rattle.er_event.specs.declared.steps.Kind.{Kind as Kinds};
 ghost use Rattle.er_places.specs.Inner.Sites.{has_site, site_key};
-ghost use Rattle.er_places.specs.Wanted.{are_asked, asked_in, asks_unless, is_asked, is_race_at, is_wanted, name_line};
+ghost use Rattle.er_places.specs.Wanted.{are_asked, asked_in, asks_unless, is_race_at, is_wanted, name_line};
 
 use er_event::{Kind, Site};
 use er_keys::{HashKeys, NumberHasher};

@@ -40,6 +40,7 @@ value_text style names (Label before label) = label_in style names label
 value_text style names (Event before event) = event_text names event.now
 value_text style names (State before state) = state_text names state.now
 
+-- the text of a part: the text before its value, and the value
 abbrev pub piece_text : Style → NameTable → Piece → List ℕ
 piece_text style names piece = before_of piece ++ value_text style names piece
 

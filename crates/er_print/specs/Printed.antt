@@ -37,15 +37,19 @@ pub use Rattle.er_report.specs.Reports.{HaveNames}
 abbrev pub address_text : ℕ → List ℕ
 address_text word = codes "0x" ++ hex_digits 12 (4 * word)
 
+-- a site in a text for people
 abbrev pub site_text : NameTable → ℕ → List ℕ
 site_text names site = site_in style.Plain names site
 
+-- and a lock
 abbrev pub lock_text : NameTable → ℕ → List ℕ
 lock_text names lock = lock_in style.Plain names lock
 
+-- and a set of locks
 abbrev pub locks_text : NameTable → List ℕ → List ℕ
 locks_text names locks = locks_in style.Plain names locks
 
+-- the verb of an access
 abbrev pub kind_text : Kind → List ℕ
 kind_text kind.Read = codes "read"
 kind_text kind.Write = codes "write"
@@ -73,9 +77,11 @@ event_text names (Acquire lock mode) = event_verb (Acquire lock mode) ++ codes "
 event_text names (Release lock mode) = event_verb (Release lock mode) ++ codes " " ++ lock_text names lock
 event_text names event = event_verb event
 
+-- the candidate locks of a word
 abbrev pub candidates_text : NameTable → List ℕ → List ℕ
 candidates_text names locks = codes ", candidates " ++ locks_text names locks
 
+-- the state of a word
 abbrev pub state_text : NameTable → WordState → List ℕ
 state_text names Virgin = codes "virgin"
 state_text names (Exclusive thread) = codes "exclusive " ++ name_at names.threads thread
@@ -86,6 +92,7 @@ state_text names (SharedModified locks) = codes "shared-modified" ++ candidates_
 abbrev pub place_text : ℕ → List ℕ
 place_text number = codes "line " ++ decimal number ++ codes ": "
 
+-- what an access has to do with a race, in a text for people
 abbrev pub label_text : NameTable → Label → List ℕ
 label_text names label = label_in style.Plain names label
 
@@ -99,8 +106,7 @@ reason_text names because =
 abbrev pub bytes_between : ℕ → ℕ → ℕ
 bytes_between lo hi = (hi - lo + 1) * 4
 
--- what a thread did that is a race: it accessed a word, with these locks, or gave back words, by the address of the first byte and the number
--- of bytes, and where, if that has a name
+-- what a thread did that is a race: it accessed a word, at a site, with these locks, or gave back so many bytes, and where, if that has a name
 abbrev pub deed_text : NameTable → RaceView → Deed → List ℕ
 deed_text names race (deed.Access kind word) =
     name_at names.threads race.thread ++ codes " " ++ kind_text kind ++ codes " " ++ address_text word ++ codes " at " ++ site_text names race.site
@@ -147,6 +153,7 @@ abbrev pub races_label : ReportKind → List ℕ
 races_label Lockset = codes ", races "
 races_label Unordered = codes ", unordered "
 
+-- the line of the totals
 abbrev pub totals_text : ReportKind → Summary → List ℕ
 totals_text of s =
     codes "steps " ++ decimal s.steps ++ races_label of ++ decimal s.races ++ codes ", suppressed " ++ decimal s.suppressed

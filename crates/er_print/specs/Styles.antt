@@ -35,6 +35,7 @@ name_in style.Json most name = string_text name
 name_in style.InString most name = escaped_text name
 name_in style.Short most name = short most name
 
+-- the name of a thread
 abbrev pub thread_in : Style → NameTable → ℕ → List ℕ
 thread_in style names thread = name_in style 24 (name_at names.threads thread)
 
@@ -45,6 +46,7 @@ level_in style.Json level = codes "\"!" ++ decimal level ++ 34 ∷ []
 level_in style.InString level = codes "!" ++ decimal level
 level_in style.Short level = codes "!" ++ decimal level
 
+-- a lock, which has a name or is that of a level
 abbrev pub lock_in : Style → NameTable → ℕ → List ℕ
 lock_in style names lock = cond (is_level_lock lock) (level_in style (lock - level_base)) (name_in style 32 (name_at names.locks lock))
 

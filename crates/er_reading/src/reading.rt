@@ -96,7 +96,7 @@ impl PieceReader {
     }
 
     /// Reads some of the next lines, or those up to the end of the text, and adds their steps to the trace. The shortcut may have
-    /// lines ready, unless they are cut into pieces.
+    /// lines ready. If it has most of them ready, one thread takes them, and none are cut into pieces.
     ///
     /// A text that ends without a header has a fault at its end. After a fault the reader is not to be called again: nothing is known
     /// of what it would read.
@@ -133,7 +133,7 @@ impl PieceReader {
         ensures most { taken_by self.new.place ≤ self.new.place.limit + bytes_past_limit }
         ensures touches { StaysKnown (S.touches (inner_of reader.old)) (S.touches (inner_of reader.new)) }
     {
-        if self.pieces.len() == 1 {
+        if self.pieces.len() == 1 || shortcut.takes_most(reader.inner()) {
             let most_lines = if self.is_alone {
                 LINES_OF_ONE
             } else {

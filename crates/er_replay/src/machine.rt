@@ -1,11 +1,11 @@
 //! The machine: every thread's holdings and every word's state.
-ghost use Rattle.std.specs.Prelude.{◌≡◌, ◌⊎◌, ◌<◌, ◌++◌, ◌∷◌, [], ◌&&◌, ℕ, nat_lt, Bool, cond, true, false, List, IsTrue, IsFalse, IsOk, IsErr, IfOk, IfErr, IsErrOf, MatchOption, OnOk, OnErr, Ok, Err, None, Some};
+ghost use Rattle.std.specs.Prelude.{◌≡◌, ◌⊎◌, ◌<◌, ◌++◌, ◌∷◌, [], ◌&&◌, ℕ, Bool, cond, true, false, List, IsTrue, IsFalse, IsOk, IsErr, IfOk, IfErr, IsErrOf, OnOk, OnErr, Ok, Err, None, Some};
 ghost use Rattle.er_event.specs.declared.steps.Event.{Event as Events};
 ghost use Rattle.er_event.specs.declared.steps.Step.{Step as Steps};
 ghost use Rattle.er_event.specs.declared.steps.WordState.{WordState as WordStates};
 ghost use Rattle.er_held.specs.ThreadLocks.{changes_holdings};
 ghost use Rattle.er_model.specs.Answers.{answer_next, state_end};
-ghost use Rattle.er_model.specs.Following.{answered, locks_for, marked, replied, state_after};
+ghost use Rattle.er_model.specs.Following.{answered, marked, replied, state_after};
 ghost use Rattle.er_model.specs.Holdings.{refused_by, after_step, holdings_end};
 ghost use Rattle.er_model.specs.Table.{moved};
 ghost use Rattle.er_journal.specs.AnswerList.{is_state};
@@ -14,7 +14,7 @@ ghost use Rattle.er_replay.specs.Wants.{is_access, asks_by, may_want, wants_memo
 ghost use Rattle.er_shadow.specs.Replies.{reply_if};
 
 use crate::threads::Threads;
-use er_event::{Event, Kind, Lockset, Refusal, Reply, Step, ThreadId, Word, WordState};
+use er_event::{Event, Kind, Refusal, Reply, Step, ThreadId, Word, WordState};
 use er_held::Held;
 use er_keys::HashKeys;
 use er_shadow::ShadowMap;
@@ -241,9 +241,11 @@ impl<'t> Machine<'t> {
         ensures threads { self.new.threads ≡ self.old.threads }
         ensures room { IfErr result (λ why. IsTrue (may_want (holding self.old thread) (states self.old) thread (Event.Access kind word 0) why)) }
     {
-        let Some(locks) = cover(self.threads.get(thread), kind) else {
+        let held = self.threads.get(thread);
+        if held.ignoring() {
             return Ok((Brief::Ignored, false));
-        };
+        }
+        let locks = held.cover(kind);
         // Without this a full table would refuse an access of a word that has no candidates left. No clause sees that, but tests/probe/steps.txt.
         if let Some(changed) = self.words.access_quickly(thread, word, kind, locks) {
             return Ok((Brief::Quiet, changed));
@@ -285,18 +287,4 @@ impl<'t> Machine<'t> {
     {
         self.words.state_of(word)
     }
-}
-
-// The locks that cover an access of this kind, or none if its thread ignores, and the access isn't counted.
-#[inline(always)]
-fn cover(held: &Held, kind: Kind) -> Option<&Lockset>
-    ensures { MatchOption result (nat_lt 0 held.now.depth ≡ true) (λ locks. (nat_lt 0 held.now.depth ≡ false) × (locks.now ≡ locks_for held.now kind)) }
-{
-    if held.ignoring() {
-        return None;
-    }
-    Some(match kind {
-        Kind::Read => held.held(),
-        Kind::Write => held.write_held(),
-    })
 }

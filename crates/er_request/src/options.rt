@@ -169,7 +169,7 @@ The texts of traces, suppressions and reports are described in docs/FORMATS.md."
 
 // A command, what `--help` says of it before and behind its options, and these.
 #[derive(Clone, Copy)]
-struct Part {
+struct Subcommand {
     name: &'static str,
     about: &'static str,
     after: Option<&'static str>,
@@ -177,19 +177,19 @@ struct Part {
 }
 
 #[rattlefmt::skip]
-static PARTS: [Part; 5] = [
-    Part { name: "replay", about: "Replay a trace and report its races", after: None, rows: &REPLAY },
-    Part { name: "explain", about: "Say why one step is a race or not, by the story of its word", after: Some(AFTER_EXPLAIN), rows: &EXPLAIN },
-    Part { name: "print", about: "Write the text of a trace, also of a binary one", after: None, rows: &PRINT },
-    Part { name: "merge", about: "Make one report of the reports of a trace's parts", after: Some(AFTER_MERGE), rows: &MERGE },
-    Part { name: "demo", about: "Run threads that call the detector, and print how many steps and races they made", after: None, rows: &DEMO },
+static SUBCOMMANDS: [Subcommand; 5] = [
+    Subcommand { name: "replay", about: "Replay a trace and report its races", after: None, rows: &REPLAY },
+    Subcommand { name: "explain", about: "Say why one step is a race or not, by the story of its word", after: Some(AFTER_EXPLAIN), rows: &EXPLAIN },
+    Subcommand { name: "print", about: "Write the text of a trace, also of a binary one", after: None, rows: &PRINT },
+    Subcommand { name: "merge", about: "Make one report of the reports of a trace's parts", after: Some(AFTER_MERGE), rows: &MERGE },
+    Subcommand { name: "demo", about: "Run threads that call the detector, and print how many steps and races they made", after: None, rows: &DEMO },
 ];
 
 /// The command line of the program.
 pub(crate) fn eraser_command<'a>(alloc: Global) -> Result<Command<'a>, AllocError> {
-    let mut parts = Vec::new(alloc);
-    for part in PARTS.as_slice() {
-        parts.push(part_of(alloc, *part)?)?;
+    let mut subcommands = Vec::new(alloc);
+    for subcommand in SUBCOMMANDS.as_slice() {
+        subcommands.push(command_of(alloc, *subcommand)?)?;
     }
     Command::new(alloc, "eraser")
         .version("0.1.0")
@@ -197,16 +197,16 @@ pub(crate) fn eraser_command<'a>(alloc: Global) -> Result<Command<'a>, AllocErro
         .after_help(AFTER_HELP)
         .subcommand_required(true)
         .arg_required_else_help(true)
-        .subcommands(parts)
+        .subcommands(subcommands)
 }
 
-fn part_of<'a>(alloc: Global, part: Part) -> Result<Command<'a>, AllocError> {
+fn command_of<'a>(alloc: Global, subcommand: Subcommand) -> Result<Command<'a>, AllocError> {
     let mut arguments = Vec::new(alloc);
-    for row in part.rows {
+    for row in subcommand.rows {
         arguments.push(argument_of(alloc, *row)?)?;
     }
-    let command = Command::new(alloc, part.name).about(part.about);
-    match part.after {
+    let command = Command::new(alloc, subcommand.name).about(subcommand.about);
+    match subcommand.after {
         Some(text) => command.after_help(text).args(arguments),
         None => command.args(arguments),
     }

@@ -1,5 +1,5 @@
 -- The first rule whose words have both of two, or of a site, while rules are added one by one.
-use Rattle.std.proofs.Common.{string_bytes, ◌≡◌, ◌∙◌, ℕ, ◌+◌, ◌-◌, ◌≤◌, ◌<◌, max, Bool, true, false, ◌&&◌, cond, zero, suc, nat_le, List, [], ◌∷◌, ◌++◌, length, take, drop, get_or, Option, Some, None, ◌⊎◌, inl, inr, refl, sym, ap, subst, arith, take-append-drop}
+use Rattle.std.proofs.Common.{string_bytes, ◌≡◌, ◌∙◌, ℕ, ◌+◌, ◌-◌, ◌≤◌, ◌<◌, Bool, true, false, ◌&&◌, cond, zero, suc, nat_le, List, [], ◌∷◌, ◌++◌, length, take, drop, get_or, Option, Some, None, ◌⊎◌, inl, inr, refl, sym, ap, subst, arith, take-append-drop}
 use Rattle.std.specs.Option.{option_or}
 use Rattle.std.proofs.lemmas.List.{take_more, drop_more, take_all, get_or_append_left, get_or_push, length_push}
 use Rattle.std.proofs.lemmas.Bool.Decides.{nat_tests}
@@ -10,10 +10,6 @@ use Rattle.er_rules.specs.declared.reach.Border.{Border}
 use Rattle.er_rules.specs.Targets.{span_of, takes_name}
 use Rattle.er_rules.specs.Inner.Index.{first_of, first_taking, has_both, least_of}
 use Rattle.er_rules.specs.Inner.Reach.{end_at}
-
-pub or-none : (a : Option ℕ) → option_or a None ≡ a
-or-none None = refl
-or-none (Some x) = refl
 
 chosen : (b : Bool) (rule : ℕ) (x y z : Option ℕ) → x ≡ option_or y z → cond b (Some rule) x ≡ option_or (cond b (Some rule) y) z
 chosen true rule x y z e = refl
@@ -52,9 +48,6 @@ pub first_of-found : (entries : List Entry) (i lo hi : ℕ) (e : Entry) → i < 
 first_of-found entries i lo hi e within none has = sym
     (ap (λ es. first_of es lo hi) (sym (take-append-drop i entries)) ∙ (first_of-append (take i entries) (drop i entries) lo hi
     ∙ ((λ k. option_or (none k) (first_of (drop_more entries i e within k) lo hi)) ∙ first_of-front (get_or entries i e) (drop (i + 1) entries) lo hi has)))
-
-pub first_of-all : (entries : List Entry) (i lo hi : ℕ) → length entries ≤ i → first_of (take i entries) lo hi ≡ None → None ≡ first_of entries lo hi
-first_of-all entries i lo hi all none = sym (ap (λ es. first_of es lo hi) (sym (take_all i entries all)) ∙ none)
 
 -- what the entries keep of one another: where each begins, and how far those from there on reach
 abbrev pub Start : List Entry → Type 0
@@ -113,36 +106,6 @@ pub record Covers (entries : List Entry) (words : Span) (start : ℕ) (reach : L
   pub within : start ≤ length entries
   pub front : (k w : ℕ) (e : Entry) → start ≤ k → k < length entries → (get_or entries k e).words.first ≤ w → (get_or entries k e).words.last < end_at reach w
   pub own : (w : ℕ) → words.first ≤ w → words.last < end_at reach w
-
-pub covers-one : (entries : List Entry) (words : Span) (start : ℕ) (reach : List Border) → start ≡ length entries → ((w : ℕ) → end_at reach w ≡ cond (nat_le words.first w) (words.last + 1) 0) → Covers entries words start reach
-covers-one entries words start reach all ends = record {
-  within = omega (arith, all);
-  front = λ k w e from within begins. absurd (omega (arith, all, from, within));
-  own = λ w begins.
-      let test : nat_le words.first w ≡ true = grind (arith, nat_tests, begins) in
-      let is : end_at reach w ≡ words.last + 1 = ends w ∙ ap (λ b. cond b (words.last + 1) 0) test in
-      omega (arith, is);
-}
-
-pub covers-more : (entries : List Entry) (words : Span) (start next : ℕ) (reach both : List Border) (d : Entry) → Reaching entries → Start entries → Covers entries words start reach → 0 < start → next ≡ (get_or entries (start - 1) d).start
-    → ((w : ℕ) → end_at both w ≡ max (end_at (get_or entries (start - 1) d).reach w) (end_at reach w)) → Covers entries words next both
-covers-more entries words start next reach both d reaches starts so_far some is over =
-    let inside = so_far.within in
-    let low : (get_or entries (start - 1) d).start ≤ start - 1 = starts (start - 1) d (omega (arith, inside, some)) in
-    record {
-      within = omega (arith, is, low, inside);
-      front = λ k w e from within begins. by k w e from within begins (cases k start);
-      own = λ w begins. omega (arith, over w, so_far.own w begins);
-    }
-  where
-    cases : (m n : ℕ) → (m < n) ⊎ (n ≤ m)
-    cases m n = grind arith
-
-    by : (k w : ℕ) (e : Entry) → next ≤ k → k < length entries → (get_or entries k e).words.first ≤ w → (k < start) ⊎ (start ≤ k) → (get_or entries k e).words.last < end_at both w
-    by k w e from within begins (inl before) =
-        let inside = so_far.within in
-        omega (arith, over w, reaches (start - 1) k w d e (omega (arith, inside, some)) (omega (arith, is, from)) (omega (arith, before)) begins)
-    by k w e from within begins (inr behind) = omega (arith, over w, so_far.front k w e behind within begins)
 
 pub reaching-push : (entries : List Entry) (e : Entry) → Reaching entries → Covers entries (span_of e.words) e.start e.reach → Reaching (entries ++ e ∷ [])
 reaching-push entries e reaches covers = λ p k w d f below from upto begins.

@@ -87,13 +87,6 @@ reuse_is (AtSites pattern) site lo hi = or-false (pattern_takes pattern site)
 reuse_is (AtWords words) site lo hi = refl
 reuse_is (AtFact kind pattern) site lo hi = refl
 
-nowhere_is : (t : Target) (lo hi : ℕ) → takes_reuse t None lo hi ≡ is_of_words t lo hi
-nowhere_is (AtSite None) lo hi = refl
-nowhere_is (AtSite (Some name)) lo hi = refl
-nowhere_is (AtSites pattern) lo hi = refl
-nowhere_is (AtWords words) lo hi = refl
-nowhere_is (AtFact kind pattern) lo hi = refl
-
 abbrev pub first_by_site : List Target → Option (List ℕ) → Option ℕ
 first_by_site targets site = position (λ target. is_of_site target site) targets
 
@@ -118,9 +111,6 @@ matching_is targets site word = sym ((λ k. position (λ t. takes_is t site word
 
 matching_reuse_is : (targets : List Target) (site : List ℕ) (lo hi : ℕ) → first_by_any targets (Some site) lo hi ≡ matching_reuse_rule targets (Some site) lo hi
 matching_reuse_is targets site lo hi = sym ((λ k. position (λ t. reuse_is t site lo hi k) targets) ∙ any_is targets (Some site) lo hi)
-
-pub matching_nowhere_is : (targets : List Target) (lo hi : ℕ) → first_by_words targets lo hi ≡ matching_reuse_rule targets None lo hi
-matching_nowhere_is targets lo hi = sym (λ k. position (λ t. nowhere_is t lo hi k) targets)
 
 pub matching_reuse_at : (targets : List Target) (site : Option (List ℕ)) (name : List ℕ) (lo hi : ℕ) → site ≡ Some name → first_by_any targets site lo hi ≡ matching_reuse_rule targets site lo hi
 matching_reuse_at targets site name lo hi is =

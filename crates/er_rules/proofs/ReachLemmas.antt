@@ -1,6 +1,6 @@
 -- The end at a word while borders are added one by one.
 use Rattle.std.proofs.Common.{◌≡◌, ◌∙◌, ℕ, suc, ◌+◌, ◌-◌, ◌≤◌, ◌<◌, Bool, true, false, cond, List, [], ◌∷◌, ◌++◌, length, take, drop, get_or, slice_index_or, nat_le, max, ◌⊎◌, inl, inr, refl, sym, ap, subst, arith, take-append-drop}
-use Rattle.std.proofs.lemmas.List.{take_more, take_all, get_or_append_left, get_or_push, get_or-drop, length-drop, length_push}
+use Rattle.std.proofs.lemmas.List.{take_more, get_or_append_left, get_or_push, get_or-drop, length-drop, length_push}
 use Rattle.std.proofs.lemmas.List.Sorted.{IsNonDecreasingBy-push}
 use borrow.Author.Tests.{leb-true, le-leb, lt-leb}
 use Rattle.er_rules.specs.declared.reach.Border.{Border}
@@ -123,12 +123,6 @@ module _ (first second borders : List Border) (i j : ℕ) (earlier later : ℕ) 
       by : (w : ℕ) (t : Bool) → nat_le b.word w ≡ t → cond t b.end (end_at borders w) ≡ max (end_at (take i first) w) (cond t (get_or second j no_border).end (end_at (take j second) w))
       by w true here = end ∙ ap (λ o. max o (get_or second j no_border).end) (sym (so_far.earlier_is w (omega (arith, leb-true b.word w here, so_far.second_next within, word))))
       by w false behind = so_far.both w
-
--- all borders of both
-pub overlaid-all : (first second borders : List Border) (i j : ℕ) (earlier later : ℕ) (bound : ℕ) → IsOverlaid first second borders i j earlier later bound → length first + length second ≤ i + j
-    → (w : ℕ) → end_at borders w ≡ max (end_at first w) (end_at second w)
-overlaid-all first second borders i j earlier later bound all done w =
-    all.both w ∙ (λ k. max (end_at (take_all i first (omega (arith, all.i_within, all.j_within)) k) w) (end_at (take_all j second (omega (arith, all.i_within, all.j_within)) k) w))
 
 -- the border of one run of words
 pub of_words-one : (none one : List Border) (start : Border) (first end : ℕ) → none ≡ [] → one ≡ none ++ start ∷ [] → start.word ≡ first → start.end ≡ end → (w : ℕ) → end_at one w ≡ cond (nat_le first w) end 0

@@ -7,8 +7,8 @@ use Rattle.er_event.specs.Span.{Span}
 use Rattle.er_rules.specs.Rules.{Target, AtWords, AtFact}
 use Rattle.er_rules.specs.declared.rules.FactKind.{FactKind}
 use Rattle.er_lines.specs.declared.faults.TextKind.{TextKind}
-use Rattle.er_lines.specs.declared.faults.TextKind.TheVariants.{BadName, BadVerb, BadNumber, AddressOutOfRange}
-use Rattle.er_lines.specs.Lines.{Placed, has_bytes, word_at, words}
+use Rattle.er_lines.specs.declared.faults.TextKind.TheVariants.{BadName, BadNumber, AddressOutOfRange}
+use Rattle.er_lines.specs.Lines.{Placed, word_at, words}
 use Rattle.er_lines.specs.Number.{number_of}
 use Rattle.er_lines.specs.Naming.{is_site_name}
 use Rattle.er_lines.specs.Words.{and_then, map_ok, number_in}
@@ -157,10 +157,6 @@ long_run_again a n low within =
     let x : nat_le (2 ^ 48) a ≡ false = grind (arith, nat_tests, low) in
     let y : nat_lt (2 ^ 48) (a + n) ≡ false = grind (arith, nat_tests, within) in
     rw (x, y) refl
-
-some_site : (w : List ℕ) → is_site_name w ≡ true → has_bytes w ≡ true
-some_site [] is = absurd (cc)
-some_site (x ∷ xs) is = refl
 
 name_again : (w : List ℕ) → is_site_name w ≡ true → name_in w [] ≡ Ok w
 name_again [] site = absurd (cc)

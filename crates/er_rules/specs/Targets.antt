@@ -8,17 +8,18 @@ use Rattle.er_rules.specs.declared.rules.Rule.{Rule}
 use Rattle.er_rules.specs.declared.rules.Rule.TheVariants.{Site, Sites, Words, Fact}
 use Rattle.er_rules.specs.declared.rules.WordSpan.{WordSpan}
 
--- what a rule aims at: the site of this name or the missing site, the sites whose names a pattern takes, the words of a run or none, or what a trace
--- says of the program by names that a pattern takes
+-- what a rule aims at: a site by its name or the missing one, the sites of a pattern, a run of words or none, or what a trace says of the program, by a pattern
 pub data Target : Type 0 where
   AtSite : (name : Option (List ℕ)) → Target
   AtSites : (pattern : List ℕ) → Target
   AtWords : (words : Option Span) → Target
   AtFact : (kind : FactKind) → (pattern : List ℕ) → Target
 
+-- the words of a run
 abbrev pub span_of : WordSpan → Span
 span_of words = record { first = words.first; last = words.last }
 
+-- what a rule aims at, by its text
 abbrev pub target_of : Rule → Target
 target_of (Site name) = AtSite (option_map string_bytes name)
 target_of (Sites pattern) = AtSites (string_bytes pattern)
@@ -49,8 +50,7 @@ takes (AtSites pattern) site word = takes_name pattern site
 takes (AtWords words) site word = is_among words word
 takes (AtFact kind pattern) site word = false
 
--- whether a rule takes a race of a reuse, at the site, of the words from lo to hi: it is of that site, which isn't missing, or takes its
--- name, or its words have them all
+-- whether a rule takes a race of a reuse of the words from lo to hi: it is of the reuse's site, which isn't missing, or takes its name, or has all the words
 abbrev pub takes_reuse : Target → Option (List ℕ) → ℕ → ℕ → Bool
 takes_reuse (AtSite name) site lo hi = is_some name && same_site name site
 takes_reuse (AtSites pattern) site lo hi = takes_name pattern site

@@ -45,6 +45,7 @@ kind_of word =
     if bytes_eq word (codes "frame") then Some Frame else if bytes_eq word (codes "function") then Some Function else if bytes_eq word (codes "variable") then Some Variable
     else None
 
+-- the first edition has no such word
 abbrev pub kind_in : Bool → List ℕ → Option FactKind
 kind_in is_second word = if is_second then kind_of word else None
 
@@ -70,11 +71,12 @@ is_header words =
     bytes_eq (word_at 0 words) (codes "eraser") && bytes_eq (word_at 1 words) (codes "suppressions") && bytes_eq (word_at 2 words) (codes "2")
     && not (has_bytes (word_at 3 words))
 
--- of lines with content, whether the first is the header of the second edition, and those behind it or else all
+-- of lines with content, the first is the header of the second edition
 abbrev pub has_header : List Placed → Bool
 has_header [] = false
 has_header (p ∷ ps) = is_header (words p.line.bytes)
 
+-- the lines behind the header, or all if there is none
 abbrev pub behind_header : List Placed → List Placed
 behind_header [] = []
 behind_header (p ∷ ps) = if is_header (words p.line.bytes) then ps else p ∷ ps
@@ -83,16 +85,19 @@ behind_header (p ∷ ps) = if is_header (words p.line.bytes) then ps else p ∷ 
 abbrev pub AreRules : List Placed → List Target → Type 0
 AreRules lines targets = AllRule (has_header lines) (behind_header lines) targets
 
+-- the faults of the words behind `site`, in their order
 abbrev pub site_kinds : List (List ℕ) → List (Bool × TextKind)
 site_kinds operands =
     (nat_lt (length operands) 1, MissingOperand) ∷ (nat_lt 1 (length operands), ExtraOperand) ∷ (not (is_site_name (word_at 0 operands)), BadName) ∷ []
 
+-- and of those behind `words`
 abbrev pub run_kinds : List (List ℕ) → List (Bool × TextKind)
 run_kinds operands =
     (nat_lt (length operands) 2, MissingOperand) ∷ (nat_lt 2 (length operands), ExtraOperand)
     ∷ (not (is_number_at 0 operands), BadNumber) ∷ (not (is_number_at 1 operands), BadNumber)
     ∷ (nat_le (2 ^ 48) (number_at 0 operands) || nat_lt (2 ^ 48) (number_at 0 operands + number_at 1 operands), AddressOutOfRange) ∷ []
 
+-- and of those behind any other word
 abbrev pub fact_kinds : Option FactKind → List (List ℕ) → List (Bool × TextKind)
 fact_kinds None operands = (true, BadVerb) ∷ []
 fact_kinds (Some kind) operands = site_kinds operands
@@ -109,6 +114,7 @@ abbrev pub rule_content_kinds : Option Bool → Placed → List (Bool × TextKin
 rule_content_kinds None p = if has_content p && not (is_header (words p.line.bytes)) then rule_kinds false (words p.line.bytes) else []
 rule_content_kinds (Some is_second) p = if has_content p then rule_kinds is_second (words p.line.bytes) else []
 
+-- whether the text is of the second edition, as far as this line shows it
 abbrev pub edition_at : Option Bool → Placed → Option Bool
 edition_at None p = if has_content p then Some (is_header (words p.line.bytes)) else None
 edition_at (Some is_second) p = Some is_second

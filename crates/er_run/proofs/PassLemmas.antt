@@ -33,12 +33,6 @@ use Rattle.er_unordered.specs.Stops.{IsStopIn}
 use Rattle.er_clock.specs.declared.clock.NoTick.{NoTick}
 use Rattle.er_clock.specs.declared.clock.NoTick.TheVariants as order
 
--- which analysis is asked for
-pub lockset-alone : (analysis : Analysis) → asks_order analysis ≡ false → analysis ≡ Lockset
-lockset-alone Lockset none = refl
-lockset-alone HappensBefore none = absurd (cc)
-lockset-alone Both none = absurd (cc)
-
 -- of a part, and beside another report, a stop is a fault
 or-false : (b : Bool) → (b || false) ≡ true → b ≡ true
 or-false true some = refl

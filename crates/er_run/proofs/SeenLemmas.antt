@@ -68,10 +68,6 @@ pub followed : (X E : Type 0) (result : Result X E) (old new : Inspected) (wante
 followed X E (Ok x) old new wanted past lines sites names trace level seen stands = seen-on (Some old) (Some new) wanted past lines sites names trace level seen refl stands
 followed X E (Err e) old new wanted past lines sites names trace level seen stands = tt
 
--- without an inspector nothing is looked for
-pub nothing-found : (told : Option (List ℕ)) (limit : ℕ) (strict : Bool) (used : NameTable) → IsAnswered (IsInspected None strict) None told limit used → HasFound told limit strict None
-nothing-found told limit strict used all = λ wanted. absurd (let clash = all.stands.strict in cc)
-
 -- the workers' faults are no damage
 pub workers-no_damage : (why : ReplayFault) → IsNoDamage (fault_of why)
 workers-no_damage replaying.Memory = tt

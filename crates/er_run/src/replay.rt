@@ -1,9 +1,8 @@
 //! Bytes in, reports out.
-ghost use Rattle.std.specs.Prelude.{◌≡◌, ◌+◌, ◌≤◌, ◌<◌, false, true, All, IfSome, IfOk, IfErr, OnOk, IsTrue, IsFalse, None, is_some};
+ghost use Rattle.std.specs.Prelude.{◌≡◌, ◌+◌, ◌≤◌, ◌<◌, false, true, IfSome, IfOk, IfErr, OnOk, IsTrue, IsFalse, None, is_some};
 ghost use Rattle.er_damage.specs.Damaged.{IsDamageOf, no_damage};
 ghost use Rattle.er_device.specs.Device.{inner_of, has_failed, taken_of};
 ghost use Rattle.er_print.specs.Printed.{report_text};
-ghost use Rattle.er_report.specs.Names.{HasNames};
 ghost use Rattle.er_report.specs.Report.{told};
 ghost use Rattle.er_report.specs.Reports.{HaveNames, asks_locks, asks_order};
 ghost use Rattle.er_report.specs.declared.reports.Analysis.TheVariants.{Lockset};

@@ -1,7 +1,7 @@
 //! `Seat`, one thread's handle.
 #![tactic(auto, unfolding(crate::specs::Seats::with_call))]
 
-ghost use Rattle.std.specs.Prelude.{◌≡◌, ◌≤◌, ◌<◌, ◌+◌, ◌↔◌, ◌⊎◌, [], ℕ, Bool, cond, length, IsTrue, IsFalse, IsOk, IfOk, IsOkUnless, IsErrAnd, IsErrOf, OnOk, OnErr, None, Some, slice_get, is_some, not};
+ghost use Rattle.std.specs.Prelude.{◌≡◌, ◌≤◌, ◌<◌, ◌+◌, ◌↔◌, ◌⊎◌, [], ℕ, length, IsTrue, IsFalse, IsOk, IfOk, IsOkUnless, IsErrAnd, IsErrOf, OnOk, OnErr, None, Some, slice_get};
 ghost use Rattle.er_held.specs.Held.{nothing_held};
 ghost use Rattle.er_journal.specs.Entries.{Call as Calls};
 ghost use Rattle.er_model.specs.Events.{is_show};

@@ -6,8 +6,7 @@ use Rattle.er_settle.specs.Seats.{SeatList}
 use Rattle.er_settle.specs.declared.unsettled.Unsettled.{Unsettled}
 use Rattle.er_settle.specs.declared.unsettled.Unsettled.TheVariants.{Entries, Answer}
 use Rattle.er_settle.specs.Faults.{AreOfDetector, AreDistinct, AreComplete, AreOrdered, ArePaired, IsFirst, IsSettled, Not}
-use Rattle.er_settle.specs.Inner.JournalOrder.{EntryAt, IsOrder, IsDisorder}
-use Rattle.er_settle.specs.Inner.SeatChecks.{IsTwice}
+use Rattle.er_settle.specs.Inner.JournalOrder.{EntryAt, IsOrder}
 use Rattle.er_settle.specs.Inner.EntryMatches.{AreInTurn, AllGiven, AllInPlace, AllAgree, IsUngiven}
 use Rattle.er_settle.specs.Inner.ReplyMatches.{AllAlike}
 use Rattle.er_settle.proofs.PairLemmas.{turn-paired, paired-turn}
@@ -40,20 +39,6 @@ module _ (name opened : ℕ) (seats : List SeatList) (journals : List (List Entr
 
   pub settled : AllAlike seats slice → IsSettled name opened seats journals
   settled alike = record { own = own; once = once; all = all; ordered = ordered; paired = paired; answered = alike-answered seats journals order is turn.turn (rw same at alike) }
-
-pub agree_at : (seats : List SeatList) (journals : List (List Entry)) (order slice : List EntryAt) → slice ≡ order → AreInTurn seats journals order → AllAgree seats slice
-agree_at seats journals order slice same turn = rw same turn.turn
-
--- why a fault of the seats or of the journals is the first
-pub twice_first : (name opened : ℕ) (seats : List SeatList) (journals : List (List Entry)) (fault : Unsettled) → AreOfDetector name seats → IsTwice seats fault
-    → IsFirst name opened seats journals fault
-twice_first name opened seats journals fault own (inl memory) = rw memory tt
-twice_first name opened seats journals fault own (inr other) = rw other.0 (own, other.1)
-
-pub disorder_first : (name opened : ℕ) (seats : List SeatList) (journals : List (List Entry)) (fault : Unsettled) → AreOfDetector name seats → AreDistinct seats
-    → AreComplete opened seats → IsDisorder journals fault → IsFirst name opened seats journals fault
-disorder_first name opened seats journals fault own once all (inl memory) = rw memory tt
-disorder_first name opened seats journals fault own once all (inr other) = rw other.0 (own, once, all, λ ordered. other.1 ordered.1)
 
 -- an error that is handed on
 pub handed_on : {T : Type 0} (r : Result T Unsettled) (fault : Unsettled) (P : Unsettled → Type 0) → IsErrAnd r (λ e. e ≡ fault) → P fault → IfErr r P

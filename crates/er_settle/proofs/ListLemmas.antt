@@ -41,12 +41,6 @@ get_front (y ∷ xs) zero i x h = absurd (cc)
 get_front (y ∷ xs) (suc k) zero x h = (omega arith, h)
 get_front (y ∷ xs) (suc k) (suc i) x h = let r = get_front xs k i x h in (omega (arith, r.0), r.1)
 
-pub in_front : {A : Type 0} (xs : List A) (k i : ℕ) (x : A) → i < k → slice_get xs i ≡ Some x → slice_get (take k xs) i ≡ Some x
-in_front [] k i x below h = absurd (cc)
-in_front (y ∷ xs) zero i x below h = absurd (omega arith)
-in_front (y ∷ xs) (suc k) zero x below h = h
-in_front (y ∷ xs) (suc k) (suc i) x below h = in_front xs k i x (omega arith) h
-
 -- a list that grew by one element, to which all earlier ones stand in the relation
 pub each_two-push : (A : Type 0) (R : A → A → Type 0) (xs : List A) (e : A) → EachTwo A R xs → ((k : ℕ) (x : A) → slice_get xs k ≡ Some x → R x e) → EachTwo A R (xs ++ e ∷ [])
 each_two-push A R xs e all last j k x y below hx hy = elim (get_push xs e y k hy) [

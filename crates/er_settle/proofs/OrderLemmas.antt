@@ -35,9 +35,6 @@ soonest-none journals read k s (Some w) was here none = (
   ],
 )
 
-pub soonest-skip : (journals : List (List Entry)) (read : List ℕ) (k : ℕ) (s : List Entry) (old : Option (ℕ × ℕ)) → slice_get journals k ≡ Some s → slice_get s (slice_index read k) ≡ None → IsSoonest journals read k old → IsSoonest journals read (k + 1) old
-soonest-skip journals read k s old here none was = soonest-none journals read k s old was here none
-
 ticket_here : (journals : List (List Entry)) (read : List ℕ) (p k : ℕ) (s : List Entry) (e d : Entry) → slice_get journals k ≡ Some s → slice_get s (slice_index read k) ≡ Some e → p ≡ k → IsNext journals read p d → d.ticket ≡ e.ticket
 ticket_here journals read p k s e d here next same other =
     let both : Some e ≡ Some d = one_next journals read k s (Some e) d here next (rw (← same) other) in

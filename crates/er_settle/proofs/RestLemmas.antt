@@ -20,7 +20,7 @@ use Rattle.er_settle.specs.Inner.SeatChecks.{IsIndex}
 use Rattle.er_settle.specs.Inner.JournalOrder.{EntryAt, OrderRises, entries_by}
 use Rattle.er_settle.specs.Inner.EntryMatches.{ticketed_calls, ticketed_entries, AllAgree}
 use Rattle.er_settle.specs.Inner.CallOrder.{turns_by, next_turn, ticketed_turns, entry_turns, AreTaken, AreByNumber}
-use Rattle.er_settle.specs.Runs.{TurnShown, turn_of, calls_of, HasLater, IsInOrder}
+use Rattle.er_settle.specs.Runs.{TurnShown, turn_of, calls_of, HasTicketLater, IsInOrder}
 use Rattle.er_settle.proofs.ListLemmas.{each_two-none}
 use Rattle.er_settle.proofs.NumberLemmas.{is_some-of}
 use Rattle.er_settle.proofs.OrderLemmas.{mapped, head_to, tail_two, cons_two}
@@ -255,13 +255,13 @@ module _ (seats : List SeatList) (order : List EntryAt) (places next : List ℕ)
   rest-told = rw far.whole (asked_both front far.rest ∙ (rw (bare_asked far.rest far.bare) (append-nil (ticketed_turns front)) ∙ taken.told))
 
   -- a position of the end has no ticket behind it
-  none_later : (m t : ℕ) → length front ≤ m → Not (HasLater (front ++ far.rest) m t)
+  none_later : (m t : ℕ) → length front ≤ m → Not (HasTicketLater (front ++ far.rest) m t)
   none_later m t low later = elim (get_both front far.rest later.0 later.1 later.3) [
     | inl w ↦ (let below = slice_get_within front later.0 later.1 w in let more = later.2 in omega (arith, below, more, low))
     | inr w ↦ (let none = far.bare w.0 later.1 w.2 in let some = later.5 in let gone = rw none at some in cc)
   ]
 
-  later_front : (m : ℕ) (a : TurnShown) → slice_get front m ≡ Some a → a.call.ticket ≡ None → HasLater (front ++ far.rest) m a.thread
+  later_front : (m : ℕ) (a : TurnShown) → slice_get front m ≡ Some a → a.call.ticket ≡ None → HasTicketLater (front ++ far.rest) m a.thread
   later_front m a h none = let e = taken.closed.each m a h none in (e.1.0, e.1.1, e.1.2, get_still front far.rest e.1.0 e.1.1 e.1.3, e.1.4, e.1.5)
 
   pub rest-order : IsInOrder turns

@@ -19,7 +19,7 @@ use Rattle.er_settle.specs.Inner.SeatChecks.{IsIndex}
 use Rattle.er_settle.specs.Inner.JournalOrder.{EntryAt, entries_by}
 use Rattle.er_settle.specs.Inner.EntryMatches.{ticketed_calls, ticketed_entries, AllAgree}
 use Rattle.er_settle.specs.Inner.CallOrder.{turns_by, next_turn, ticketed_turns, entry_turns, IsClosed, AreTaken}
-use Rattle.er_settle.specs.Runs.{TurnShown, turn_of, calls_of, HasLater, HasNext}
+use Rattle.er_settle.specs.Runs.{TurnShown, turn_of, calls_of, HasTicketLater, HasNext}
 use Rattle.er_settle.proofs.ListLemmas.{take_next, index_same, index_other, number_read}
 use Rattle.er_settle.proofs.NumberLemmas.{eq_or}
 use Rattle.er_event.proofs.Lists.{get_still}
@@ -235,11 +235,11 @@ begins : (t : ℕ) (xs : List Call) (m : ℕ) (x : TurnShown) → slice_get (tur
 begins t [] m x h = absurd (cc)
 begins t (c ∷ xs) m x h = (turn_of t c, refl, refl)
 
-later_in : (xs : List TurnShown) (a x : TurnShown) (k t : ℕ) → HasLater xs k t → HasLater (a ∷ xs) (suc k) t
+later_in : (xs : List TurnShown) (a x : TurnShown) (k t : ℕ) → HasTicketLater xs k t → HasTicketLater (a ∷ xs) (suc k) t
 later_in xs a x k t h = (suc h.0, h.1, (let low = h.2 in omega (arith, low)), h.3, h.4, h.5)
 
 closed_cons : (t : ℕ) (c : Call) (calls : List Call) → ((m : ℕ) × (x : TurnShown) × (slice_get (turns_by t calls) m ≡ Some x) × (x.thread ≡ t) × IsSome x.call.ticket) → IsClosed (turns_by t calls) → (k : ℕ) (a : TurnShown) → slice_get (turn_of t c ∷ turns_by t calls) k ≡ Some a → a.call.ticket ≡ None →
-    HasNext (turn_of t c ∷ turns_by t calls) k a.thread × HasLater (turn_of t c ∷ turns_by t calls) k a.thread
+    HasNext (turn_of t c ∷ turns_by t calls) k a.thread × HasTicketLater (turn_of t c ∷ turns_by t calls) k a.thread
 closed_cons t c calls end old zero a h none =
     let first = begins t calls end.0 end.1 end.2 in
     let same : turn_of t c ≡ a = cc in

@@ -104,7 +104,7 @@ pub record IsAlike (h : Holdings) (t : ℕ) (c : Call) (e : Entry) : Type 0 wher
   pub reply : e.reply ≡ c.reply
   pub stamp : stamp_by h t c.event ≡ stamps_in (e ∷ [])
 
--- the call at this place of the seat's list, by what the seat then held
+-- the entry has the reply of the seat's call at place j, and the locks that the seat then held
 abbrev pub IsAnswered : SeatList → ℕ → Call → Entry → Type 0
 IsAnswered s j c e = IsAlike (holdings_by s.thread s.calls j) s.thread c e
 

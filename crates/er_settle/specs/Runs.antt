@@ -13,7 +13,7 @@ pub record TurnShown : Type 0 where
   pub thread : ℕ
   pub call : Call
 
--- that call of that thread
+-- a turn in which the thread makes the call
 abbrev pub turn_of : ℕ → Call → TurnShown
 turn_of t call = record { thread = t; call = call }
 
@@ -21,11 +21,11 @@ turn_of t call = record { thread = t; call = call }
 abbrev pub calls_of : ℕ → List TurnShown → List Call
 calls_of t turns = map (λ a. a.call) (filter (λ a. a.thread == t) turns)
 
--- the turns as steps
+-- the turns as a list of steps
 abbrev pub steps_of : List TurnShown → List Step
 steps_of turns = map (λ a. record { thread = a.thread; event = a.call.event }) turns
 
--- what they were answered
+-- the replies that the turns were given
 abbrev pub replies_to : List TurnShown → List Reply
 replies_to turns = map (λ a. a.call.reply) turns
 
@@ -39,8 +39,8 @@ abbrev pub races_in : List Reply → ℕ
 races_in replies = count_by answers_race replies
 
 -- behind the position the thread has a call with a ticket
-abbrev pub HasLater : List TurnShown → ℕ → ℕ → Type 0
-HasLater turns k t = (m : ℕ) × (a : TurnShown) × (k < m) × (slice_get turns m ≡ Some a) × (a.thread ≡ t) × IsSome a.call.ticket
+abbrev pub HasTicketLater : List TurnShown → ℕ → ℕ → Type 0
+HasTicketLater turns k t = (m : ℕ) × (a : TurnShown) × (k < m) × (slice_get turns m ≡ Some a) × (a.thread ≡ t) × IsSome a.call.ticket
 
 -- the next position is the same thread's
 abbrev pub HasNext : List TurnShown → ℕ → ℕ → Type 0
@@ -49,8 +49,8 @@ HasNext turns k t = (a : TurnShown) × (slice_get turns (k + 1) ≡ Some a) × (
 -- tickets rise; a call without one stands directly before its thread's next call, where one with a ticket is to come; the others without one stand at the end, by thread
 pub record IsInOrder (turns : List TurnShown) : Type 0 where
   pub rise : EachTwo TurnShown (λ a b. IsSooner a.call b.call) turns
-  pub before : (k : ℕ) (a : TurnShown) → slice_get turns k ≡ Some a → a.call.ticket ≡ None → HasLater turns k a.thread → HasNext turns k a.thread
-  pub rest : (j k : ℕ) (a b : TurnShown) → j < k → slice_get turns j ≡ Some a → slice_get turns k ≡ Some b → a.call.ticket ≡ None → Not (HasLater turns j a.thread) → (b.call.ticket ≡ None) × (a.thread ≤ b.thread)
+  pub before : (k : ℕ) (a : TurnShown) → slice_get turns k ≡ Some a → a.call.ticket ≡ None → HasTicketLater turns k a.thread → HasNext turns k a.thread
+  pub rest : (j k : ℕ) (a b : TurnShown) → j < k → slice_get turns j ≡ Some a → slice_get turns k ≡ Some b → a.call.ticket ≡ None → Not (HasTicketLater turns j a.thread) → (b.call.ticket ≡ None) × (a.thread ≤ b.thread)
 
 -- the steps and replies are the calls of the seats, each once and in their order, in turns that are in order
 abbrev pub IsInTurn : List SeatList → List Step → List Reply → Type 0

@@ -25,7 +25,6 @@ pub(crate) struct PlacedEntry<'a> {
 }
 
 impl<'a> Model for PlacedEntry<'a> {
-    ghost use Rattle.er_settle.specs.Inner.SeatChecks.{AreLegalJournals};
     ghost use Rattle.er_settle.specs.Inner.JournalOrder.{EntryAt, entry_at};
 
     ghost Value = { EntryAt };

@@ -2,7 +2,7 @@
 use Rattle.std.proofs.Common.{◌≡◌, ◌∙◌, ◌+◌, ◌<◌, ◌≤◌, ◌^◌, ℕ, Bool, true, false, cond, List, length, take, get_or, slice_index, count_by, refl, sym, ap, arith}
 use Rattle.std.proofs.lemmas.List.{length-take-le}
 use Rattle.er_report.specs.declared.report.Line.{Line}
-use Rattle.er_sites.specs.Inner.Counted.{AreCounts, HasRoom}
+use Rattle.er_sites.specs.Counted.{AreCounts, HasRoom}
 use Rattle.er_sites.specs.Table.{reads_at, reuses_at, writes_at}
 use Rattle.er_sites.specs.declared.counts.Counts.{Counts}
 use Rattle.std.proofs.lemmas.List.Sums.{count_by-le-length, count_by_more_no, count_by_more_yes}

@@ -7,7 +7,7 @@ use Rattle.std.proofs.lemmas.List.Sums.{sum_by-cons}
 use Rattle.er_event.specs.declared.steps.Kind.TheVariants as kind
 use Rattle.er_report.specs.declared.report.Line.{Line}
 use Rattle.er_report.specs.declared.report.Line.TheVariants.{Race, Reused, Refused, Shown}
-use Rattle.er_sites.specs.Inner.Counted.{or_first}
+use Rattle.er_sites.specs.Inner.Rows.{or_first}
 use Rattle.er_sites.specs.Table.{is_at, races_at, reads_at, reuses_at, writes_at}
 
 -- a race is a read, a write or a reuse at its site

@@ -1,5 +1,5 @@
 -- The threads and the locks that a text mentions have names.
-use Rattle.std.proofs.Common.{◌≡◌, ◌<◌, ◌∙◌, ℕ, zero, suc, Bool, true, false, All, List, [], ◌∷◌, ◌++◌, cond, length, flat_map, get_or, slice_get, unwrap_or, Option, None, Some, IfSome, refl, sym, ap, subst}
+use Rattle.std.proofs.Common.{◌≡◌, ◌<◌, ◌∙◌, ℕ, zero, suc, Bool, true, false, All, List, [], ◌++◌, cond, length, flat_map, get_or, slice_get, unwrap_or, Option, None, Some, IfSome, refl, sym, ap, subst}
 use Rattle.std.proofs.lemmas.Option.{slice_get_within, unwrap_or-slice_get}
 use Rattle.std.proofs.lemmas.List.Elements.{All-append, All-cons, All-nil}
 use Rattle.er_event.specs.declared.steps.Kind.{Kind}

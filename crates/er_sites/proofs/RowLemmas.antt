@@ -19,7 +19,8 @@ use Rattle.std.proofs.lemmas.Bool.Decides.{nat_tests}
 use Rattle.er_report.specs.declared.report.Line.{Line}
 use Rattle.er_sites.specs.declared.counts.Counts.{Counts}
 use Rattle.er_sites.specs.declared.row.SiteRow.{SiteRow}
-use Rattle.er_sites.specs.Inner.Counted.{AreCounts, HasRowsBelow}
+use Rattle.er_sites.specs.Counted.{AreCounts}
+use Rattle.er_sites.specs.Inner.Rows.{HasRowsBelow}
 use Rattle.er_sites.specs.Table.{races_in, races_of, reads_at, reuses_at, writes_at, races_at, row_order, IsOwnCount}
 
 -- the words of the sites below the next one

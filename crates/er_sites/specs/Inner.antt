@@ -1,1 +1,2 @@
-pub mod Counted
+-- What the code's parts keep true of one another. No public clause cites this.
+pub mod Rows

@@ -1,3 +1,4 @@
+pub mod Counted
 pub mod Inner
 pub mod System
 pub mod Table

@@ -42,25 +42,25 @@ race_mentions of table (Some race) =
 abbrev pub view_mentions : Mention → PlaceTable → LineView → List ℕ
 view_mentions of table view = race_mentions of table (race_of view)
 
--- and as it is
+-- what a line mentions
 abbrev pub line_mentions : Mention → PlaceTable → Line → List ℕ
 line_mentions of table line = view_mentions of table (line_view line)
 
--- so does the example of a row
+-- what the example of a row mentions
 abbrev pub row_mentions : Mention → PlaceTable → Option Line → List ℕ
 row_mentions of table None = []
 row_mentions of table (Some line) = line_mentions of table line
 
--- and a row
+-- what the example of a row mentions, by its place among the lines
 abbrev pub example_mentions : Mention → PlaceTable → List Line → SiteRow → List ℕ
 example_mentions of table lines row = row_mentions of table (slice_get lines row.example)
 
--- and a reuse without a site
+-- what a race mentions, if it is a reuse without a site
 abbrev pub lone_mentions : Mention → PlaceTable → RaceView → ℕ → Deed → List ℕ
 lone_mentions of table race zero (deed.Reuse range) = race_mentions of table (Some race)
 lone_mentions of table race site did = []
 
--- if a race is such a one
+-- the same of what may be a race
 abbrev pub reuse_mentions : Mention → PlaceTable → Option RaceView → List ℕ
 reuse_mentions of table None = []
 reuse_mentions of table (Some race) = lone_mentions of table race race.site race.deed
@@ -86,7 +86,7 @@ abbrev pub began_text : NameTable → PlaceTable → ℕ → Option Start → Li
 began_text names table thread None = []
 began_text names table thread (Some start) = started_text names table thread start.name.items start.place
 
--- and of the thread of a number
+-- where the thread of a number was started, if that is known
 abbrev pub start_text : NameTable → PlaceTable → ℕ → List ℕ
 start_text names table thread = began_text names table thread (start_of table (name_at names.threads thread))
 
@@ -95,12 +95,12 @@ abbrev pub began_words : Bool → List ℕ
 began_words true = codes " was created at "
 began_words false = codes " was first taken at "
 
--- where that was, if it is known
+-- where the life of a lock began, if that is known
 abbrev pub born_text : PlaceTable → ℕ → Option Birth → List ℕ
 born_text table lock None = []
 born_text table lock (Some birth) = codes "  " ++ lock_in style.Short table.names lock ++ began_words birth.is_created ++ short 72 (call_name table birth.place) ++ codes "\n"
 
--- and of the lock of a number
+-- where the life of the lock of a number began, if that is known
 abbrev pub birth_text : PlaceTable → ℕ → List ℕ
 birth_text table lock = born_text table lock (birth_of table lock)
 

@@ -25,10 +25,11 @@ abbrev pub lines_or : Option Report → List Line → List Line
 lines_or None others = others
 lines_or (Some report) others = report.lines.items
 
+-- the lines of a report; without a report there are none
 abbrev pub lines_of : Option Report → List Line
 lines_of report = lines_or report []
 
--- the rows are none
+-- there is no row
 abbrev pub are_none : List SiteRow → Bool
 are_none [] = true
 are_none (row ∷ rows) = false
@@ -64,7 +65,7 @@ others_text names table (Some report) below rows = others_title below (are_none 
 abbrev pub if_elsewhere : List Line → SiteRow → List SiteRow
 if_elsewhere lines row = cond (count_by (reads_at row.site) lines == 0 && count_by (writes_at row.site) lines == 0 && count_by (reuses_at row.site) lines == 0) (row ∷ []) []
 
--- such rows
+-- the rows of the sites at which none of these lines races
 unfoldable pub other_rows : List Line → List SiteRow → List SiteRow
 other_rows lines rows = flat_map (if_elsewhere lines) rows
 

@@ -13,5 +13,6 @@ abbrev pub is_system_by : Option (List ℕ) → Bool
 is_system_by None = false
 is_system_by (Some name) = is_system_name name
 
+-- the site is a line of a system header
 abbrev pub is_system_site : NameTable → ℕ → Bool
 is_system_site names site = is_system_by (site_name names site)

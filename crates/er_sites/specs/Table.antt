@@ -11,10 +11,12 @@ use Rattle.er_sites.specs.System.{is_system_site}
 use Rattle.er_sites.specs.declared.row.SiteRow.{SiteRow}
 use Rattle.er_trace.specs.Names.{NameTable}
 
+-- the access only reads
 abbrev pub is_read : Kind → Bool
 is_read kind.Read = true
 is_read kind.Write = false
 
+-- the access writes
 abbrev pub is_write : Kind → Bool
 is_write kind.Read = false
 is_write kind.Write = true

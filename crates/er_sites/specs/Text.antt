@@ -52,6 +52,7 @@ kinds_text (suc k) zero (suc m) = codes "read reuse  "
 kinds_text (suc k) (suc l) zero = codes "read write  "
 kinds_text (suc k) (suc l) (suc m) = codes "all three   "
 
+-- the row of a site in the table
 abbrev pub row_text : NameTable → SiteRow → List ℕ
 row_text names row =
     column_text (races_of row) ++ kinds_text row.reads row.writes row.reuses ++ column_text row.threads ++ column_text row.locks
@@ -96,7 +97,7 @@ is_weak_at (Some place) lock = not (has place.write_held lock)
 abbrev pub is_weak : RaceView → Option Place → ℕ → Bool
 is_weak race own lock = is_weak_at own lock || list_any (is_without race.line lock) race.explained
 
--- such a lock is marked
+-- what marks a lock that was held only to read
 abbrev pub mode_text : Bool → List ℕ
 mode_text only_to_read = cond only_to_read (codes ", but only to read") []
 
@@ -157,12 +158,12 @@ abbrev pub stood_text : PlaceTable → Place → List ℕ
 stood_text table place =
     at_text table.names place.site (length place.held == 0) ++ led_text table (Some place) ++ flat_map (kept_text table.names place.write_held) place.held
 
--- if that is known
+-- where an access stood and what its thread held, if that is known
 abbrev pub stood_if : PlaceTable → Option Place → List ℕ
 stood_if table None = []
 stood_if table (Some place) = stood_text table place
 
--- and if the access is not the race itself, which is on this line
+-- where the access of a reason stood, unless it is the race itself, which is on this line
 abbrev pub where_text : PlaceTable → ℕ → Because → List ℕ
 where_text table number because = cond (because.line == number) [] (stood_if table (reason_place table because))
 
@@ -183,7 +184,7 @@ so_by label.Write = no_common_lock
 so_by (label.Uncovered lock) = no_common_lock
 so_by label.Unordered = []
 
--- and of all reasons, if they are known
+-- what follows from all reasons, if they are known
 abbrev pub so_text : List Because → List ℕ
 so_text [] = []
 so_text (because ∷ more) = so_by because.label
@@ -248,7 +249,7 @@ head_text names table race kind word =
     codes "  " ++ thread_in style.Short names race.thread ++ did_text kind ++ subject_text style.Short table race.line word
     ++ (codes " the word at " ++ address_text word ++ codes " (line " ++ decimal race.line ++ codes ")\n")
 
--- with what led to it, its locks and its reasons
+-- a race in sentences: its access, what led to it, its locks and its reasons
 abbrev pub access_story : NameTable → PlaceTable → RaceView → Kind → ℕ → List ℕ
 access_story names table race kind word =
     head_text names table race kind word ++ led_text table (race_place table race)
@@ -259,7 +260,7 @@ abbrev pub given_back_text : NameTable → RaceView → PageRange → List ℕ
 given_back_text names race range =
     codes "  " ++ thread_in style.Short names race.thread ++ codes " gave back " ++ decimal (bytes_between range.lo range.hi) ++ codes " bytes (line " ++ decimal race.line ++ codes ")\n"
 
--- and why it is a race
+-- a reuse in sentences, and why it is a race
 unfoldable pub reuse_text : NameTable → PlaceTable → RaceView → PageRange → List ℕ
 reuse_text names table race range = given_back_text names race range ++ flat_map (reason_text names table race.line) race.explained
 
@@ -278,10 +279,12 @@ abbrev pub lone_text : NameTable → PlaceTable → RaceView → ℕ → Deed �
 lone_text names table race zero (deed.Reuse range) = address_text range.lo ++ codes ":\n" ++ reuse_text names table race range ++ 10 ∷ []
 lone_text names table race site did = []
 
+-- a race in sentences, if it is a reuse without a site
 abbrev pub reuse_story : NameTable → PlaceTable → Option RaceView → List ℕ
 reuse_story names table None = []
 reuse_story names table (Some race) = lone_text names table race race.site race.deed
 
+-- the line tells of a reuse that races
 abbrev pub is_reused : Line → Bool
 is_reused (Race number thread kind word site held explained) = false
 is_reused (Reused number thread range site held explained) = true
@@ -306,13 +309,14 @@ refusal_text (RacedView race) = []
 refusal_text (RefusedView number step refusal) = codes "first refused: line " ++ decimal number ++ codes ": " ++ text_of refusal ++ 10 ∷ []
 refusal_text (ShownView number word state) = []
 
+-- the line tells of a refused step
 abbrev pub is_refused : Line → Bool
 is_refused (Race number thread kind word site held explained) = false
 is_refused (Reused number thread range site held explained) = false
 is_refused (Refused number step refusal) = true
 is_refused (Shown number word state) = false
 
--- and of the first one of a report
+-- the line of the first refused step of a report, if there is one
 abbrev pub refused_text : Option Line → List ℕ
 refused_text None = []
 refused_text (Some line) = refusal_text (line_view line)

@@ -1,6 +1,6 @@
 //! How many races there are at each site, and how many different threads and locks.
-ghost use Rattle.std.specs.Prelude.{◌≡◌, ◌+◌, ◌^◌, ◌<◌, ◌≤◌, ◌==◌, ◌&&◌, ℕ, List, [], cond, count_by, length, slice_index, OnOk, IfOk};
-ghost use Rattle.er_sites.specs.Inner.Counted.{AreCounts, HasRoom, LineOf, count_like, reads_at, reuses_at, writes_at};
+ghost use Rattle.std.specs.Prelude.{◌≡◌, ◌+◌, ◌^◌, ◌<◌, ◌≤◌, ◌==◌, ◌&&◌, ℕ, List, [], cond, count_by, length, slice_index, slice_index_or, OnOk, IfOk};
+ghost use Rattle.er_sites.specs.Counted.{AreCounts, HasRoom, LineOf, count_like, reads_at, reuses_at, writes_at};
 
 use er_event::{Kind, Site};
 use er_print::Put;
@@ -126,7 +126,7 @@ fn add_one(counts: &mut Vec<u64>, site: Site) -> Put
     ensures few { OnOk result (length counts.old.items ≤ 2 ^ 32 → length counts.new.items ≤ 2 ^ 32) }
 {
     let place = site.number() as usize;
-    grow(counts, place + 1)?;
+    grow(counts, 0, place + 1)?;
     counts[place] += 1;
     Ok(())
 }
@@ -138,20 +138,20 @@ fn count_different(alloc: Global, mut pairs: Vec<(u32, u32)>) -> Result<Vec<u64>
     let mut counts = Vec::new(alloc);
     for (site, _) in &pairs {
         let place = *site as usize;
-        grow(&mut counts, place + 1)?;
+        grow(&mut counts, 0, place + 1)?;
         counts[place] = u64::saturating_add(counts[place], 1);
     }
     Ok(counts)
 }
 
-// Adds zeros until the list has as many counts.
-fn grow(counts: &mut Vec<u64>, len: usize) -> Put
-    ensures same { OnOk result ((s : ℕ) → slice_index counts.new.items s ≡ slice_index counts.old.items s) }
-    ensures long { OnOk result (len ≤ length counts.new.items) }
-    ensures few { OnOk result (length counts.old.items ≤ 2 ^ 32 → len ≤ 2 ^ 32 → length counts.new.items ≤ 2 ^ 32) }
+/// Adds this value until the list has as many.
+pub(crate) fn grow<T: Copy>(list: &mut Vec<T>, value: T, len: usize) -> Put
+    ensures same { OnOk result ((s : ℕ) → slice_index_or list.new.items s value ≡ slice_index_or list.old.items s value) }
+    ensures long { OnOk result (len ≤ length list.new.items) }
+    ensures few { OnOk result (length list.old.items ≤ 2 ^ 32 → len ≤ 2 ^ 32 → length list.new.items ≤ 2 ^ 32) }
 {
-    while counts.len() < len {
-        counts.push(0)?;
+    while list.len() < len {
+        list.push(value)?;
     }
     Ok(())
 }

@@ -1,7 +1,6 @@
 //! The threads and the locks that races mention: where the threads were started, and where the lives of the locks began.
-ghost use Rattle.std.specs.Prelude.{◌≡◌, ◌++◌, ◌<◌, nat_eq, flat_map, length, map, option_copied, All, IfSome, IfOk, OnOk, Some};
+ghost use Rattle.std.specs.Prelude.{◌≡◌, ◌++◌, ◌<◌, nat_eq, flat_map, length, map, option_copied, All, IfOk, OnOk, Some};
 ghost use Rattle.indexmap.specs.IndexSet.{insert_all};
-ghost use Rattle.er_places.specs.Places.{HasPlaceNames};
 ghost use Rattle.er_trace.specs.Names.{NameTable};
 ghost use Rattle.er_report.specs.Lines.{line_view, race_of};
 ghost use Rattle.er_report.specs.Names.{HasLockName, HasNames};

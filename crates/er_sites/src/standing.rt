@@ -1,6 +1,6 @@
 //! Where the access of a reason stood, what its thread held, and the calls that led there.
 ghost use Rattle.std.specs.Prelude.{◌≡◌, ◌++◌, ◌≤◌, flat_map, length, option_copied, OnOk};
-ghost use Rattle.er_sites.specs.Text.{HasLockNames, HasPlaceNames, at_text, call_text, called_text, kept_text, known_text, led_text, mode_text, stood_text, where_text};
+ghost use Rattle.er_sites.specs.Text.{HasLockNames, at_text, call_text, called_text, kept_text, known_text, led_text, mode_text, where_text};
 
 use er_event::{LockId, Lockset, Site};
 use er_places::{Place, Places};

@@ -1,7 +1,7 @@
 //! One race in sentences.
-ghost use Rattle.std.specs.Prelude.{◌≡◌, ◌++◌, ◌≤◌, flat_map, length, option_and_then, option_copied, IfSome, OnOk};
+ghost use Rattle.std.specs.Prelude.{◌≡◌, ◌++◌, flat_map, option_and_then, option_copied, IfSome, OnOk};
 ghost use Rattle.std.specs.List.{list_any};
-ghost use Rattle.er_sites.specs.Text.{HasNames, HasPlaceNames, HasRaceNames, HasReasonNames, line_view, race_of, reason_place, access_story, example_text, head_text, holds_text, is_weak, is_weak_at, lacks_lock, may_meet, met, met_text, title_text, reason_text, reuse_story, reuse_text, so_text, story_text, is_without, block_text, subject_text, variable_text};
+ghost use Rattle.er_sites.specs.Text.{HasNames, HasPlaceNames, HasRaceNames, HasReasonNames, line_view, race_of, reason_place, access_story, example_text, head_text, holds_text, is_weak, lacks_lock, may_meet, met, met_text, reason_text, reuse_story, reuse_text, so_text, story_text, is_without, block_text, subject_text, variable_text};
 
 use crate::names::{did_text, put_pair};
 use crate::standing::{mode_text, put_led, put_where};

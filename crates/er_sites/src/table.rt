@@ -1,10 +1,11 @@
 //! The table of sites: a row for each site that has a race.
-ghost use Rattle.std.specs.Prelude.{◌≡◌, ◌+◌, ◌^◌, ◌<◌, ◌≤◌, ℕ, All, None, Some, cond, length, slice_index_or, IfOk, OnOk};
+ghost use Rattle.std.specs.Prelude.{◌≡◌, ◌+◌, ◌^◌, ◌<◌, ℕ, All, None, Some, cond, slice_index_or, IfOk, OnOk};
 ghost use Rattle.std.specs.List.{sum_by};
-ghost use Rattle.er_sites.specs.Inner.Counted.{AreCounts, AreExamples, HasNames, HasRowsBelow, or_first};
+ghost use Rattle.er_sites.specs.Counted.{AreCounts};
+ghost use Rattle.er_sites.specs.Inner.Rows.{AreExamples, HasNames, HasRowsBelow, or_first};
 ghost use Rattle.er_sites.specs.Table.{is_at, races_at, races_in, row_order, IsOwnCount, IsTable};
 
-use crate::counts::{Counts, count_at, count_distinct, count_races};
+use crate::counts::{Counts, count_at, count_distinct, count_races, grow};
 use crate::names::is_system_site;
 use crate::row::SiteRow;
 use er_event::Site;
@@ -129,19 +130,9 @@ fn note_example(examples: &mut Vec<Option<usize>>, place: usize, line: &Line) ->
         Line::Reused { site, .. } if site.number() != 0 => site.number() as usize,
         _ => return Ok(()),
     };
-    grow(examples, site + 1)?;
+    grow(examples, None, site + 1)?;
     if examples[site].is_none() {
         examples[site] = Some(place);
-    }
-    Ok(())
-}
-
-fn grow(examples: &mut Vec<Option<usize>>, len: usize) -> Put
-    ensures same { OnOk result ((s : ℕ) → slice_index_or examples.new.items s None ≡ slice_index_or examples.old.items s None) }
-    ensures long { OnOk result (len ≤ length examples.new.items) }
-{
-    while examples.len() < len {
-        examples.push(None)?;
     }
     Ok(())
 }

@@ -1,5 +1,5 @@
 //! The whole text.
-ghost use Rattle.std.specs.Prelude.{◌≡◌, ◌++◌, ◌≤◌, ◌==◌, ◌&&◌, All, count_by, find, flat_map, is_some, length, option_copied, slice_get, IfOk, IfSome, OnOk};
+ghost use Rattle.std.specs.Prelude.{◌≡◌, ◌++◌, ◌≤◌, All, find, flat_map, is_some, length, option_copied, slice_get, IfOk, IfSome, OnOk};
 ghost use Rattle.std.specs.List.{list_any};
 ghost use Rattle.er_sites.specs.Sites.{AreSitesOf, HaveNames, end_if, lines_or, nothing_in, other_rows, others_text, reuses_text, run_text, sites_text, title_of, told_mentions};
 ghost use Rattle.er_sites.specs.Text.{HasNames, example_of, is_refused, is_reused, kinds_text, refused_text, row_text, rows_text};

@@ -155,7 +155,7 @@ module _ (r : Recording) (all : All (IsNamed r.names) r.steps) where
   turn-named : (w number k t : ℕ) (e : Event) → IsNamed r.names (record { thread = t; event = e }) → All (HasTurnNames r.names) (turn_by r w number k t e)
   turn-named w number k t (Access kind word site) named =
       All-cons (HasTurnNames r.names) _ []
-      (record { thread = named.thread; site = named.event; held = (named_holdings r.names r.steps all k t).any; state = named_state r.names r.steps all (suc k) w })
+      (record { thread = named.thread; place = record { site = named.event; held = (named_holdings r.names r.steps all k t).any }; state = named_state r.names r.steps all (suc k) w })
       (All-nil (HasTurnNames r.names))
   turn-named w number k t (Acquire l m) named = All-nil (HasTurnNames r.names)
   turn-named w number k t (Release l m) named = All-nil (HasTurnNames r.names)

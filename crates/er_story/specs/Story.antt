@@ -10,6 +10,7 @@ use Rattle.er_event.specs.declared.steps.WordState.TheVariants.{Virgin, Exclusiv
 use Rattle.er_model.specs.Answers.{answer, reading_of, state_at}
 use Rattle.er_model.specs.Holdings.{holdings_at}
 use Rattle.er_model.specs.Words.{counted_from, era, is_empty}
+use Rattle.er_places.specs.Places.{stood_at}
 use Rattle.er_story.specs.Tale.{WordTale}
 use Rattle.er_story.specs.declared.story.Story.{Story}
 use Rattle.er_story.specs.declared.story.Turn.{Turn}
@@ -48,17 +49,13 @@ abbrev pub turn_by : Recording → ℕ → ℕ → ℕ → ℕ → Event → Lis
 turn_by r w number k t (Access kind word site) =
     record {
       number = number;
-      line = slice_index r.lines k;
-      thread = t;
-      kind = kind;
-      site = site;
-      held = (holdings_at r.steps t k).held;
-      write_held = (holdings_at r.steps t k).write_held;
+      place = stood_at (holdings_at r.steps t k) (slice_index r.lines k) t kind site;
       state = state_at r.steps w (suc k);
       emptied = empties (state_at r.steps w k) (state_at r.steps w (suc k));
     } ∷ []
 turn_by r w number k t e = []
 
+-- what is told of the step at k, if there is one
 abbrev pub turn_at : Recording → ℕ → ℕ → ℕ → Option Step → List Turn
 turn_at r w number k None = []
 turn_at r w number k (Some step) = turn_by r w number k step.thread step.event
@@ -92,7 +89,7 @@ has_word IgnoreOff = false
 has_word (Level n) = false
 has_word (Sync sync) = false
 
--- of the word that the event accesses or shows
+-- what is told of the word that the event accesses or shows
 abbrev pub tale_in : Recording → ℕ → Event → Option WordTale
 tale_in r k (Access kind w site) = Some (tale_of r k w)
 tale_in r k (Show w) = Some (tale_of r k w)
@@ -116,18 +113,20 @@ story_of r k step =
       word = tale_in r k step.event;
     }
 
--- of what stands there
+-- the story of what stands at position k
 abbrev pub story_by : Recording → ℕ → Option Step → Option Story
 story_by r k None = None
 story_by r k (Some step) = Some (story_of r k step)
 
+-- the story of the step at position k
 unfoldable pub story_at : Recording → ℕ → Option Story
 story_at r k = story_by r k (slice_get r.steps k)
 
--- of the first step of a line
+-- the story of the step at a position that was found
 abbrev pub story_found : Recording → Option ℕ → Option Story
 story_found r None = None
 story_found r (Some k) = story_at r k
 
+-- the story of the first step on a line of the trace
 unfoldable pub story_on : Recording → ℕ → Option Story
 story_on r line = story_found r (position (λ (l : ℕ). l == line) r.lines)

@@ -21,6 +21,7 @@ use Rattle.er_trace.specs.Names.{NameTable}
 abbrev pub mode_text : Bool → List ℕ
 mode_text writes = cond writes [] (codes " (to read)")
 
+-- a lock that a thread holds, with its mark
 abbrev pub held_text : NameTable → List ℕ → ℕ → List ℕ
 held_text names writes lock = 32 ∷ lock_text names lock ++ mode_text (has writes lock)
 
@@ -58,7 +59,7 @@ quiet_text (SharedModified locks) =
     cond (is_empty locks) (codes "no race: the word was reported by an earlier access")
     (codes "no race: a candidate was held at each access since a second thread came")
 
--- by what is told of the word
+-- why an access is no race, by what is told of its word
 abbrev pub no_race_text : Option WordTale → List ℕ
 no_race_text None = codes "no race"
 no_race_text (Some tale) = quiet_text tale.after
@@ -79,13 +80,13 @@ emptied_text emptied = cond emptied (codes ": this access left no candidate") []
 -- an earlier access that changed the word's state: its number, its line, and what its thread did
 abbrev pub turn_front : NameTable → Turn → List ℕ
 turn_front names turn =
-    codes "  access " ++ decimal turn.number ++ codes ": line " ++ decimal turn.line ++ codes ", " ++ name_at names.threads turn.thread ++ codes " "
-    ++ kind_text turn.kind ++ codes " at " ++ site_text names turn.site
+    codes "  access " ++ decimal turn.number ++ codes ": line " ++ decimal turn.place.line ++ codes ", " ++ name_at names.threads turn.place.thread ++ codes " "
+    ++ kind_text turn.place.kind ++ codes " at " ++ site_text names turn.place.site
 
 -- the same with its thread's locks, and what it made of the word
 abbrev pub turn_text : NameTable → Turn → List ℕ
 turn_text names turn =
-    turn_front names turn ++ holding_text names turn.write_held turn.held ++ codes ": " ++ state_text names turn.state ++ emptied_text turn.emptied ++ 10 ∷ []
+    turn_front names turn ++ holding_text names turn.place.write_held turn.place.held ++ codes ": " ++ state_text names turn.state ++ emptied_text turn.emptied ++ 10 ∷ []
 
 -- the word before the step and after it, and how many accesses counted before the step, since the word's last reuse
 abbrev pub change_text : NameTable → WordTale → List ℕ
@@ -93,7 +94,7 @@ change_text names tale =
     codes "before: " ++ state_text names tale.before ++ codes "\nafter: " ++ state_text names tale.after
     ++ emptied_text (empties tale.before tale.after) ++ codes "\nearlier accesses: " ++ decimal tale.accesses ++ 10 ∷ []
 
--- and those of them that changed its state; nothing, if the step has no word
+-- what is told of a word: its change, and the accesses that changed its state; nothing, if the step has no word
 abbrev pub word_text : NameTable → Option WordTale → List ℕ
 word_text names None = []
 word_text names (Some tale) = change_text names tale ++ flat_map (turn_text names) tale.turns

@@ -1,5 +1,5 @@
 //! `Past`, what one pass over the steps keeps of a word.
-ghost use Rattle.std.specs.Prelude.{◌≡◌, ◌+◌, ◌<◌, ◌≤◌, ◌^◌, ◌++◌, ◌∷◌, [], cond, not, length, IfOk, OnOk};
+ghost use Rattle.std.specs.Prelude.{◌≡◌, ◌+◌, ◌<◌, ◌≤◌, ◌^◌, length, IfOk, OnOk};
 ghost use Rattle.er_held.specs.ThreadLocks.{held_by};
 ghost use Rattle.er_story.specs.Inner.Past.{fresh, accessed, past_after, past_at};
 ghost use Rattle.er_story.specs.Story.{empties, same_state, has_none_left};
@@ -9,6 +9,7 @@ use crate::Made;
 use crate::story::{Turn, WordStory};
 use er_event::{Event, Kind, Lockset, Site, Step, ThreadId, Word, WordState};
 use er_held::ThreadLocks;
+use er_places::Place;
 use er_trace::Trace;
 use std::alloc::Global;
 use std::marker::Model;
@@ -146,12 +147,7 @@ impl Past {
         if !same_state(&self.state, &after) {
             let turn = Turn {
                 number: self.accesses,
-                line,
-                thread,
-                kind,
-                site,
-                held: locks.locks_of(alloc, thread)?,
-                write_held: locks.cover_of(alloc, thread, Kind::Write)?,
+                place: Place::of(alloc, locks, line, thread, kind, site)?,
                 state: after.copy()?,
                 emptied: empties(&self.state, &after),
             };

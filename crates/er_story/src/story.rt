@@ -1,6 +1,7 @@
 //! What a story says.
 
-use er_event::{Kind, Lockset, Refusal, Reply, Site, Step, ThreadId, Word, WordState};
+use er_event::{Lockset, Refusal, Reply, Step, Word, WordState};
+use er_places::Place;
 use std::marker::Model;
 
 /// A counted access that changed what is known of its word.
@@ -8,18 +9,8 @@ use std::marker::Model;
 pub struct Turn {
     /// Which of the word's counted accesses since its last reuse it is, from 1.
     pub number: u64,
-    /// The line of the trace.
-    pub line: u64,
-    /// The thread that made it.
-    pub thread: ThreadId,
-    /// What it did.
-    pub kind: Kind,
-    /// Where in the program it stands.
-    pub site: Site,
-    /// The locks that the thread held, in any mode.
-    pub held: Lockset,
-    /// Those that it held in write mode.
-    pub write_held: Lockset,
+    /// Where it stood, and what its thread held.
+    pub place: Place,
     /// The word's state after it.
     pub state: WordState,
     /// Whether it emptied the word's candidate set, or was the first access of a second thread, which held no lock.

@@ -1,5 +1,5 @@
 //! The story of a step of a trace.
-ghost use Rattle.std.specs.Prelude.{◌≡◌, ◌<◌, ◌==◌, ℕ, nat_lt, cond, length, slice_get, slice_index, IfOk, IfSome, None, Some, Ok, false, ◌≤◌};
+ghost use Rattle.std.specs.Prelude.{◌≡◌, ◌<◌, ◌==◌, ℕ, nat_lt, cond, length, slice_get, IfOk, IfSome, None, Some, Ok, false, ◌≤◌};
 ghost use Rattle.std.specs.List.{position};
 ghost use Rattle.er_event.specs.declared.steps.Reply.TheVariants.{Done, Ignored, Quiet, Race};
 ghost use Rattle.er_model.specs.Answers.{answer, answer_unless};
@@ -7,7 +7,7 @@ ghost use Rattle.er_model.specs.Following.{locks_for};
 ghost use Rattle.er_model.specs.Holdings.{holdings_at, refused_by};
 ghost use Rattle.er_model.specs.Table.{advanced, reports};
 ghost use Rattle.er_story.specs.Names.{HasStoryNames};
-ghost use Rattle.er_story.specs.Story.{has_word, story_at, story_of, story_on, tale_in};
+ghost use Rattle.er_story.specs.Story.{has_word, story_at, story_on, tale_in};
 
 use crate::Made;
 use crate::past::{advance, past_of, reports};

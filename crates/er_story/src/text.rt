@@ -3,8 +3,8 @@ ghost use Rattle.std.specs.Prelude.{◌≡◌, ◌++◌, All, false, flat_map, I
 ghost use Rattle.er_device.specs.Device.{inner_of, has_failed, taken_of};
 ghost use Rattle.er_print.specs.Written.{FailsWriting, WritesReport};
 ghost use Rattle.er_report.specs.Names.{HasEventNames, HasLockNames, HasSiteName};
-ghost use Rattle.er_story.specs.Names.{HasStoryNames, HasTaleNames, HasTurnNames, HasWordNames};
-ghost use Rattle.er_story.specs.Text.{change_text, deed_text, held_text, holding_text, mode_text, step_text, story_text, turn_text, word_text, answer_text, emptied_text, no_race_text, quiet_text};
+ghost use Rattle.er_story.specs.Names.{HasStoryNames, HasTurnNames, HasWordNames};
+ghost use Rattle.er_story.specs.Text.{deed_text, holding_text, mode_text, step_text, story_text, turn_text, word_text, answer_text, emptied_text, quiet_text};
 
 use crate::Made;
 use crate::past::empties;
@@ -130,11 +130,12 @@ fn put_turn(out: &mut Vec<u8>, names: &Names, turn: &Turn) -> Put
     requires { HasTurnNames names.now turn.now }
     ensures { OnOk result (out.new.items ≡ out.old.items ++ turn_text names.now turn.now) }
 {
+    let place = &turn.place;
     put!(out, Style::Plain, names;
-        Number(b"  access ", turn.number), Number(b": line ", turn.line),
-        Thread(b", ", turn.thread), Verb(b" ", turn.kind), Site(b" at ", turn.site)
+        Number(b"  access ", turn.number), Number(b": line ", place.line),
+        Thread(b", ", place.thread), Verb(b" ", place.kind), Site(b" at ", place.site)
     )?;
-    put_holding(out, names, &turn.write_held, turn.held.as_slice())?;
+    put_holding(out, names, &place.write_held, place.held.as_slice())?;
     put!(out, Style::Plain, names;
         State(b": ", &turn.state), Text(emptied_text(turn.emptied)), Text(b"\n")
     )

@@ -5,7 +5,6 @@
 //! The steps are those of `parsing` and `adding`, in less than half the time. A line of any other form, or of a new thread, is left to
 //! `parsing`. A name that is found among the recent ones of the trace needs no look at its bytes.
 ghost use Rattle.std.specs.Prelude.{◌≡◌, ◌+◌, ◌<◌, ◌≤◌, ◌∷◌, ◌++◌, length, codes, ℕ, List, IfSome};
-ghost use Rattle.std.specs.Int.{to_le_bytes, w32};
 ghost use Rattle.er_text.specs.Inner.FastPath.{EndsIn, IsLeadingThread, HexSoFar, AreLeadingDigits, IsLeadingWord, IsFastAccess, IsFastLockEvent, IsFastOperation, IsFastLine, NumbersLock, NumbersSite, AddsOperation, AddsLine, lock_word};
 ghost use Rattle.er_text.specs.Trace.{kind_word};
 
@@ -20,11 +19,12 @@ use std::simd::prelude::*;
 /// Whether a step was added, unless memory was refused.
 type Added = Result<bool, AllocError>;
 
-// The first four bytes of each verb: `read`, `writ`, `lock`, `unlo`, `rloc` and `runl`.
-const READ: u32 = 0x6461_6572;
+// `read` and `write` with the space behind, as the last bytes of eight.
+const READ: u64 = 0x2064_6165_7200_0000;
 
-const WRITE: u32 = 0x7469_7277;
+const WRITE: u64 = 0x2065_7469_7277_0000;
 
+// The first four bytes of the other verbs: `lock`, `unlo`, `rloc` and `runl`.
 const LOCK: u32 = 0x6b63_6f6c;
 
 const UNLOCK: u32 = 0x6f6c_6e75;
@@ -33,27 +33,21 @@ const READ_LOCK: u32 = 0x636f_6c72;
 
 const READ_UNLOCK: u32 = 0x6c6e_7572;
 
-/// The first four bytes as a number, so that they are compared at once, and what follows them.
-#[inline(always)]
-fn leading_four(bytes: &[u8]) -> Option<(u32, &[u8])>
-    ensures { IfSome result (λ led. bytes.now ≡ to_le_bytes w32 led.0 ++ led.1.now) }
-{
-    match bytes {
-        [a, b, c, d, rest @ ..] => Some((u32::from_le_bytes([*a, *b, *c, *d]), rest)),
-        _ => None,
-    }
-}
-
-/// The kind of the access whose verb and a space stand in front, and what follows them.
+/// The kind of the access whose verb and a space stand in front, and what follows them. Both verbs go one way, since a processor can't guess which comes.
 #[inline(always)]
 fn leading_kind(bytes: &[u8]) -> Option<(Kind, &[u8])>
     ensures { IfSome result (λ parts. bytes.now ≡ kind_word parts.0 ++ 32 ∷ parts.1.now) }
 {
-    match leading_four(bytes)? {
-        (READ, [b' ', rest @ ..]) => Some((Kind::Read, rest)),
-        (WRITE, [b'e', b' ', rest @ ..]) => Some((Kind::Write, rest)),
-        _ => None,
+    let [a, b, c, d, e, f, g, h, ..] = *bytes else {
+        return None;
+    };
+    let is_write = a == b'w';
+    let (shift, verb) = if is_write { (16, WRITE) } else { (24, READ) };
+    if u64::from_le_bytes([a, b, c, d, e, f, g, h]) << shift != verb {
+        return None;
     }
+    let kind = if is_write { Kind::Write } else { Kind::Read };
+    Some((kind, &bytes[5 + usize::from(is_write)..]))
 }
 
 /// Whether the lock event whose verb and a space stand in front is an acquire, its mode, and what follows them.
@@ -61,7 +55,10 @@ fn leading_kind(bytes: &[u8]) -> Option<(Kind, &[u8])>
 fn leading_lock_verb(bytes: &[u8]) -> Option<(bool, Mode, &[u8])>
     ensures { IfSome result (λ parts. bytes.now ≡ lock_word parts.0 parts.1 ++ 32 ∷ parts.2.now) }
 {
-    match leading_four(bytes)? {
+    let [a, b, c, d, rest @ ..] = bytes else {
+        return None;
+    };
+    match (u32::from_le_bytes([*a, *b, *c, *d]), rest) {
         (LOCK, [b' ', rest @ ..]) => Some((true, Mode::Write, rest)),
         (UNLOCK, [b'c', b'k', b' ', rest @ ..]) => Some((false, Mode::Write, rest)),
         (READ_LOCK, [b'k', b' ', rest @ ..]) => Some((true, Mode::Read, rest)),

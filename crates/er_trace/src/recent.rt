@@ -141,12 +141,18 @@ impl ShortName {
         })
     }
 
-    /// The only slot that it can be in.
+    /// The slot that it goes to first.
     #[inline(always)]
     pub(crate) fn slot(self) -> usize {
         let spread = self.first.wrapping_mul(0x9e37_79b9_7f4a_7c15)
             ^ self.rest.wrapping_mul(0xc2b2_ae3d_27d4_eb4f);
         (spread >> 52) as usize
+    }
+
+    /// The slot that it goes to where the first has another name.
+    fn other_slot(self) -> usize {
+        let sum = self.first.wrapping_add(self.rest);
+        (sum.wrapping_mul(0xc2b2_ae3d_27d4_eb4f) >> 52) as usize
     }
 }
 
@@ -209,7 +215,7 @@ impl Leading {
     }
 }
 
-/// Names with their numbers, each in a slot of its own. A name takes the slot of another.
+/// Names with their numbers, each in one of two slots. A name takes the second from another.
 #[derive(Drop)]
 pub(crate) struct RecentNames {
     slots: Vec<Slot>,
@@ -235,20 +241,41 @@ impl RecentNames {
         ensures { (names : List (List ℕ)) → AreRight names self.now → IfSome result (λ number. IsRight names (bytes_of name) number) }
     {
         let slot = self.slots.get(name.slot())?;
+        if slot.name == name {
+            return Some(slot.number);
+        }
+        self.find_behind(name)
+    }
+
+    /// The same of a name that hasn't its first slot.
+    #[inline(never)]
+    fn find_behind(&self, name: ShortName) -> Option<u32>
+        requires { 0 < name.len }
+        ensures { (names : List (List ℕ)) → AreRight names self.now → IfSome result (λ number. IsRight names (bytes_of name) number) }
+    {
+        let slot = self.slots.get(name.other_slot())?;
         if slot.name != name {
             return None;
         }
         Some(slot.number)
     }
 
-    /// Puts a name into its slot. Without memory for slots it does nothing.
+    /// The slot for a name that has none.
+    fn place_for(&self, name: ShortName) -> usize {
+        match self.slots.get(name.slot()) {
+            Some(slot) if slot.name.len > 0 => name.other_slot(),
+            _ => name.slot(),
+        }
+    }
+
+    /// Puts a name that has no slot into one. Without memory for slots it does nothing.
     pub(crate) fn remember(&mut self, name: ShortName, number: u32)
         ensures { (names : List (List ℕ)) → AreRight names self.old → IsRight names (bytes_of name) number → AreRight names self.new }
     {
         if self.slots.is_empty() {
             self.make_slots();
         }
-        let place = name.slot();
+        let place = self.place_for(name);
         if place < self.slots.len() {
             self.slots[place] = Slot { name, number };
         }

@@ -1,5 +1,5 @@
 -- Lines that are gone over one by one, and what is counted of them.
-use Rattle.std.proofs.Common.{◌≡◌, ◌∙◌, ◌+◌, ◌^◌, ℕ, Bool, true, false, cond, is_none, map, max, min, nat_eq, List, [], ◌∷◌, ◌++◌, append_assoc, append-nil, All, count_by, filter, position, IfOk, IfSome, IsSomeAnd, Option, Some, None, option_map, refl, sym, ap, subst, zero-add, arith}
+use Rattle.std.proofs.Common.{◌≡◌, ◌∙◌, ◌+◌, ℕ, Bool, cond, is_none, map, nat_eq, List, [], ◌∷◌, ◌++◌, All, filter, position, IfSome, Option, Some, None, option_map, refl, sym, ap, subst, arith}
 use Rattle.std.proofs.lemmas.List.Elements.{All-filter}
 use Rattle.std.proofs.lemmas.List.Sums.{sum_by-cons}
 use Rattle.er_places.specs.Places.{PlaceTable}
@@ -29,21 +29,9 @@ module _ (table : PlaceTable) (rules : List Target) where
   taken-cons : (line : Line) (rest : List Line) (i : ℕ) → taken_by table rules (line ∷ rest) i ≡ cond (is_rule i (line_rule table rules line)) 1 0 + taken_by table rules rest i
   taken-cons line rest i = sum_by-cons (λ l. cond (is_rule i (line_rule table rules l)) 1 0) line rest
 
-  -- a line that is kept
-  pub kept_on : (line : Line) (rest kept all : List Line) → line_rule table rules line ≡ None → kept ++ filter stays (line ∷ rest) ≡ all → (kept ++ line ∷ []) ++ filter stays rest ≡ all
-  kept_on line rest kept all none is =
-      append_assoc kept (line ∷ []) (filter stays rest)
-      ∙ (sym (ap (λ (o : Option ℕ). kept ++ cond (is_none o) (line ∷ filter stays rest) (filter stays rest)) none) ∙ is)
-
-  -- and one that is not
+  -- a line that is not kept
   pub gone_on : (line : Line) (rest kept all : List Line) (place : ℕ) → line_rule table rules line ≡ Some place → kept ++ filter stays (line ∷ rest) ≡ all → kept ++ filter stays rest ≡ all
   gone_on line rest kept all place some is = sym (ap (λ (o : Option ℕ). kept ++ cond (is_none o) (line ∷ filter stays rest) (filter stays rest)) some) ∙ is
-
-  pub uncounted_on : (line : Line) (rest : List Line) (i : ℕ) (count all : Option ℕ) → line_rule table rules line ≡ None
-      → option_map (with_more (taken_by table rules (line ∷ rest) i)) count ≡ all → option_map (with_more (taken_by table rules rest i)) count ≡ all
-  uncounted_on line rest i count all none is =
-      sym (ap (λ (n : ℕ). option_map (with_more n) count)
-      (taken-cons line rest i ∙ (ap (λ (o : Option ℕ). cond {A = ℕ} (is_rule i o) 1 0 + taken_by table rules rest i) none ∙ zero-add (taken_by table rules rest i)))) ∙ is
 
   counted : (a n : ℕ) (count : Option ℕ) → option_map (with_more n) (option_map (with_more a) count) ≡ option_map (with_more (a + n)) count
   counted a n None = refl

@@ -22,6 +22,7 @@ use Rattle.er_rules.specs.declared.rules.FactKind.TheVariants.{Frame, Function, 
 abbrev pub takes_name : List ℕ → List ℕ → Bool
 takes_name pattern name = has_bytes name && pattern_takes pattern name
 
+-- the variable is known, and the pattern takes its name
 abbrev pub takes_variable : List ℕ → Option VariableFact → Bool
 takes_variable pattern None = false
 takes_variable pattern (Some variable) = takes_name pattern (vec_items variable.name)
@@ -49,7 +50,7 @@ abbrev pub fact_rule : PlaceTable → List Target → Option RaceView → Option
 fact_rule table rules None = None
 fact_rule table rules (Some race) = position (takes_fact table race) rules
 
--- and of a line
+-- the first rule that takes the race of a line
 abbrev pub line_rule : PlaceTable → List Target → Line → Option ℕ
 line_rule table rules line = fact_rule table rules (race_of (line_view line))
 
@@ -72,12 +73,12 @@ pub record IsLeft (table : PlaceTable) (rules : List Target) (report left : Repo
     suppressed = with_more (length report.lines.items - length left.lines.items) report.suppressed;
   }
 
--- of a report, if there is one
+-- what is left of a report, if there is one
 abbrev pub IsLeftOf : PlaceTable → List Target → Option Report → Option Report → Type 0
 IsLeftOf table rules None left = left ≡ None
 IsLeftOf table rules (Some report) left = IsSomeAnd left (IsLeft table rules report)
 
--- and of each report
+-- what is left of each report
 pub record AreLeft (table : PlaceTable) (rules : List Target) (reports left : Reports) : Type 0 where
   pub lockset : IsLeftOf table rules reports.lockset left.lockset
   pub unordered : IsLeftOf table rules reports.unordered left.unordered

@@ -37,7 +37,7 @@ abbrev pub takes_race : NameTable → Deed → ℕ → Target → Bool
 takes_race names (deed.Access kind word) site target = takes target (site_name names site) word
 takes_race names (deed.Reuse range) site target = takes_reuse target (site_name names site) range.lo range.hi
 
--- the first rule that does
+-- the first rule that takes a race
 abbrev pub rule_of : NameTable → List Target → Deed → ℕ → Option ℕ
 rule_of names rules what site = position (takes_race names what site) rules
 

@@ -38,6 +38,7 @@ count_text race = codes "# races " ++ decimal race.races ++ codes ", first: line
 abbrev pub taken_text : NameTable → KnownRace → List ℕ
 taken_text names race = count_text race ++ codes ", " ++ raced_text names race.thread race.deed ++ 10 ∷ []
 
+-- a comment that warns of a rule for a line of a system header, as it hides too much
 unfoldable pub comment_text : List ℕ → List ℕ
 comment_text name = codes "# " ++ name ++ codes " is a line of a system header: this rule hides the races of every part of the program that uses it\n"
 

@@ -1,5 +1,5 @@
 //! Reports without the races that rules take by what a trace says of the program.
-ghost use Rattle.std.specs.Prelude.{◌≡◌, ℕ, cond, filter, is_none, nat_eq, position, All, IfOk, IfSome, OnOk, option_map, slice_get};
+ghost use Rattle.std.specs.Prelude.{◌≡◌, ℕ, cond, filter, is_none, nat_eq, position, IfOk, OnOk, option_map, slice_get};
 ghost use Rattle.std.specs.List.{list_any};
 ghost use Rattle.er_places.specs.Names.{call_function};
 ghost use Rattle.er_places.specs.Places.{call_name};

@@ -29,8 +29,8 @@ use Rattle.er_unordered.proofs.AnswerLemmas.{bytes-here, locks-here, long, with-
 use Rattle.er_unordered.proofs.BytesLemmas.{answer-stays, races-told}
 use Rattle.er_unordered.proofs.ReasonLemmas.{tag-there, told-next, told-stays}
 use Rattle.er_unordered.proofs.StandingLemmas.{stands-tags}
-use Rattle.er_unordered.specs.Inner.Passes.{HasAnswered, HasComeTo, recorded}
-use Rattle.er_unordered.specs.Inner.Reasons.{tag_at, told_at}
+use Rattle.er_unordered.specs.Answered.{HasAnswered, HasComeTo, recorded}
+use Rattle.er_unordered.specs.Tags.{tag_at, told_at}
 use Rattle.er_unordered.specs.Standing.{Ordered, Stands}
 
 -- a batch of steps behind those that are past

@@ -20,7 +20,7 @@ use Rattle.er_report.specs.declared.report.Because.{Because}
 use Rattle.er_report.specs.declared.report.Label.TheVariants as label
 use Rattle.er_trace.specs.Trace.{Recording, IsNamed}
 use Rattle.er_unordered.proofs.BytesLemmas.{is-earlier, unordered-stays}
-use Rattle.er_unordered.specs.Inner.Reasons.{line_reason, one_told, tag_at, told_at}
+use Rattle.er_unordered.specs.Tags.{line_reason, one_told, tag_at, told_at}
 use Rattle.er_unordered.specs.Reasons.{order_reasons, reasons_with}
 
 -- an access is told on its line

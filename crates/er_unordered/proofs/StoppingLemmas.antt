@@ -30,10 +30,10 @@ use Rattle.er_rules.specs.Rules.{Target}
 use Rattle.er_text.specs.Batches.{joined}
 use Rattle.er_trace.specs.Names.{NameTable, no_names}
 use Rattle.er_trace.specs.Trace.{IsNamed, HasSiteName, Recording, no_steps}
-use Rattle.er_unordered.specs.Inner.Passes.{HasAnswered, HasGathered, TouchAs, recorded, tells}
-use Rattle.er_unordered.specs.Inner.Reasons.{tag_at, told_at}
+use Rattle.er_unordered.specs.Answered.{HasAnswered, HasGathered, tells, recorded}
+use Rattle.er_unordered.specs.Tags.{tag_at, told_at}
 use Rattle.er_unordered.specs.Ordered.{HasGatheredFor, HasOrdered, OrderRan}
-use Rattle.er_unordered.specs.Reports.{bytes_by, has_order, is_order, touched_by, unordered_report}
+use Rattle.er_unordered.specs.Reports.{TouchAs, bytes_by, has_order, is_order, touched_by, unordered_report}
 use Rattle.er_unordered.specs.declared.ordering.Machines.{Machines}
 use Rattle.er_unordered.specs.Stops.{IsStopIn}
 

@@ -1,6 +1,7 @@
-pub mod Inner
+pub mod Answered
 pub mod Ordered
 pub mod Reasons
 pub mod Reports
 pub mod Standing
 pub mod Stops
+pub mod Tags

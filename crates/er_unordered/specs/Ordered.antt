@@ -6,12 +6,12 @@ use Rattle.er_order.specs.ByBytes.{Touched}
 use Rattle.er_report.specs.Builder.{Built}
 use Rattle.er_report.specs.declared.report.Because.{Because}
 use Rattle.er_trace.specs.Trace.{Recording}
-use Rattle.er_unordered.specs.Inner.Passes.{HasGathered, tells}
+use Rattle.er_unordered.specs.Answered.{HasGathered, tells}
 use Rattle.er_unordered.specs.Reports.{has_order, touched_by}
 use Rattle.er_unordered.specs.Stops.{IsStopIn}
 use Rattle.er_unordered.specs.declared.ordering.Machines.{Machines}
 
--- its machine, what is built for a report, the reasons that are told, why it has stopped, and whether a step was an order event
+-- an analyst: its machine, what is built for a report, the reasons that are told, why it has stopped, and whether a step was an order event
 pub record OrderRan : Type 0 where
   pub machine : Machines
   pub built : Built
@@ -28,7 +28,7 @@ pub record HasGatheredFor (ran : OrderRan) (asked : Asked) (r : Recording) : Typ
   pub rules : ran.built.rules ≡ asked.rules
   pub explain : tells ran.machine ≡ asked.explain
 
--- or one of them can't be answered
+-- all of the recording's steps were answered, or one of them can't be
 pub record HasOrdered (ran : OrderRan) (asked : Asked) (r : Recording) : Type 0 where
   pub all : ran.stop ≡ None → HasGatheredFor ran asked r
   pub stopped : IfSome ran.stop (λ why. IsStopIn r.steps why)

@@ -15,6 +15,6 @@ reasons_with r (Some j) = reason_at r label.Unordered j
 unfoldable pub order_reasons : Touched → Recording → ℕ → List Because
 order_reasons touched r k = reasons_with r (unordered_by_bytes touched r.steps k)
 
--- if reasons are asked for
+-- the reasons of the access at position k, if reasons are asked for
 abbrev pub order_reasons_if : Bool → Touched → Recording → ℕ → List Because
 order_reasons_if explain touched r k = cond explain (order_reasons touched r k) []

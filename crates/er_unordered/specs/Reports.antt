@@ -1,5 +1,5 @@
 -- The report of a recording's unordered accesses, and whether its steps order threads beside locks.
-use Rattle.std.specs.Prelude.{ℕ, Bool, true, false, List, slice_index, Option, Some, None}
+use Rattle.std.specs.Prelude.{◌≡◌, ◌+◌, ◌<◌, ℕ, Bool, true, false, List, length, slice_index, Option, Some, None}
 use Rattle.std.specs.List.{list_any}
 use Rattle.er_event.specs.declared.steps.Event.{Event}
 use Rattle.er_event.specs.declared.steps.Event.TheVariants.{Sync}
@@ -22,6 +22,10 @@ bytes_by (Some touch) = record { first = touch.first; last = touch.last }
 abbrev pub touched_by : List Touch → List ℕ → Touched
 touched_by touches lines k = bytes_by (touch_on touches (slice_index lines k))
 
+-- behind so many positions, those of these lines touch what touches say of their lines
+abbrev pub TouchAs : Touched → List Touch → List ℕ → ℕ → Type 0
+TouchAs touched touches lines n = (k : ℕ) → k < length lines → touched (n + k) ≡ touched_by touches lines k
+
 -- the report of a recording's unordered accesses, where positions touch these bytes, under these rules, with reasons or without
 abbrev pub unordered_report : Recording → Touched → List Target → Bool → Summary
 unordered_report recording touched rules explain = report_by (answer_by_bytes touched recording.steps) (order_reasons_if explain touched recording) recording rules None
@@ -31,10 +35,10 @@ abbrev pub is_sync : Event → Bool
 is_sync (Sync sync) = true
 is_sync _ = false
 
--- the step does
+-- the step starts or joins a thread, signals or awaits
 abbrev pub is_order : Step → Bool
 is_order step = is_sync step.event
 
--- some of the steps does
+-- one of the steps starts or joins a thread, signals or awaits
 abbrev pub has_order : List Step → Bool
 has_order steps = list_any is_order steps

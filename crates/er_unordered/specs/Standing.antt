@@ -63,7 +63,7 @@ wants_nothing h _ = false
 abbrev pub IsBeyondBy : {A : Type 0} → Ordered A → Step → Limit → Type 0
 IsBeyondBy machine step limit = IsBeyond limit (counts machine.clocks) (act_by (holding machine step.thread) step)
 
--- the same of a step that comes after the list
+-- a step that comes after the list may be beyond the limit of the clocks
 abbrev pub IsBeyondAfter : List Step → Step → Limit → Type 0
 IsBeyondAfter steps step limit = IsBeyond limit (clocks_at (acts_of steps) (length steps)) (acts_of (steps ++ step ∷ []) (length steps))
 
@@ -71,7 +71,7 @@ IsBeyondAfter steps step limit = IsBeyond limit (clocks_at (acts_of steps) (leng
 abbrev pub is_crowding : {A : Type 0} → Ordered A → Step → Bool
 is_crowding machine step = crowds (act_by (holding machine step.thread) step)
 
--- the same of a step that comes after the list
+-- a step that comes after the list does to the order what clocks have no room for
 abbrev pub crowds_after : List Step → Step → Bool
 crowds_after steps step = crowds (acts_of (steps ++ step ∷ []) (length steps))
 
@@ -82,7 +82,7 @@ pub record Changes {A : Type 0} (before : Ordered A) (step : Step) (bytes : Byte
   pub room : is_crowding before step ≡ false
   pub words : (w : ℕ) → IsKnownMoved (clock_of before step.thread) tag bytes (known_in before w) w (marked (holding before step.thread) step.thread step.event) (known_in after w)
 
--- they are the same
+-- the machine has kept what it had
 pub record IsSame {A : Type 0} (before after : Ordered A) : Type 0 where
   pub held : (t : ℕ) → holding after t ≡ holding before t
   pub clocks : SameCounts before.clocks after.clocks
@@ -92,7 +92,7 @@ pub record IsSame {A : Type 0} (before after : Ordered A) : Type 0 where
 abbrev pub word_used : {A : Type 0} → (ℕ → ℕ) → (ℕ → Known A) → PageRange → Option ℕ
 word_used clock known range = least_below (suc range.hi) (λ w. is_within w range && is_some (finds clock (known w) reuse_query))
 
--- what is found of that word
+-- the tag of the use of a word that was found
 abbrev pub use_found : {A : Type 0} → (ℕ → ℕ) → (ℕ → Known A) → Option ℕ → Option A
 use_found clock known None = None
 use_found clock known (Some w) = finds clock (known w) reuse_query
@@ -109,7 +109,7 @@ rival_by h clock known bytes (Access kind w site) = cond (nat_lt 0 h.depth) None
 rival_by h clock known bytes (Reuse range) = cond (nat_lt 0 h.depth) None (use_found clock known (word_used clock known range))
 rival_by h clock known bytes _ = None
 
--- and the answer
+-- what a step is answered
 abbrev pub answered_by : {A : Type 0} → Ordered A → Step → Bytes → OrderAnswer A
 answered_by machine step bytes = record {
   reply = answer_unless (refused_by (holding machine step.thread) step.event) (reply_by (holding machine step.thread) (clock_of machine step.thread) (known_in machine) bytes step.event);
@@ -123,7 +123,7 @@ holds_alone IgnoreOff = true
 holds_alone (Level level) = true
 holds_alone _ = false
 
--- it is neither an access nor a reuse, so it is no race
+-- the event is neither an access nor a reuse, so it is no race
 abbrev pub names_none : Event → Bool
 names_none (Access kind w site) = false
 names_none (Reuse range) = false

@@ -9,7 +9,8 @@ ghost use Rattle.er_text.specs.Batches.{joined};
 ghost use Rattle.er_text.specs.Named.{KeepsNames};
 ghost use Rattle.er_trace.specs.Names.{NameTable};
 ghost use Rattle.er_trace.specs.Trace.{Recording};
-ghost use Rattle.er_unordered.specs.Inner.Passes.{HasAnswered, TouchAs, recorded};
+ghost use Rattle.er_unordered.specs.Reports.{TouchAs};
+ghost use Rattle.er_unordered.specs.Answered.{HasAnswered, recorded};
 ghost use Rattle.er_unordered.specs.Stops.{IsStopIn};
 
 use crate::machine::{OrderAnswer, OrderMachine};

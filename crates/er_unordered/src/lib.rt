@@ -27,7 +27,7 @@
 
 pub use laws::a_text_has_whole_words;
 pub use machine::{OrderAnswer, OrderMachine};
-pub use ordering::OrderAnalyst;
+pub use ordering::{Machines, OrderAnalyst};
 
 mod answering;
 mod laws;

@@ -11,9 +11,9 @@ ghost use Rattle.er_text.specs.Batches.{joined};
 ghost use Rattle.er_text.specs.Named.{KeepsNames};
 ghost use Rattle.er_trace.specs.Names.{NameTable};
 ghost use Rattle.er_trace.specs.Trace.{Recording, no_steps};
-ghost use Rattle.er_unordered.specs.Inner.Passes.{HasGathered, TouchAs, recorded, tells};
+ghost use Rattle.er_unordered.specs.Answered.{HasGathered, tells, recorded};
 ghost use Rattle.er_unordered.specs.Ordered.{HasOrdered};
-ghost use Rattle.er_unordered.specs.Reports.{has_order, is_order, touched_by, unordered_report};
+ghost use Rattle.er_unordered.specs.Reports.{TouchAs, has_order, is_order, touched_by, unordered_report};
 ghost use Rattle.er_unordered.specs.Stops.{IsStopIn};
 
 use crate::answering::answer_steps;
@@ -152,9 +152,9 @@ impl<'r> Analyst for OrderAnalyst<'r> {
     }
 }
 
-/// The machine, which keeps of each access what reasons want, or nothing.
+/// The machine of an analyst. Of each access it keeps what reasons want, or nothing.
 #[derive(Drop)]
-pub(crate) enum Machines {
+pub enum Machines {
     /// Without reasons.
     Plain(OrderMachine<()>),
     /// With reasons.

@@ -4,7 +4,7 @@ ghost use Rattle.std.specs.Option.{option_to_list};
 ghost use Rattle.er_event.specs.declared.steps.Step.{Step as Steps};
 ghost use Rattle.er_explain.specs.Book.{event_kind};
 ghost use Rattle.er_report.specs.declared.report.Because.{Because as Reason};
-ghost use Rattle.er_unordered.specs.Inner.Reasons.{line_reason};
+ghost use Rattle.er_unordered.specs.Tags.{line_reason};
 
 use er_event::{Event, Kind, Step};
 use er_report::{Because, Label};
@@ -29,7 +29,7 @@ pub(crate) trait Tag: Copy {
 }
 
 impl Tag for () {
-    ghost use Rattle.er_unordered.specs.Inner.Reasons.{no_tag, none_told};
+    ghost use Rattle.er_unordered.specs.Tags.{no_tag, none_told};
 
     ghost tag_of = { no_tag };
 
@@ -45,7 +45,7 @@ impl Tag for () {
 }
 
 impl Tag for Because {
-    ghost use Rattle.er_unordered.specs.Inner.Reasons.{line_reason, one_told};
+    ghost use Rattle.er_unordered.specs.Tags.{line_reason, one_told};
 
     ghost tag_of = { line_reason };
 

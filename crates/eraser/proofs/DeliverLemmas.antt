@@ -1,5 +1,5 @@
 -- What was delivered is what was asked for.
-use Rattle.std.proofs.Common.{IfSome, ◌≡◌, ◌≢◌, ◌≤◌, ◌-◌, ◌∙◌, ◌++◌, ℕ, Bool, true, false, cond, is_some, List, [], length, Option, Some, None, IsSome, IfOk, IfErr, Result, Ok, Err, inl, inr, refl, sym, subst, ap, arith}
+use Rattle.std.proofs.Common.{IfSome, ◌≡◌, ◌≢◌, ◌≤◌, ◌-◌, ◌∙◌, ◌++◌, ℕ, Bool, true, false, cond, is_some, List, [], length, Option, Some, None, IfOk, IfErr, Result, Ok, Err, inl, inr, refl, sym, subst, ap, arith}
 use Rattle.std.specs.Io.KnownBytes.{Appends, Keeps}
 use Rattle.er_batch.specs.declared.verdict.Verdict.{Verdict}
 use Rattle.er_batch.specs.declared.verdict.Verdict.TheVariants.{Clean, Races, Stopped}
@@ -33,13 +33,13 @@ use Rattle.er_triage.specs.Known.{lines_of}
 use Rattle.er_triage.specs.Notes.{AreNotes, notes_text}
 use Rattle.eraser.specs.Faults.{replay_fault}
 use Rattle.eraser.specs.Inner.Writes.{WritesSome}
-use Rattle.eraser.specs.Replays.{AreCounted, AreShown, EndsAs, FailsAs, FailsBy, FailsFor, IsCountedIf, IsEndOf, IsOutput, MayHavePlaces, MayLack, MayLackRaces, headed_part, races_in, unordered_of, verdict_status}
+use Rattle.eraser.specs.Replays.{AreCounted, AreShown, EndsAs, FailsBy, FailsFor, IsCountedIf, IsEndOf, IsOutput, MayHavePlaces, MayLack, MayLackRaces, headed_part, races_in, unordered_of, verdict_status}
 use Rattle.eraser.specs.declared.replaying.Ended.{Ended}
 
 -- what is known of reports of a text without the races that rules take, and of those of them that are left
-pub record AreTriaged (replay : Replay) (text : List ℕ) (touches : Option (List Touch)) (rules : List Target) (names : NameTable) (found left : Reports) : Type 0 where
+pub record AreTriaged (replay : Replay) (text : List ℕ) (touches : Option (List Touch)) (limit : ℕ) (rules : List Target) (names : NameTable) (found left : Reports) : Type 0 where
   pub raced : Reports
-  pub reports : AreReportsOfText replay.part replay.analysis text touches replay.byte_limit rules replay.explain names raced
+  pub reports : AreReportsOfText replay.part replay.analysis text touches limit rules replay.explain names raced
   pub facts : MayLack replay rules raced found
   pub locks : is_some found.lockset ≡ asks_locks replay.analysis
   pub order : is_some found.unordered ≡ asks_order replay.analysis
@@ -72,43 +72,28 @@ still-asked replay rules raced found (lacking, lacks, counted) =
     let first = still-there replay rules raced lacking lacks in
     let second = counted_some replay.counts lacking found counted in (second.0 ∙ first.0, second.1 ∙ first.1)
 
-abbrev output : {F : Type 0} (remaining : F → Option (List ℕ)) (replay : Replay) (text : List ℕ) (touches : Option (List Touch)) (rules : List Target) (names : NameTable) (found left : Reports) (bytes : List ℕ)
-    → AreTriaged replay text touches rules names found left → AreShown remaining replay names rules left bytes → IsOutput remaining replay text touches rules bytes
-output remaining replay text touches rules names found left bytes triaged shown =
+abbrev output : {F : Type 0} (remaining : F → Option (List ℕ)) (replay : Replay) (text : List ℕ) (touches : Option (List Touch)) (limit : ℕ) (rules : List Target) (names : NameTable) (found left : Reports) (bytes : List ℕ)
+    → AreTriaged replay text touches limit rules names found left → AreShown remaining replay limit names rules left bytes → IsOutput remaining replay text touches limit rules bytes
+output remaining replay text touches limit rules names found left bytes triaged shown =
     record { names = names; raced = triaged.raced; found = found; left = left; reports = triaged.reports; facts = triaged.facts; locks = triaged.locks; order = triaged.order; first = triaged.first; shown = shown }
 
 -- behind the whole output
-pub ends : {F : Type 0} (remaining : F → Option (List ℕ)) (replay : Replay) (text : List ℕ) (touches : Option (List Touch)) (rules : List Target) (names : NameTable) (found left : Reports) (ending : Ending) (has_order : Bool) (old new : Option (List ℕ))
-    (notes : List ℕ) (count : ℕ) (result : Result Ended Fault) → AreTriaged replay text touches rules names found left → ((bytes : List ℕ) × AreShown remaining replay names rules left bytes × Appends old new bytes)
+pub ends : {F : Type 0} (remaining : F → Option (List ℕ)) (replay : Replay) (text : List ℕ) (touches : Option (List Touch)) (limit : ℕ) (rules : List Target) (names : NameTable) (found left : Reports) (ending : Ending) (has_order : Bool) (old new : Option (List ℕ))
+    (notes : List ℕ) (count : ℕ) (result : Result Ended Fault) → AreTriaged replay text touches limit rules names found left → ((bytes : List ℕ) × AreShown remaining replay limit names rules left bytes × Appends old new bytes)
     → notes ≡ notes_text replay.unused_rules found rules (length (lines_of found) - length (lines_of left)) → count ≡ unordered_of has_order found
     → IfOk result (λ ended. ended.status ≡ verdict_status (is_verdict_of left)) → IfOk result (λ ended. ended.notes.items ≡ notes)
-    → IfOk result (λ ended. (ended.ending ≡ ending) × (ended.unordered ≡ count)) → IsEndingOf text ending → IsOrderOfText replay.part replay.analysis text replay.byte_limit has_order
-    → IfOk result (EndsAs remaining replay text touches rules old new)
-ends remaining replay text touches rules names found left ending has_order old new notes count (Err why) triaged written noted counted status same_notes same is order = tt
-ends remaining replay text touches rules names found left ending has_order old new notes count (Ok ended) triaged (bytes, shown, appended) noted counted status same_notes (same, same_count) is order = record {
+    → IfOk result (λ ended. (ended.ending ≡ ending) × (ended.unordered ≡ count)) → IsEndingOf text ending → IsOrderOfText replay.part replay.analysis text limit has_order
+    → IfOk result (EndsAs remaining replay text touches limit rules old new)
+ends remaining replay text touches limit rules names found left ending has_order old new notes count (Err why) triaged written noted counted status same_notes same is order = tt
+ends remaining replay text touches limit rules names found left ending has_order old new notes count (Ok ended) triaged (bytes, shown, appended) noted counted status same_notes (same, same_count) is order = record {
   bytes = bytes;
-  output = output remaining replay text touches rules names found left bytes triaged shown;
+  output = output remaining replay text touches limit rules names found left bytes triaged shown;
   written = appended;
   status = status;
   ending = subst (λ (e : Ending). IsEndingOf text e) (sym same) is;
   order = (has_order, (order, same_count ∙ counted));
   notes = same_notes ∙ noted;
 }
-
--- without the file of rules
-pub lacks-rules : {F : Type 0} (remaining : F → Option (List ℕ)) (replay : Replay) (text : List ℕ) (touches : Option (List Touch)) (rules : List Target) (names : NameTable) (found left : Reports) (old new : Option (List ℕ))
-    (result : Result Ended Fault) → AreTriaged replay text touches rules names found left → ((bytes : List ℕ) × AreShown remaining replay names rules left bytes × Appends old new bytes)
-    → IfErr result (λ why. (why ≡ fault.WriteRules) × IsSome replay.write_rules) → IfErr result (FailsAs remaining replay text touches rules old new)
-lacks-rules remaining replay text touches rules names found left old new (Ok ended) triaged written is = tt
-lacks-rules remaining replay text touches rules names found left old new (Err why) triaged (bytes, shown, appended) (is, some) =
-    subst (λ (w : Fault). FailsAs remaining replay text touches rules old new w) (sym is) (some, (bytes, output remaining replay text touches rules names found left bytes triaged shown, appended))
-
--- behind a write that failed, or a want of memory
-pub breaks-off : {F : Type 0} (remaining : F → Option (List ℕ)) (replay : Replay) (text : List ℕ) (touches : Option (List Touch)) (rules : List Target) (names : NameTable) (found left : Reports) (old new : Option (List ℕ)) (why : Fault)
-    → AreTriaged replay text touches rules names found left → WritesSome {X = Unit {0}} (AreShown remaining replay names rules left) old new (Err why) → FailsAs remaining replay text touches rules old new why
-breaks-off remaining replay text touches rules names found left old new fault.Write triaged (bytes, shown, begun) = (bytes, output remaining replay text touches rules names found left bytes triaged shown, begun)
-breaks-off remaining replay text touches rules names found left old new fault.Memory triaged keeps = keeps
-breaks-off remaining replay text touches rules names found left old new _ triaged none = absurd none
 
 -- a fault of writing as one of the program
 abbrev pub as_fault : {X : Type 0} → Result X WriteFault → Result X Fault
@@ -127,20 +112,20 @@ written Are heading old new (Err e) items (Err writing.Memory) are wrote memory 
 written Are heading old new (Err e) items (Err writing.Write) are wrote memory = cc
 
 -- a form that was made is what is asked for
-shown_if : {F A E : Type 0} (remaining : F → Option (List ℕ)) (replay : Replay) (names : NameTable) (rules : List Target) (reports : Reports) (table : PlaceTable) (excerpts : List Excerpt) (heading : List ℕ)
-    (text : Result A E) (items : A → List ℕ) → MayHavePlaces remaining replay reports table → (replay.source ≡ None → excerpts ≡ []) → IsHeading (headed_part replay) replay.explain heading
-    → IfOk text (λ t. IsForm replay.form names table rules excerpts reports (items t)) → IfOk text (λ t. AreShown remaining replay names rules reports (heading ++ items t))
-shown_if remaining replay names rules reports table excerpts heading (Ok t) items places sources headed form =
+shown_if : {F A E : Type 0} (remaining : F → Option (List ℕ)) (replay : Replay) (limit : ℕ) (names : NameTable) (rules : List Target) (reports : Reports) (table : PlaceTable) (excerpts : List Excerpt) (heading : List ℕ)
+    (text : Result A E) (items : A → List ℕ) → MayHavePlaces remaining replay limit reports table → (replay.source ≡ None → excerpts ≡ []) → IsHeading (headed_part replay) replay.explain heading
+    → IfOk text (λ t. IsForm replay.form names table rules excerpts reports (items t)) → IfOk text (λ t. AreShown remaining replay limit names rules reports (heading ++ items t))
+shown_if remaining replay limit names rules reports table excerpts heading (Ok t) items places sources headed form =
     record { table = table; excerpts = excerpts; places = places; sources = sources; heading = heading; body = items t; headed = headed; form = form; says = refl }
-shown_if remaining replay names rules reports table excerpts heading (Err e) items places sources headed form = tt
+shown_if remaining replay limit names rules reports table excerpts heading (Err e) items places sources headed form = tt
 
-pub delivered : {F A E X : Type 0} (remaining : F → Option (List ℕ)) (replay : Replay) (names : NameTable) (rules : List Target) (reports : Reports) (table : PlaceTable) (excerpts : List Excerpt) (heading : List ℕ)
-    (old new : Option (List ℕ)) (text : Result A E) (items : A → List ℕ) (result : Result X WriteFault) → MayHavePlaces remaining replay reports table → (replay.source ≡ None → excerpts ≡ [])
+pub delivered : {F A E X : Type 0} (remaining : F → Option (List ℕ)) (replay : Replay) (limit : ℕ) (names : NameTable) (rules : List Target) (reports : Reports) (table : PlaceTable) (excerpts : List Excerpt) (heading : List ℕ)
+    (old new : Option (List ℕ)) (text : Result A E) (items : A → List ℕ) (result : Result X WriteFault) → MayHavePlaces remaining replay limit reports table → (replay.source ≡ None → excerpts ≡ [])
     → IsHeading (headed_part replay) replay.explain heading → IfOk text (λ t. IsForm replay.form names table rules excerpts reports (items t))
     → ((bytes : List ℕ) → IfOk text (λ t. items t ≡ bytes) → WritesReport old new (heading ++ bytes) result)
-    → IfErr text (λ e. result ≡ Err writing.Memory) → WritesSome (AreShown remaining replay names rules reports) old new (as_fault result)
-delivered remaining replay names rules reports table excerpts heading old new text items result places sources headed form wrote memory =
-    written (AreShown remaining replay names rules reports) heading old new text items result (shown_if remaining replay names rules reports table excerpts heading text items places sources headed form) wrote memory
+    → IfErr text (λ e. result ≡ Err writing.Memory) → WritesSome (AreShown remaining replay limit names rules reports) old new (as_fault result)
+delivered remaining replay limit names rules reports table excerpts heading old new text items result places sources headed form wrote memory =
+    written (AreShown remaining replay limit names rules reports) heading old new text items result (shown_if remaining replay limit names rules reports table excerpts heading text items places sources headed form) wrote memory
 
 -- nothing was, for want of memory
 pub no-memory : {A E X : Type 0} (heading : List ℕ) (old new : Option (List ℕ)) (text : Result A E) (items : A → List ℕ) (result : Result X WriteFault) → result ≡ Err writing.Memory

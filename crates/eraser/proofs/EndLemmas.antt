@@ -1,7 +1,8 @@
 -- How a replay ends.
-use Rattle.std.proofs.Common.{◌≡◌, ◌∙◌, ◌++◌, ℕ, Bool, true, false, cond, nat_lt, is_some, IsFalse, inl, inr, List, [], append-nil, take, Option, Some, None, IsSome, IfSome, IfOk, IfErr, Result, Ok, Err, refl, sym, ap, subst}
+use Rattle.std.proofs.Common.{◌≡◌, ◌≢◌, ◌∙◌, ◌++◌, ℕ, Bool, true, false, cond, nat_lt, is_some, IsFalse, inl, inr, List, [], append-nil, take, Option, Some, None, IsSome, IfSome, IfOk, IfErr, Result, Ok, Err, codes, refl, sym, ap, subst}
 use Rattle.std.specs.Io.KnownBytes.{Appends, Keeps}
 use Rattle.er_batch.specs.Runs.{IsRunOf}
+use Rattle.er_binary.specs.Meaning.{meant}
 use Rattle.er_exit.specs.Parts.{IsHeading}
 use Rattle.er_exit.specs.Writes.{LeavesOutput}
 use Rattle.er_exit.specs.declared.faults.Fault.{Fault}
@@ -32,7 +33,7 @@ use Rattle.er_trace.specs.Names.{NameTable}
 use Rattle.er_trace.specs.Trace.{Recording}
 use Rattle.er_triage.specs.First.{KeepFirst}
 use Rattle.eraser.specs.Faults.{replay_fault}
-use Rattle.eraser.specs.Replays.{AreCounted, EndsAs, EndsUsually, FailsAs, FailsFor, IsEndOf, IsFoundFault, IsOutput, IsUsualFault, MayLack, MayLackRaces, LeavesUsually, ReplaysTo, headed_part, unordered_of}
+use Rattle.eraser.specs.Replays.{AreCounted, EndsAs, EndsUsually, FailsAs, FailsCut, IsEndOf, IsFoundFault, IsOutput, IsUsualFault, MayLack, MayLackRaces, LeavesUsually, OfTrace, OfTraceFile, ReplaysTo, UnderRules, headed_part, limit_of, touched_in, unordered_of}
 use Rattle.eraser.specs.declared.replaying.Ended.{Ended}
 use Rattle.eraser.specs.declared.until.Cut.{Cut}
 
@@ -88,7 +89,7 @@ nothing_lacks replay raced found none (lacking, lacks, counted) =
 no_part : (replay : Replay) → IsUsual replay → headed_part replay ≡ None
 no_part replay usual = ap (λ (counts : Option Report). cond (is_some counts) None replay.part) usual.counts ∙ usual.part
 
-alone : {F : Type 0} (remaining : F → Option (List ℕ)) (replay : Replay) (text bytes : List ℕ) (touches : Option (List Touch)) (output : IsOutput remaining replay text touches [] bytes) → IsUsual replay → IsAlone text output.found output.left bytes
+alone : {F : Type 0} (remaining : F → Option (List ℕ)) (replay : Replay) (text bytes : List ℕ) (touches : Option (List Touch)) (output : IsOutput remaining replay text touches replay.byte_limit [] bytes) → IsUsual replay → IsAlone text output.found output.left bytes
 alone remaining replay text bytes touches output usual = with_report (there output.found.lockset (output.locks ∙ ap asks_locks usual.analysis))
   where
     reports : AreReportsOfText None Lockset text touches usual_limit [] false output.names output.found
@@ -129,7 +130,7 @@ alone remaining replay text bytes touches output usual = with_report (there outp
     with_report : (report : Report) × (output.found.lockset ≡ Some report) → IsAlone text output.found output.left bytes
     with_report (report, one) = with_run report one (subst (λ (o : Option Report). IfSome o (λ r. IsReportOfRun None false (lost_told text) reports.recording [] false r)) one reports.lockset)
 
-pub usual-ends : {F : Type 0} {touches : Option (List Touch)} (remaining : F → Option (List ℕ)) (replay : Replay) (text : List ℕ) (old new : Option (List ℕ)) (ended : Ended) → IsUsual replay → EndsAs remaining replay text touches [] old new ended
+pub usual-ends : {F : Type 0} {touches : Option (List Touch)} (remaining : F → Option (List ℕ)) (replay : Replay) (text : List ℕ) (old new : Option (List ℕ)) (ended : Ended) → IsUsual replay → EndsAs remaining replay text touches replay.byte_limit [] old new ended
     → ReplaysTo text old new ended.status × (IsEndingOf text ended.ending × (ended.unordered ≡ 0))
 usual-ends remaining replay text old new ended usual ends =
     let left : IsAlone text ends.output.found ends.output.left ends.bytes = alone remaining replay text ends.bytes _ ends.output usual in (
@@ -171,18 +172,18 @@ no_file : {A B : Type 0} (path : Option A) → path ≡ None → IsSome path →
 no_file None none some = cc
 no_file (Some file) none some = cc
 
-pub usual-fails : {F : Type 0} (remaining : F → Option (List ℕ)) (replay : Replay) (text : List ℕ) (touches : Option (List Touch)) (old new : Option (List ℕ)) (why : Fault) → IsUsual replay → FailsAs remaining replay text touches [] old new why → IsUsualFault text why × LeavesUsually text old new why
+pub usual-fails : {F : Type 0} (remaining : F → Option (List ℕ)) (replay : Replay) (text : List ℕ) (touches : Option (List Touch)) (old new : Option (List ℕ)) (why : Fault) → IsUsual replay → FailsAs remaining replay text touches replay.byte_limit [] old new why → IsUsualFault text why × LeavesUsually text old new why
 usual-fails remaining replay text touches old new why usual fails = by_case why fails
   where
-    other : (why : Fault) → IsFoundFault replay text why × Keeps old new → IsUsualFault text why × Keeps old new
+    other : (why : Fault) → IsFoundFault replay text replay.byte_limit why × Keeps old new → IsUsualFault text why × Keeps old new
     other why (is, keeps) = (subst (λ (w : Fault). IsUsualFault text w) (sym is.says) (found_usually replay text is.found usual is.cause (is.alone usual.workers usual.part usual.analysis) is.lenient), keeps)
 
-    begun : (bytes : List ℕ) × IsOutput remaining replay text touches [] bytes × ((n : ℕ) × Appends old new (take n bytes)) → IsBegun None text usual_limit [] false old new
+    begun : (bytes : List ℕ) × IsOutput remaining replay text touches replay.byte_limit [] bytes × ((n : ℕ) × Appends old new (take n bytes)) → IsBegun None text usual_limit [] false old new
     begun (bytes, output, (n, appended)) =
         let left : IsAlone text output.found output.left bytes = alone remaining replay text bytes _ output usual in
         record { recording = left.recording; stop = left.stop; count = n; run = left.run; written = subst (λ (b : List ℕ). Appends old new (take n b)) left.bytes_are appended }
 
-    by_case : (why : Fault) → FailsAs remaining replay text touches [] old new why → IsUsualFault text why × LeavesUsually text old new why
+    by_case : (why : Fault) → FailsAs remaining replay text touches replay.byte_limit [] old new why → IsUsualFault text why × LeavesUsually text old new why
     by_case fault.Write fails = (tt, begun fails)
     by_case fault.WriteRules (some, rest) = no_file replay.write_rules usual.write_rules some
     by_case fault.Memory keeps = (tt, keeps)
@@ -213,32 +214,43 @@ for-text (Some text) f is = f text is
 
 -- before its notes or its fault are written
 pub usually : {F : Type 0} (touches others : Option (List Touch)) (remaining : F → Option (List ℕ)) (replay : Replay) (told old new : Option (List ℕ)) (read written : Bool) (rules : List Target) (result : Result Ended Cut) → IsUsual replay → rules ≡ []
-    → IfOk result (λ ended. IfSome told (λ text. EndsAs remaining replay text touches rules old new ended))
-    → IfErr result (λ cut. IfSome told (λ text. FailsAs remaining replay text others rules old new cut.fault))
+    → IfOk result (λ ended. IfSome told (λ text. EndsAs remaining replay text touches replay.byte_limit rules old new ended))
+    → IfErr result (λ cut. IfSome told (λ text. FailsAs remaining replay text others replay.byte_limit rules old new cut.fault))
     → IfOk result (IsEndOf replay) → IfErr result (λ cut. (cut.notes.items ≡ []) × (cut.damage ≡ None))
-    → IfOk result (λ ended. (read ≡ false) × (written ≡ false)) → IfErr result (λ cut. FailsFor read written cut.fault)
-    → IfSome told (λ text. EndsUsually text read written old new result)
-usually touches others remaining replay None old new read written rules result usual none ends fails end whole unfailed failed = tt
-usually touches others remaining replay (Some text) old new read written rules (Ok ended) usual none ends fails end whole unfailed failed =
-    all (usual-ends remaining replay text old new ended usual (subst (λ (r : List Target). EndsAs remaining replay text touches r old new ended) none ends))
+    → FailsCut read written result → IfSome told (λ text. EndsUsually text read written old new result)
+usually touches others remaining replay None old new read written rules result usual none ends fails end whole failed = tt
+usually touches others remaining replay (Some text) old new read written rules (Ok ended) usual none ends fails end whole failed =
+    all (usual-ends remaining replay text old new ended usual (subst (λ (r : List Target). EndsAs remaining replay text touches replay.byte_limit r old new ended) none ends))
   where
     all : ReplaysTo text old new ended.status × (IsEndingOf text ended.ending × (ended.unordered ≡ 0)) → EndsUsually text read written old new (Ok ended)
-    all (replays, (ending, count)) = (unfailed, (replays, (ending, (count, end.silent usual.unused_rules usual.max_races))))
-usually touches others remaining replay (Some text) old new read written rules (Err cut) usual none ends fails end whole unfailed failed =
-    all (usual-fails remaining replay text others old new cut.fault usual (subst (λ (r : List Target). FailsAs remaining replay text others r old new cut.fault) none fails))
+    all (replays, (ending, count)) = (failed, (replays, (ending, (count, end.silent usual.unused_rules usual.max_races))))
+usually touches others remaining replay (Some text) old new read written rules (Err cut) usual none ends fails end whole failed =
+    all (usual-fails remaining replay text others old new cut.fault usual (subst (λ (r : List Target). FailsAs remaining replay text others replay.byte_limit r old new cut.fault) none fails))
   where
     all : IsUsualFault text cut.fault × LeavesUsually text old new cut.fault → EndsUsually text read written old new (Err cut)
     all (cause, leaves) = (failed, (cause, (leaves, whole)))
 
--- without files of rules there are none
-pub without-rules : {F : Type 0} (touches : Option (List Touch)) (remaining : F → Option (List ℕ)) (replay : Replay) (told old new : Option (List ℕ)) (rules : List Target) (result : Result Ended Cut) → rules ≡ []
-    → IfErr result (λ cut. IfSome told (λ text. FailsAs remaining replay text touches rules old new cut.fault)) → IfErr result (λ cut. IfSome told (λ text. FailsAs remaining replay text touches [] old new cut.fault))
-without-rules touches remaining replay told old new rules result none fails =
-    subst (λ (r : List Target). IfErr result (λ cut. IfSome told (λ text. FailsAs remaining replay text touches r old new cut.fault))) none fails
+-- what is known of the standard input and of a file, under these rules
+pub under-rules : {F : Type 0} (remaining : F → Option (List ℕ)) (replay : Replay) (told : Option (List ℕ)) (touches : Option (List Touch)) (rules : List Target)
+    (Is : List Target → Ended → List ℕ → Option (List Touch) → ℕ → Type 0) (result : Result Ended Cut) → (replay.suppressions.items ≡ [] → rules ≡ [])
+    → (replay.trace.now ≡ codes "-" → IfOk result (λ ended. IfSome told (λ text. Is rules ended text touches replay.byte_limit)))
+    → (replay.trace.now ≢ codes "-" → IfOk result (λ ended. OfTraceFile remaining replay (Is rules ended)))
+    → IfOk result (λ ended. UnderRules replay (λ r. OfTrace remaining replay told touches (Is r ended)))
+under-rules remaining replay told touches rules Is (Ok ended) none input file = (rules, none, (input, file))
+under-rules remaining replay told touches rules Is (Err why) none input file = tt
 
 keeps_itself : (output : Option (List ℕ)) → Keeps output output
 keeps_itself None = tt
 keeps_itself (Some bytes) = refl
+
+-- a read failed before anything was replayed
+pub unread-fails : {F : Type 0} (remaining : F → Option (List ℕ)) (replay : Replay) (rules : List Target) (output : Option (List ℕ)) (file : F)
+    → OfTraceFile remaining replay (λ text touches limit. FailsAs remaining replay text touches limit rules output output fault.Read)
+unread-fails remaining replay rules output file = (file, by_case (remaining file))
+  where
+    by_case : (known : Option (List ℕ)) → IfSome known (λ bytes. (own : Bool) × FailsAs remaining replay (meant bytes) (touched_in replay bytes) (limit_of replay own) rules output output fault.Read)
+    by_case None = tt
+    by_case (Some bytes) = (false, (record { found = running.Read reading.Read; says = refl; cause = tt; lenient = λ _. tt; alone = λ _ _ _. tt }, keeps_itself output))
 
 -- what wrote nothing leaves the output so, whatever its fault is
 pub leaves_itself : (output : Option (List ℕ)) (why : Fault) → LeavesOutput output output why

@@ -1,15 +1,12 @@
 -- What is written of the pages and the counts of merged reports is the form of the report of the whole trace.
-use Rattle.std.proofs.Common.{◌≡◌, ◌∙◌, ℕ, Bool, true, false, List, Option, Some, None, IfSome, IsSomeAnd, Ok, is_some, inl, inr, map, refl, sym, ap, subst}
-use Rattle.er_batch.specs.Runs.{IsPartOf}
-use Rattle.er_journal.specs.declared.answers.Stopped.{Stopped}
+use Rattle.std.proofs.Common.{◌≡◌, ◌∙◌, ℕ, Bool, true, false, List, Option, Some, None, IfSome, IsSomeAnd, is_some, inl, inr, refl, sym, ap, subst}
 use Rattle.er_lines.specs.declared.ready.Touch.{Touch}
-use Rattle.er_merge.specs.Merging.{Merges}
-use Rattle.er_merge.specs.Traces.{AreTextsOfParts, Divided, whole_report}
+use Rattle.er_merge.specs.Traces.{Divided, whole_report}
 use Rattle.er_merge.specs.declared.merging.Merged.{Merged}
 use Rattle.er_merge.proofs.TracePages.{pages_make_report}
-use Rattle.er_parts.specs.Given.{counted_as, given_by, part_report}
+use Rattle.er_parts.specs.Given.{counted_as, part_report}
 use Rattle.er_parts.specs.Parts.{PartView, kept}
-use Rattle.er_report.specs.Report.{Summary, report_of, told}
+use Rattle.er_report.specs.Report.{told}
 use Rattle.er_report.specs.Reports.{asks_locks}
 use Rattle.er_report.specs.declared.report.Report.{Report}
 use Rattle.er_report.specs.declared.reports.Analysis.{Analysis}
@@ -19,7 +16,6 @@ use Rattle.er_request.specs.declared.request.Replay.{Replay}
 use Rattle.er_rules.specs.Rules.{Target, ask_facts}
 use Rattle.er_run.specs.Reports.{AreReportsOfText, IsReportOfRun, report_with}
 use Rattle.er_text.specs.Ending.{lost_told}
-use Rattle.er_text.specs.Trace.{IsTrace}
 use Rattle.er_text.proofs.TextLaws.{same_trace}
 use Rattle.er_trace.specs.Trace.{Recording}
 use Rattle.eraser.specs.Merging.{IsMergedReplay}
@@ -39,18 +35,18 @@ lacks_none : (replay : Replay) (rules : List Target) (raced lacking : Reports) �
 lacks_none replay rules raced lacking none (inl same) = same
 lacks_none replay rules raced lacking none (inr (asks, again, left)) = absurd (let clash : true ≡ false = sym asks ∙ none in cc)
 
-module _ {F : Type 0} (remaining : F → Option (List ℕ)) (d : Divided) (replay : Replay) (touches : Option (List Touch)) (bytes : List ℕ) (merges : IsMergedReplay d replay) (output : IsOutput remaining replay d.text touches d.rules bytes) where
+module _ {F : Type 0} (remaining : F → Option (List ℕ)) (d : Divided) (limit : ℕ) (replay : Replay) (touches : Option (List Touch)) (bytes : List ℕ) (merges : IsMergedReplay d limit replay) (output : IsOutput remaining replay d.text touches limit d.rules bytes) where
   made : Merged
   made = merges.made
 
-  reports : AreReportsOfText (Some made.pages) Lockset d.text touches replay.byte_limit d.rules replay.explain output.names output.raced
+  reports : AreReportsOfText (Some made.pages) Lockset d.text touches limit d.rules replay.explain output.names output.raced
   unfolding made
   reports =
-      subst (λ (part : Option PartView). AreReportsOfText part Lockset d.text touches replay.byte_limit d.rules replay.explain output.names output.raced) merges.part
-      (subst (λ (a : Analysis). AreReportsOfText replay.part a d.text touches replay.byte_limit d.rules replay.explain output.names output.raced) merges.analysis output.reports)
+      subst (λ (part : Option PartView). AreReportsOfText part Lockset d.text touches limit d.rules replay.explain output.names output.raced) merges.part
+      (subst (λ (a : Analysis). AreReportsOfText replay.part a d.text touches limit d.rules replay.explain output.names output.raced) merges.analysis output.reports)
 
   recorded : reports.recording ≡ kept (Some made.pages) d.trace
-  recorded = reports.trace.kept ∙ ap (kept (Some made.pages)) (same_trace d.text replay.byte_limit reports.trace.whole d.trace reports.trace.trace merges.trace)
+  recorded = reports.trace.kept ∙ ap (kept (Some made.pages)) (same_trace d.text limit reports.trace.whole d.trace reports.trace.trace merges.trace)
 
   raced_is : (report : Report) → IsReportOfRun (Some made.pages) true (lost_told d.text) reports.recording d.rules replay.explain report
       → told report ≡ record (part_report (Some made.pages) d.trace d.rules replay.explain) { lost = lost_told d.text }

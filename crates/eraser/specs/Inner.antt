@@ -1,2 +1,3 @@
 -- What the parts of a replay leave. No public clause cites it.
+pub mod Opened
 pub mod Writes

@@ -1,4 +1,5 @@
 pub mod Faults
+pub mod Files
 pub mod Inner
 pub mod Merging
 pub mod Notes

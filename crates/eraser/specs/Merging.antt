@@ -21,13 +21,21 @@ WritesMerged texts old new (Ok status) =
 WritesMerged texts old new (Err (Merging fault)) = Merges texts (Err fault)
 WritesMerged texts old new (Err fault) = Unit {0}
 
+-- nothing that was asked for has changed but the part of the trace, and what its report counts
+abbrev pub Stays : Replay → Replay → Type 0
+Stays old new =
+    (new.suppressions ≡ old.suppressions) × (new.write_rules ≡ old.write_rules) × (new.unused_rules ≡ old.unused_rules) × (new.max_races ≡ old.max_races)
+    × (new.trace ≡ old.trace) × (new.reports ≡ old.reports) × (new.analysis ≡ old.analysis) × (new.form ≡ old.form) × (new.source ≡ old.source)
+    × (new.explain ≡ old.explain) × (new.strict ≡ old.strict) × (new.until_fault ≡ old.until_fault) × (new.progress ≡ old.progress) × (new.hints ≡ old.hints)
+    × (new.shards ≡ old.shards) × (new.workers ≡ old.workers) × (new.byte_limit ≡ old.byte_limit) × (new.binary_limit ≡ old.binary_limit)
+
 -- some texts make one report, the pages of its lines are replayed, and these are its counts. That these are the texts of the reports' files isn't shown
 abbrev pub IsMergedFor : Replay → Type 0
 IsMergedFor replay =
     (texts : List (List ℕ)) × (merged : Merged) × Merges texts (Ok merged) × (replay.part ≡ Some merged.pages) × (replay.counts ≡ Some merged.counts)
 
 -- the replay has the pages and the counts of the merged texts of all parts of this trace, under rules that ask for nothing that the trace says of the program
-pub record IsMergedReplay (d : Divided) (replay : Replay) : Type 0 where
+pub record IsMergedReplay (d : Divided) (limit : ℕ) (replay : Replay) : Type 0 where
   pub parts : List ℕ
   pub about : ℕ → List ℕ
   pub texts : ℕ → List ℕ
@@ -37,10 +45,10 @@ pub record IsMergedReplay (d : Divided) (replay : Replay) : Type 0 where
   pub part : replay.part ≡ Some made.pages
   pub counts : replay.counts ≡ Some made.counts
   pub analysis : replay.analysis ≡ Lockset
-  pub trace : IsTrace d.text replay.byte_limit d.trace
+  pub trace : IsTrace d.text limit d.trace
   pub no_facts : ask_facts d.rules ≡ false
 
 -- what such a replay writes is the form of a report that says what the report of the whole trace says
 abbrev pub MergedIsWhole : {F : Type 0} → (F → Option (List ℕ)) → Type 0
-MergedIsWhole remaining = (d : Divided) (replay : Replay) (touches : Option (List Touch)) (bytes : List ℕ) → IsMergedReplay d replay
-    → (output : IsOutput remaining replay d.text touches d.rules bytes) → IsSomeAnd output.found.lockset (λ report. told report ≡ whole_report (record d { explain = replay.explain }))
+MergedIsWhole remaining = (d : Divided) (limit : ℕ) (replay : Replay) (touches : Option (List Touch)) (bytes : List ℕ) → IsMergedReplay d limit replay
+    → (output : IsOutput remaining replay d.text touches limit d.rules bytes) → IsSomeAnd output.found.lockset (λ report. told report ≡ whole_report (record d { explain = replay.explain }))

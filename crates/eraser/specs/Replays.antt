@@ -5,7 +5,7 @@ use Rattle.std.specs.Str.{bytes_eq}
 use Rattle.er_batch.specs.declared.options.Options.{Options}
 use Rattle.er_batch.specs.declared.verdict.Verdict.{Verdict}
 use Rattle.er_batch.specs.declared.verdict.Verdict.TheVariants.{Clean, Races, Stopped}
-use Rattle.er_binary.specs.Meaning.{meant}
+use Rattle.er_binary.specs.Meaning.{meant, touches as touches_said}
 use Rattle.er_exit.specs.Lines.{fault_line}
 use Rattle.er_exit.specs.Parts.{IsHeading}
 use Rattle.er_exit.specs.Statuses.{fault_status}
@@ -40,6 +40,7 @@ use Rattle.er_triage.specs.First.{KeepFirst}
 use Rattle.er_triage.specs.Known.{lines_of}
 use Rattle.er_triage.specs.Notes.{AreNotes, notes_text}
 use Rattle.eraser.specs.Faults.{replay_fault}
+use Rattle.eraser.specs.Files.{OfFile}
 use Rattle.eraser.specs.Notes.{AddsNotesOn}
 use Rattle.eraser.specs.declared.replaying.Ended.{Ended}
 use Rattle.eraser.specs.declared.until.Cut.{Cut}
@@ -77,6 +78,7 @@ IsCounted counts old new =
     (new.rule_counts.items ≡ counts.rule_counts.items)
     × (new ≡ record old { rule_counts = new.rule_counts; steps = counts.steps; suppressed = counts.suppressed })
 
+-- so it is of a report that may not be there
 abbrev pub IsCountedIf : Report → Option Report → Option Report → Type 0
 IsCountedIf counts None new = new ≡ None
 IsCountedIf counts (Some old) new = IsSomeAnd new (IsCounted counts old)
@@ -98,20 +100,19 @@ headed_part replay = cond (is_some replay.counts) None replay.part
 abbrev pub HasNoPlace : PlaceTable → Type 0
 HasNoPlace table = (line : ℕ) → place_at table line ≡ None
 
--- they are those of the accesses that the reports' reasons name, as the definitions give them of the text that a file means
+-- they are those of the accesses that the reports' reasons name, as the definitions give them of the text that some file means
 abbrev pub ArePlacesIn : {F : Type 0} → (F → Option (List ℕ)) → ℕ → Reports → PlaceTable → Type 0
-ArePlacesIn {F = F} remaining limit reports table = (file : F) × IfSome (remaining file) (λ bytes. ArePlaces (are_asked reports) (meant bytes) limit table)
+ArePlacesIn remaining limit reports table = OfFile remaining (λ bytes. ArePlaces (are_asked reports) (meant bytes) limit table)
 
--- so it is, if places are shown; or none is known. Of the standard input none is. Of a real file this shows nothing but that the places, if there are some,
--- are those of what some file means: not that the trace was read again, nor that it was this file
-abbrev pub MayHavePlaces : {F : Type 0} → (F → Option (List ℕ)) → Replay → Reports → PlaceTable → Type 0
-MayHavePlaces remaining replay reports table = HasNoPlace table ⊎ ((shows_places replay ≡ true) × ArePlacesIn remaining replay.byte_limit reports table)
+-- so it is, if places are shown; or none is known. Of the standard input none is. This doesn't show that the trace was read again
+abbrev pub MayHavePlaces : {F : Type 0} → (F → Option (List ℕ)) → Replay → ℕ → Reports → PlaceTable → Type 0
+MayHavePlaces remaining replay limit reports table = HasNoPlace table ⊎ ((shows_places replay ≡ true) × ArePlacesIn remaining limit reports table)
 
 -- these bytes are the form of these reports that is asked for, behind its heading, under these names and rules, with lines of source files only if a folder is given
-pub record AreShown {F : Type 0} (remaining : F → Option (List ℕ)) (replay : Replay) (names : NameTable) (rules : List Target) (reports : Reports) (bytes : List ℕ) : Type 0 where
+pub record AreShown {F : Type 0} (remaining : F → Option (List ℕ)) (replay : Replay) (limit : ℕ) (names : NameTable) (rules : List Target) (reports : Reports) (bytes : List ℕ) : Type 0 where
   pub table : PlaceTable
   pub excerpts : List Excerpt
-  pub places : MayHavePlaces remaining replay reports table
+  pub places : MayHavePlaces remaining replay limit reports table
   pub sources : replay.source ≡ None → excerpts ≡ []
   pub heading : List ℕ
   pub body : List ℕ
@@ -119,19 +120,18 @@ pub record AreShown {F : Type 0} (remaining : F → Option (List ℕ)) (replay :
   pub form : IsForm replay.form names table rules excerpts reports body
   pub says : bytes ≡ heading ++ body
 
--- the text is a trace, and these bytes are the form of its reports, or of those of the part that is replayed, by the analysis that is asked for, by what its accesses touch, if that is known,
--- under these rules, also those by what the trace says of the program, and with the lines of the first races alone if their number is limited
-pub record IsOutput {F : Type 0} (remaining : F → Option (List ℕ)) (replay : Replay) (text : List ℕ) (touches : Option (List Touch)) (rules : List Target) (bytes : List ℕ) : Type 0 where
+-- these bytes are the form that is asked for of the reports of the text's trace, or of a part of it, which has at most so many bytes, under these rules, and with the lines of the first races alone if their number is limited
+pub record IsOutput {F : Type 0} (remaining : F → Option (List ℕ)) (replay : Replay) (text : List ℕ) (touches : Option (List Touch)) (limit : ℕ) (rules : List Target) (bytes : List ℕ) : Type 0 where
   pub names : NameTable
   pub raced : Reports
   pub found : Reports
   pub left : Reports
-  pub reports : AreReportsOfText replay.part replay.analysis text touches replay.byte_limit rules replay.explain names raced
+  pub reports : AreReportsOfText replay.part replay.analysis text touches limit rules replay.explain names raced
   pub facts : MayLack replay rules raced found
   pub locks : is_some found.lockset ≡ asks_locks replay.analysis
   pub order : is_some found.unordered ≡ asks_order replay.analysis
   pub first : KeepFirst replay.max_races found left
-  pub shown : AreShown remaining replay names rules left bytes
+  pub shown : AreShown remaining replay limit names rules left bytes
 
 -- how many accesses and reuses a report by happens-before has
 abbrev pub races_in : Option Report → ℕ
@@ -143,17 +143,16 @@ abbrev pub unordered_of : Bool → Reports → ℕ
 unordered_of has_order reports = cond has_order 0 (races_in reports.unordered)
 
 -- what a replay leaves that ends so: the whole output, the status of its verdict, and what is noted
-pub record EndsAs {F : Type 0} (remaining : F → Option (List ℕ)) (replay : Replay) (text : List ℕ) (touches : Option (List Touch)) (rules : List Target) (old new : Option (List ℕ)) (ended : Ended) : Type 0 where
+pub record EndsAs {F : Type 0} (remaining : F → Option (List ℕ)) (replay : Replay) (text : List ℕ) (touches : Option (List Touch)) (limit : ℕ) (rules : List Target) (old new : Option (List ℕ)) (ended : Ended) : Type 0 where
   pub bytes : List ℕ
-  pub output : IsOutput remaining replay text touches rules bytes
+  pub output : IsOutput remaining replay text touches limit rules bytes
   pub written : Appends old new bytes
   pub status : ended.status ≡ verdict_status (is_verdict_of output.left)
   pub ending : IsEndingOf text ended.ending
-  pub order : (has_order : Bool) × (IsOrderOfText replay.part replay.analysis text replay.byte_limit has_order × (ended.unordered ≡ unordered_of has_order output.found))
+  pub order : (has_order : Bool) × (IsOrderOfText replay.part replay.analysis text limit has_order × (ended.unordered ≡ unordered_of has_order output.found))
   pub notes : ended.notes.items ≡ notes_text replay.unused_rules output.found rules (length (lines_of output.found) - length (lines_of output.left))
 
--- how each replay ends that has no fault, whatever its text is: its notes are those of some reports, and there are none if none were asked for; by locks
--- alone nothing is counted as unordered
+-- how each replay ends that has no fault: its notes are those of some reports, and there are none if none were asked for; by locks alone nothing is counted as unordered
 pub record IsEndOf (replay : Replay) (ended : Ended) : Type 0 where
   pub status : (ended.status ≤ 4) × (ended.status ≢ 2)
   pub notes : AreNotes ended.notes.items
@@ -161,21 +160,20 @@ pub record IsEndOf (replay : Replay) (ended : Ended) : Type 0 where
   pub locks : asks_order replay.analysis ≡ false → ended.unordered ≡ 0
 
 -- the fault of a replay, before a byte is written
-pub record IsFoundFault (replay : Replay) (text : List ℕ) (why : Fault) : Type 0 where
+pub record IsFoundFault (replay : Replay) (text : List ℕ) (limit : ℕ) (why : Fault) : Type 0 where
   pub found : RunFault
   pub says : why ≡ replay_fault found
-  pub cause : IsFaultOfText replay.part replay.analysis (Some text) replay.byte_limit found
+  pub cause : IsFaultOfText replay.part replay.analysis (Some text) limit found
   pub lenient : IsFalse replay.strict → IsNoDamage found
   pub alone : replay.workers ≡ 1 → replay.part ≡ None → replay.analysis ≡ Lockset → IsOfReading found
 
--- why a replay has not all that was asked for, and what it leaves: a beginning of the output if a write failed, all of it if only the file of rules
--- is missing, and else nothing. A part of the standard input can't be replayed
-abbrev pub FailsAs : {F : Type 0} → (F → Option (List ℕ)) → Replay → List ℕ → Option (List Touch) → List Target → Option (List ℕ) → Option (List ℕ) → Fault → Type 0
-FailsAs remaining replay text touches rules old new fault.Write = (bytes : List ℕ) × IsOutput remaining replay text touches rules bytes × ((n : ℕ) × Appends old new (take n bytes))
-FailsAs remaining replay text touches rules old new fault.WriteRules = IsSome replay.write_rules × ((bytes : List ℕ) × IsOutput remaining replay text touches rules bytes × Appends old new bytes)
-FailsAs remaining replay text touches rules old new fault.Memory = Keeps old new
-FailsAs remaining replay text touches rules old new fault.NoFile = IsSome (headed_part replay) × Keeps old new
-FailsAs remaining replay text touches rules old new other = IsFoundFault replay text other × Keeps old new
+-- why a replay has a fault, and what it leaves: a beginning of the output if a write failed, all of it if only the file of rules is missing, and else nothing; a part of the standard input can't be replayed
+abbrev pub FailsAs : {F : Type 0} → (F → Option (List ℕ)) → Replay → List ℕ → Option (List Touch) → ℕ → List Target → Option (List ℕ) → Option (List ℕ) → Fault → Type 0
+FailsAs remaining replay text touches limit rules old new fault.Write = (bytes : List ℕ) × IsOutput remaining replay text touches limit rules bytes × ((n : ℕ) × Appends old new (take n bytes))
+FailsAs remaining replay text touches limit rules old new fault.WriteRules = IsSome replay.write_rules × ((bytes : List ℕ) × IsOutput remaining replay text touches limit rules bytes × Appends old new bytes)
+FailsAs remaining replay text touches limit rules old new fault.Memory = Keeps old new
+FailsAs remaining replay text touches limit rules old new fault.NoFile = IsSome (headed_part replay) × Keeps old new
+FailsAs remaining replay text touches limit rules old new other = IsFoundFault replay text limit other × Keeps old new
 
 -- the reader has failed exactly if this is a failed read, and the output exactly if it is a failed write
 abbrev pub FailsFor : Bool → Bool → Fault → Type 0
@@ -188,9 +186,13 @@ abbrev pub FailsBy : {X : Type 0} → Bool → Bool → Result X Fault → Type 
 FailsBy read written (Ok x) = (read ≡ false) × (written ≡ false)
 FailsBy read written (Err why) = FailsFor read written why
 
--- by these options a replay is run as it is asked for
+-- the same of a replay that was cut off
+abbrev pub FailsCut : {X : Type 0} → Bool → Bool → Result X Cut → Type 0
+FailsCut read written (Ok x) = (read ≡ false) × (written ≡ false)
+FailsCut read written (Err cut) = FailsFor read written cut.fault
+
+-- but for its limit of bytes a replay is run by these options as it is asked for
 pub record AreOptionsOf (replay : Replay) (options : Options) : Type 0 where
-  pub bytes : options.byte_limit ≡ replay.byte_limit
   pub explain : options.explain ≡ replay.explain
   pub strict : options.strict ≡ replay.strict
   pub workers : options.workers ≡ replay.workers
@@ -200,6 +202,27 @@ pub record AreOptionsOf (replay : Replay) (options : Options) : Type 0 where
 pub record IsRunAs (replay : Replay) (options : Options) (heading : List ℕ) : Type 0 where
   pub run : AreOptionsOf replay options
   pub headed : IsHeading (headed_part replay) replay.explain heading
+
+-- how many bytes the text may have: as many as is asked for, or for a binary trace that is given by its path as many as it has of its own
+abbrev pub limit_of : Replay → Bool → ℕ
+limit_of replay has_own = cond has_own replay.binary_limit replay.byte_limit
+
+-- what the accesses touch of a trace that has these bytes, if their order is asked for: else each counts as touching its whole word
+abbrev pub touched_in : Replay → List ℕ → Option (List Touch)
+touched_in replay bytes = Some (cond (asks_order replay.analysis) (touches_said bytes) [])
+
+-- so it is of the text that some file means, of what its accesses touch, and of its limit. That it has its own only if it is binary isn't shown
+abbrev pub OfTraceFile : {F : Type 0} → (F → Option (List ℕ)) → Replay → (List ℕ → Option (List Touch) → ℕ → Type 0) → Type 0
+OfTraceFile remaining replay Is = OfFile remaining (λ bytes. (has_own : Bool) × Is (meant bytes) (touched_in replay bytes) (limit_of replay has_own))
+
+-- so it is of the standard input, whose text and touches these are, if it is what the path of the trace names, and else of some file
+abbrev pub OfTrace : {F : Type 0} → (F → Option (List ℕ)) → Replay → Option (List ℕ) → Option (List Touch) → (List ℕ → Option (List Touch) → ℕ → Type 0) → Type 0
+OfTrace remaining replay told touches Is =
+    (replay.trace.now ≡ codes "-" → IfSome told (λ text. Is text touches replay.byte_limit)) × (replay.trace.now ≢ codes "-" → OfTraceFile remaining replay Is)
+
+-- so it is under some rules: under none, if no file of rules is named. Of what such files say this shows nothing
+abbrev pub UnderRules : Replay → (List Target → Type 0) → Type 0
+UnderRules replay Is = (rules : List Target) × (replay.suppressions.items ≡ [] → rules ≡ []) × Is rules
 
 -- A replay of the standard input with no option
 
@@ -229,8 +252,7 @@ EndsUsually text read written old new (Err cut) = FailsFor read written cut.faul
 abbrev pub GetsNotesOn : Bool → List ℕ → Option (List ℕ) → Option (List ℕ) → Bool → Type 0
 GetsNotesOn people text old new failed = (ending : Ending) × IsEndingOf text ending × AddsNotesOn people ending 0 [] old new failed
 
--- it has reported: the output got the whole report and the errors the notes on the text; the status says whether the report has a race (1), or stops for
--- want of room as it says itself (3); neither the input nor the output has failed
+-- the output got the whole report and the errors the notes on the text; the status says whether the report has a race (1) or stops for want of room (3); neither the input nor the output has failed
 pub record HasReported (people : Bool) (text : List ℕ) (read written : Bool) (old new : Option (List ℕ)) (errors_old errors_new : Option (List ℕ)) (failed : Bool) (status : ℕ) : Type 0 where
   pub unfailed : (read ≡ false) × (written ≡ false)
   pub report : ReplaysTo text old new status

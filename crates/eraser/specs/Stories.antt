@@ -31,6 +31,11 @@ IsExplainFault text limit line Memory = Unit {0}
 IsExplainFault text limit line Read = Unit {0}
 IsExplainFault text limit line fault = (r : Recording) × IsTrace text limit r × IsStoryFault r line fault
 
+-- the story was written, or there is a fault, and why
+abbrev pub EndsStory : {X : Type 0} → List ℕ → ℕ → ℕ → Option (List ℕ) → Option (List ℕ) → Result X Fault → Type 0
+EndsStory text limit line old new (Ok x) = ExplainsTo text limit line old new
+EndsStory text limit line old new (Err why) = IsExplainFault text limit line why
+
 -- the fault is a failed write exactly if the output has failed
 abbrev pub FailsOutput : {X : Type 0} → Bool → Result X Fault → Type 0
 FailsOutput failed (Ok x) = failed ≡ false

@@ -1,19 +1,19 @@
 //! One command line, run over a reader and its writers.
-ghost use Rattle.std.specs.Prelude.{◌≡◌, ◌≤◌, ◌^◌, ◌||◌, ℕ, Bool, List, Option, [], false, true, codes, IfOk, IfErr, IfSome, IsOk};
+ghost use Rattle.std.specs.Prelude.{◌≡◌, ◌≢◌, ◌≤◌, ◌^◌, ◌⊎◌, ◌||◌, ℕ, Bool, List, None, Option, [], false, true, codes, IfOk, IfErr, IfSome, IsOk, MatchResult};
 ghost use Rattle.std.specs.Io.KnownBytes.{Keeps};
 ghost use Rattle.er_binary.specs.Decoded.{IsFresh, source_of};
 ghost use Rattle.er_binary.specs.Meaning.{meant};
 ghost use Rattle.er_device.specs.Device.{inner_of, has_failed};
+ghost use Rattle.er_exit.specs.declared.faults.Fault.TheVariants.{OpenTrace};
 ghost use Rattle.er_exit.specs.Lines.{fault_line};
 ghost use Rattle.er_exit.specs.Statuses.{fault_status};
 ghost use Rattle.er_exit.specs.Writes.{GetsLine, LeavesOutput};
 ghost use Rattle.er_request.specs.Words.{IsUsual, names_hints, names_progress, names_until_fault, prints_input, replays_input};
 ghost use Rattle.er_rules.specs.Rules.{targets_of};
-ghost use Rattle.er_text.specs.Ending.{IsEndingOf};
 ghost use Rattle.er_triage.specs.Notes.{AreNotes};
 ghost use Rattle.eraser.specs.Notes.{AddsNotesOn, GetsNotes, GetsTextNotes};
 ghost use Rattle.eraser.specs.Printing.{PrintsTo};
-ghost use Rattle.eraser.specs.Replays.{AreOptionsOf, ComesTo, EndsAs, EndsUsually, FailsAs, IsEndOf, headed_part};
+ghost use Rattle.eraser.specs.Replays.{AreOptionsOf, ComesTo, EndsAs, EndsUsually, FailsAs, IsEndOf, OfTrace, OfTraceFile, UnderRules, headed_part, limit_of};
 
 use crate::merging::{merge_files, merge_for};
 use crate::meter::Meter;
@@ -86,15 +86,8 @@ where
     match read_request(rt.alloc(), words, on_terminal) {
         Ok(Request::Replay(mut asked)) => {
             prepare(input, asked.analysis.asks_order(), asked.until_fault);
-            let replayed = run_asked(
-                rt,
-                &mut asked,
-                input,
-                &Directly,
-                output,
-                progress,
-                on_terminal,
-            );
+            let ready = &Directly;
+            let replayed = run_asked(rt, &mut asked, input, ready, output, progress, on_terminal);
             let status = end_replay(rt, &asked, replayed, errors);
             drop(asked);
             status
@@ -142,6 +135,7 @@ where
     requires output { has_failed output.old ≡ false }
     ensures same { (replay.new.hints ≡ replay.old.hints) × (replay.new.until_fault ≡ replay.old.until_fault) }
     ensures end { IfOk result (IsEndOf replay.new) }
+    ensures ends { IfOk result (λ ended. UnderRules replay.new (λ rules. OfTrace R.File.remaining replay.new (I.remaining (inner_of input.old)) (S.touches (inner_of input.old)) (λ text touches limit. EndsAs R.File.remaining replay.new text touches limit rules (O.contents (inner_of output.old)) (O.contents (inner_of output.new)) ended))) }
     ensures usual { IsUsual replay.old → IfSome (I.remaining (inner_of input.old)) (λ text. EndsUsually text (has_failed input.new) (has_failed output.new) (O.contents (inner_of output.old)) (O.contents (inner_of output.new)) result) }
     ensures nothing { replay.old.until_fault ≡ false → IfErr result (λ cut. LeavesOutput (O.contents (inner_of output.old)) (O.contents (inner_of output.new)) cut.fault) }
     ensures unwatched { replay.old.progress ≡ false → Keeps (P.contents (inner_of progress.old)) (P.contents (inner_of progress.new)) }
@@ -172,13 +166,13 @@ where
     requires output { has_failed output.old ≡ false }
     ensures end { IfOk result (IsEndOf replay.now) }
     ensures usual { IsUsual replay.now → IfSome (I.remaining (inner_of input.old)) (λ text. EndsUsually text (has_failed input.new) (has_failed output.new) (O.contents (inner_of output.old)) (O.contents (inner_of output.new)) result) }
-    ensures text { replay.now.trace.now ≡ codes "-" → IfOk result (λ ended. IfSome (I.remaining (inner_of input.old)) (λ text. IsEndingOf text ended.ending)) }
-    ensures ends { replay.now.trace.now ≡ codes "-" → replay.now.suppressions.items ≡ [] → IfOk result (λ ended. IfSome (I.remaining (inner_of input.old)) (λ text. EndsAs R.File.remaining replay.now text (S.touches (inner_of input.old)) [] (O.contents (inner_of output.old)) (O.contents (inner_of output.new)) ended)) }
-    ensures fails { replay.now.trace.now ≡ codes "-" → replay.now.suppressions.items ≡ [] → replay.now.until_fault ≡ false → IfErr result (λ cut. IfSome (I.remaining (inner_of input.old)) (λ text. FailsAs R.File.remaining replay.now text (S.touches (inner_of input.old)) [] (O.contents (inner_of output.old)) (O.contents (inner_of output.new)) cut.fault)) }
+    ensures ends { IfOk result (λ ended. UnderRules replay.now (λ rules. OfTrace R.File.remaining replay.now (I.remaining (inner_of input.old)) (S.touches (inner_of input.old)) (λ text touches limit. EndsAs R.File.remaining replay.now text touches limit rules (O.contents (inner_of output.old)) (O.contents (inner_of output.new)) ended))) }
+    ensures fails { replay.now.trace.now ≡ codes "-" → replay.now.suppressions.items ≡ [] → replay.now.until_fault ≡ false → IfErr result (λ cut. IfSome (I.remaining (inner_of input.old)) (λ text. FailsAs R.File.remaining replay.now text (S.touches (inner_of input.old)) replay.now.byte_limit [] (O.contents (inner_of output.old)) (O.contents (inner_of output.new)) cut.fault)) }
+    ensures file_fails { replay.now.trace.now ≢ codes "-" → replay.now.suppressions.items ≡ [] → headed_part replay.now ≡ None → replay.now.until_fault ≡ false → IfErr result (λ cut. ((cut.fault ≡ OpenTrace) × Keeps (O.contents (inner_of output.old)) (O.contents (inner_of output.new))) ⊎ OfTraceFile R.File.remaining replay.now (λ text touches limit. FailsAs R.File.remaining replay.now text touches limit [] (O.contents (inner_of output.old)) (O.contents (inner_of output.new)) cut.fault)) }
     ensures nothing { replay.now.until_fault ≡ false → IfErr result (λ cut. LeavesOutput (O.contents (inner_of output.old)) (O.contents (inner_of output.new)) cut.fault) }
     ensures unwatched { replay.now.progress ≡ false → Keeps (P.contents (inner_of progress.old)) (P.contents (inner_of progress.new)) }
 {
-    let options = options_of(replay, keys_from(rt));
+    let options = options_of(replay, false, keys_from(rt));
     let suppressions = match rules_of(rt, &replay.suppressions, options.byte_limit) {
         Ok(suppressions) => suppressions,
         Err(fault) => return Err(cut_by(rt.alloc(), fault)),
@@ -253,7 +247,8 @@ fn end_replay<R: Files + AllocGlobal, E: Write>(
     errors: &mut Device<E>,
 ) -> u8
     requires end { IfOk replayed (IsEndOf replay.now) }
-    ensures status { result ≤ 4 }
+    ensures status { MatchResult replayed (λ ended. result ≡ ended.status) (λ cut. result ≡ fault_status cut.fault) }
+    ensures range { result ≤ 4 }
     ensures usual { (text : List ℕ) (read written : Bool) (old new : Option (List ℕ)) → EndsUsually text read written old new replayed → ComesTo replay.now.hints text read written old new (E.contents (inner_of errors.old)) (E.contents (inner_of errors.new)) (has_failed errors.new) result }
     ensures quiet { result ≤ 1 → GetsNotes replay.now.hints (E.contents (inner_of errors.old)) (E.contents (inner_of errors.new)) (has_failed errors.new) }
     ensures silent { IfOk replayed (λ ended. ended.notes.items ≡ []) → result ≤ 1 → GetsTextNotes replay.now.hints (E.contents (inner_of errors.old)) (E.contents (inner_of errors.new)) (has_failed errors.new) }
@@ -302,14 +297,17 @@ pub(crate) fn keys_from<R: RandomSource>(rt: &R) -> NameKeys {
     NameKeys::random(rt).unwrap_or(NameKeys::KNOWN)
 }
 
-/// How the trace is to be replayed.
-pub(crate) fn options_of(replay: &Replay<'_>, keys: NameKeys) -> Options
-    ensures { AreOptionsOf replay.now result }
+/// How the trace is to be replayed. A binary one that is given by its path says its text in far fewer bytes, so it has no limit that nobody asked for.
+pub(crate) fn options_of(replay: &Replay<'_>, has_own_limit: bool, keys: NameKeys) -> Options
+    ensures run { AreOptionsOf replay.now result }
+    ensures limit { result.byte_limit ≡ limit_of replay.now has_own_limit }
 {
+    let (usual, own) = (replay.byte_limit, replay.binary_limit);
+    let byte_limit = if has_own_limit { own } else { usual };
     let options = Options::usual().with_explain(replay.explain);
     let options = options.with_strict(replay.strict).with_part(replay.part);
     let options = options.with_keys(keys);
-    let options = options.with_byte_limit(replay.byte_limit).unwrap();
+    let options = options.with_byte_limit(byte_limit).unwrap();
     options.with_workers(replay.shards, replay.workers).unwrap()
 }
 

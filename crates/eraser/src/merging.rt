@@ -3,7 +3,7 @@ ghost use Rattle.std.specs.Prelude.{◌≡◌, ◌≤◌, ◌⊎◌, ℕ, List, 
 ghost use Rattle.er_device.specs.Device.{inner_of, has_failed};
 ghost use Rattle.er_exit.specs.Writes.{LeavesOutput};
 ghost use Rattle.er_merge.specs.Merging.{Merges};
-ghost use Rattle.eraser.specs.Merging.{IsMergedFor, MergedIsWhole, WritesMerged};
+ghost use Rattle.eraser.specs.Merging.{IsMergedFor, MergedIsWhole, Stays, WritesMerged};
 ghost use Rattle.eraser.specs.Stories.{FailsOutput};
 
 use crate::traces::print_text;
@@ -72,9 +72,7 @@ pub(crate) fn merge_for<R: Files + AllocGlobal>(
     replay: &mut Replay<'_>,
 ) -> Result<(), Fault>
     ensures none { replay.old.reports.items ≡ [] → IsOk result × (replay.new ≡ replay.old) }
-    ensures same { (replay.new.hints ≡ replay.old.hints) × (replay.new.until_fault ≡ replay.old.until_fault) × (replay.new.progress ≡ replay.old.progress) }
-    ensures asked { (replay.new.trace ≡ replay.old.trace) × (replay.new.suppressions ≡ replay.old.suppressions) × (replay.new.analysis ≡ replay.old.analysis) × (replay.new.form ≡ replay.old.form) × (replay.new.explain ≡ replay.old.explain) × (replay.new.byte_limit ≡ replay.old.byte_limit) }
-    ensures rest { (replay.new.reports ≡ replay.old.reports) × (replay.new.write_rules ≡ replay.old.write_rules) × (replay.new.unused_rules ≡ replay.old.unused_rules) × (replay.new.max_races ≡ replay.old.max_races) × (replay.new.source ≡ replay.old.source) × (replay.new.strict ≡ replay.old.strict) × (replay.new.shards ≡ replay.old.shards) × (replay.new.workers ≡ replay.old.workers) × (replay.new.binary_limit ≡ replay.old.binary_limit) }
+    ensures same { Stays replay.old replay.new }
     ensures merged { IfOk result (λ done. (replay.old.reports.items ≡ []) ⊎ IsMergedFor replay.new) }
     ensures nothing { IfErr result (λ why. (output : Option (List ℕ)) → LeavesOutput output output why) }
 {
@@ -97,9 +95,7 @@ pub(crate) fn merged_pages_report_the_whole<R: Files>()
 
 // Has the replay keep the pages of the merged lines, and count what the reports count together.
 fn take_merged(replay: &mut Replay<'_>, merged: Merged)
-    ensures same { (replay.new.hints ≡ replay.old.hints) × (replay.new.until_fault ≡ replay.old.until_fault) × (replay.new.progress ≡ replay.old.progress) }
-    ensures asked { (replay.new.trace ≡ replay.old.trace) × (replay.new.suppressions ≡ replay.old.suppressions) × (replay.new.analysis ≡ replay.old.analysis) × (replay.new.form ≡ replay.old.form) × (replay.new.explain ≡ replay.old.explain) × (replay.new.byte_limit ≡ replay.old.byte_limit) }
-    ensures rest { (replay.new.reports ≡ replay.old.reports) × (replay.new.write_rules ≡ replay.old.write_rules) × (replay.new.unused_rules ≡ replay.old.unused_rules) × (replay.new.max_races ≡ replay.old.max_races) × (replay.new.source ≡ replay.old.source) × (replay.new.strict ≡ replay.old.strict) × (replay.new.shards ≡ replay.old.shards) × (replay.new.workers ≡ replay.old.workers) × (replay.new.binary_limit ≡ replay.old.binary_limit) }
+    ensures same { Stays replay.old replay.new }
     ensures made { (replay.new.part ≡ Some merged.pages) × (replay.new.counts ≡ Some merged.counts) }
 {
     let Merged {

@@ -7,7 +7,7 @@ ghost use Rattle.er_exit.specs.declared.faults.Fault.TheVariants.{Memory};
 ghost use Rattle.er_report.specs.Reports.{HaveNames};
 ghost use Rattle.er_rules.specs.Rules.{targets_of};
 ghost use Rattle.er_trace.specs.Names.{NameTable};
-ghost use Rattle.eraser.specs.Replays.{AreOptionsOf, AreCounted, MayHavePlaces, MayLack, MayLackRaces, reads_again, shows_places};
+ghost use Rattle.eraser.specs.Replays.{AreCounted, MayHavePlaces, MayLack, MayLackRaces, reads_again, shows_places};
 
 use crate::replaying::Job;
 use er_binary::Decoded;
@@ -30,7 +30,7 @@ type Found<T> = Result<Option<T>, AllocError>;
 
 /// The places of the accesses that the reports' reasons name. None is known if they aren't shown, and if the trace can't be read again.
 pub(crate) fn places_of<R: Files + AllocGlobal>(rt: &R, job: Job<'_>, reports: &Reports) -> Places
-    ensures { AreOptionsOf job.entry.replay.now job.entry.options.now → MayHavePlaces R.File.remaining job.entry.replay.now reports.now result }
+    ensures { MayHavePlaces R.File.remaining job.entry.replay.now job.entry.options.now.byte_limit reports.now result }
 {
     let alloc = rt.alloc();
     let Some(mut again) = open_again(rt, job, reports) else {
@@ -126,9 +126,7 @@ pub(crate) fn excerpts_of<R: Files + AllocGlobal>(
     let sites = sites_of(rt.alloc(), reports, names)?;
     for site in &sites {
         if let Some(excerpt) = excerpt_of(rt, folder, site)? {
-            let Ok(()) = excerpts.push(excerpt) else {
-                return Err(Fault::Memory);
-            };
+            excerpts.push(excerpt).map_err(AllocError::from)?;
         }
     }
     Ok(excerpts)

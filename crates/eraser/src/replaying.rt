@@ -80,8 +80,8 @@ where
     requires output { has_failed output.old ≡ false }
     ensures end { IfOk result (IsEndOf job.entry.replay.now) }
     ensures text { IfOk result (λ ended. IfSome (D.remaining (inner_of source.old)) (λ text. IsEndingOf text ended.ending)) }
-    ensures ends { IsRunAs job.entry.replay.now job.entry.options.now job.entry.heading.now → IfOk result (λ ended. IfSome (D.remaining (inner_of source.old)) (λ text. EndsAs R.File.remaining job.entry.replay.now text (S.touches (inner_of source.old)) (targets_of job.entry.suppressions.now) (O.contents (inner_of output.old)) (O.contents (inner_of output.new)) ended)) }
-    ensures fails { IsRunAs job.entry.replay.now job.entry.options.now job.entry.heading.now → IfErr result (λ why. IfSome (D.remaining (inner_of source.old)) (λ text. FailsAs R.File.remaining job.entry.replay.now text (S.touches (inner_of source.old)) (targets_of job.entry.suppressions.now) (O.contents (inner_of output.old)) (O.contents (inner_of output.new)) why)) }
+    ensures ends { IsRunAs job.entry.replay.now job.entry.options.now job.entry.heading.now → IfOk result (λ ended. IfSome (D.remaining (inner_of source.old)) (λ text. EndsAs R.File.remaining job.entry.replay.now text (S.touches (inner_of source.old)) job.entry.options.now.byte_limit (targets_of job.entry.suppressions.now) (O.contents (inner_of output.old)) (O.contents (inner_of output.new)) ended)) }
+    ensures fails { IsRunAs job.entry.replay.now job.entry.options.now job.entry.heading.now → IfErr result (λ why. IfSome (D.remaining (inner_of source.old)) (λ text. FailsAs R.File.remaining job.entry.replay.now text (S.touches (inner_of source.old)) job.entry.options.now.byte_limit (targets_of job.entry.suppressions.now) (O.contents (inner_of output.old)) (O.contents (inner_of output.new)) why)) }
     ensures nothing { IfErr result (LeavesOutput (O.contents (inner_of output.old)) (O.contents (inner_of output.new))) }
     ensures failed { FailsBy (has_failed source.new) (has_failed output.new) result }
 {
@@ -154,10 +154,10 @@ fn deliver<R: Files + AllocGlobal, O: Write>(
     requires order { is_some reports.unordered ≡ asks_order job.replay.now.analysis }
     ensures end { IfOk result (IsEndOf job.entry.replay.now) }
     ensures text { IfOk result (λ ended. ended.ending ≡ ending) }
-    ensures ends { IsRunAs job.entry.replay.now job.entry.options.now job.entry.heading.now → (text : List ℕ) (touches : Option (List Touching)) → AreReportsOfText job.entry.replay.now.part job.entry.replay.now.analysis text touches job.entry.replay.now.byte_limit (targets_of job.entry.suppressions.now) job.entry.replay.now.explain names.now reports
-        → IsEndingOf text ending → IsOrderOfText job.entry.replay.now.part job.entry.replay.now.analysis text job.entry.replay.now.byte_limit has_order → IfOk result (EndsAs R.File.remaining job.entry.replay.now text touches (targets_of job.entry.suppressions.now) (O.contents (inner_of output.old)) (O.contents (inner_of output.new))) }
-    ensures fails { IsRunAs job.entry.replay.now job.entry.options.now job.entry.heading.now → (text : List ℕ) (touches : Option (List Touching)) → AreReportsOfText job.entry.replay.now.part job.entry.replay.now.analysis text touches job.entry.replay.now.byte_limit (targets_of job.entry.suppressions.now) job.entry.replay.now.explain names.now reports
-        → IfErr result (FailsAs R.File.remaining job.entry.replay.now text touches (targets_of job.entry.suppressions.now) (O.contents (inner_of output.old)) (O.contents (inner_of output.new))) }
+    ensures ends { IsRunAs job.entry.replay.now job.entry.options.now job.entry.heading.now → (text : List ℕ) (touches : Option (List Touching)) → AreReportsOfText job.entry.replay.now.part job.entry.replay.now.analysis text touches job.entry.options.now.byte_limit (targets_of job.entry.suppressions.now) job.entry.replay.now.explain names.now reports
+        → IsEndingOf text ending → IsOrderOfText job.entry.replay.now.part job.entry.replay.now.analysis text job.entry.options.now.byte_limit has_order → IfOk result (EndsAs R.File.remaining job.entry.replay.now text touches job.entry.options.now.byte_limit (targets_of job.entry.suppressions.now) (O.contents (inner_of output.old)) (O.contents (inner_of output.new))) }
+    ensures fails { IsRunAs job.entry.replay.now job.entry.options.now job.entry.heading.now → (text : List ℕ) (touches : Option (List Touching)) → AreReportsOfText job.entry.replay.now.part job.entry.replay.now.analysis text touches job.entry.options.now.byte_limit (targets_of job.entry.suppressions.now) job.entry.replay.now.explain names.now reports
+        → IfErr result (FailsAs R.File.remaining job.entry.replay.now text touches job.entry.options.now.byte_limit (targets_of job.entry.suppressions.now) (O.contents (inner_of output.old)) (O.contents (inner_of output.new))) }
     ensures nothing { IfErr result (LeavesOutput (O.contents (inner_of output.old)) (O.contents (inner_of output.new))) }
     ensures failed { FailsBy false (has_failed output.new) result }
 {
@@ -202,7 +202,7 @@ fn write_reports<R: Files + AllocGlobal, O: Write>(
     requires named { HaveNames names.now reports.now }
     ensures nothing { IfErr result (LeavesOutput (O.contents (inner_of output.old)) (O.contents (inner_of output.new))) }
     ensures failed { FailsBy false (has_failed output.new) result }
-    ensures shown { IsRunAs job.entry.replay.now job.entry.options.now job.entry.heading.now → WritesSome (AreShown R.File.remaining job.entry.replay.now names.now (targets_of job.entry.suppressions.now) reports.now) (O.contents (inner_of output.old)) (O.contents (inner_of output.new)) result }
+    ensures shown { IsRunAs job.entry.replay.now job.entry.options.now job.entry.heading.now → WritesSome (AreShown R.File.remaining job.entry.replay.now job.entry.options.now.byte_limit names.now (targets_of job.entry.suppressions.now) reports.now) (O.contents (inner_of output.old)) (O.contents (inner_of output.new)) result }
 {
     let excerpts = excerpts_of(rt, job.replay.source, reports, names)?;
     let places = places_of(rt, job, reports);

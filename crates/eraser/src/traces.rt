@@ -1,12 +1,16 @@
 //! Traces that are opened by their path, and what is written of one that is not replayed: its text, or the story of one step.
-ghost use Rattle.std.specs.Prelude.{◌≡◌, ℕ, List, cond, false, true, codes, IfErr, IfOk, IfSome, OnOk};
-ghost use Rattle.er_binary.specs.Decoded.{is_binary, is_noting, source_of, to_come};
+ghost use Rattle.std.specs.Prelude.{◌≡◌, ◌≢◌, ◌⊎◌, ℕ, List, cond, false, true, codes, Err, IfErr, IfOk, IfSome, OnOk};
+ghost use Rattle.std.specs.Io.KnownBytes.{Keeps};
+ghost use Rattle.er_binary.specs.Decoded.{is_binary, is_noting, source_of, to_come, to_touch};
+ghost use Rattle.er_binary.specs.Meaning.{meant};
 ghost use Rattle.er_device.specs.Device.{inner_of, has_failed};
 ghost use Rattle.er_exit.specs.declared.faults.Fault.TheVariants.{OpenTrace};
 ghost use Rattle.er_exit.specs.Statuses.{fault_status};
 ghost use Rattle.er_exit.specs.Writes.{LeavesOutput};
+ghost use Rattle.eraser.specs.Files.{OfFile};
+ghost use Rattle.eraser.specs.Inner.Opened.{IsUnread};
 ghost use Rattle.eraser.specs.Printing.{WritesText};
-ghost use Rattle.eraser.specs.Stories.{ExplainsTo, FailsOutput, IsExplainFault, IsStoryFault, WritesStory};
+ghost use Rattle.eraser.specs.Stories.{EndsStory, FailsOutput, IsStoryFault, WritesStory};
 
 use crate::command::keys_from;
 use er_binary::Decoded;
@@ -31,7 +35,8 @@ pub(crate) fn open_trace<R: Files + AllocGlobal>(
     rt: &R,
     path: &str,
 ) -> Result<Decoded<R::File>, Fault>
-    ensures { IfErr result (λ why. why ≡ OpenTrace) }
+    ensures fresh { IfOk result IsUnread }
+    ensures fault { IfErr result (λ why. why ≡ OpenTrace) }
 {
     let file = File::open(rt, path).map_err(|_| Fault::OpenTrace)?;
     Ok(Decoded::new(rt.alloc(), file))
@@ -42,7 +47,8 @@ pub(crate) fn prepare<D>(source: &mut Device<Decoded<D>>, notes: bool, keeps: bo
     ensures text { (bytes : List ℕ) → to_come (inner_of source.new) bytes ≡ to_come (inner_of source.old) bytes }
     ensures source { source_of (inner_of source.new) ≡ source_of (inner_of source.old) }
     ensures failed { has_failed source.new ≡ has_failed source.old }
-    ensures noting { notes ≡ true → is_noting (inner_of source.new) ≡ cond (is_binary (inner_of source.old)) (is_noting (inner_of source.old)) true }
+    ensures touches { (bytes : List ℕ) → to_touch (inner_of source.new) bytes ≡ to_touch (inner_of source.old) bytes }
+    ensures noting { is_noting (inner_of source.new) ≡ cond notes (cond (is_binary (inner_of source.old)) (is_noting (inner_of source.old)) true) (is_noting (inner_of source.old)) }
     ensures unasked { notes ≡ false → keeps ≡ false → source.new ≡ source.old }
 {
     if notes {
@@ -64,6 +70,7 @@ pub(crate) fn print_trace<R: Files + AllocGlobal, I: Read, O: Write>(
     ensures status { IfOk result (λ status. status ≡ 0) }
     ensures fault { IfErr result (λ why. fault_status why ≡ 4) }
     ensures text { trace.now ≡ codes "-" → IfSome (I.remaining (inner_of input.old)) (λ text. WritesText text (O.contents (inner_of output.old)) (O.contents (inner_of output.new)) result) }
+    ensures file { trace.now ≢ codes "-" → ((result ≡ Err OpenTrace) × Keeps (O.contents (inner_of output.old)) (O.contents (inner_of output.new))) ⊎ OfFile R.File.remaining (λ bytes. WritesText (meant bytes) (O.contents (inner_of output.old)) (O.contents (inner_of output.new)) result) }
     ensures failed { FailsOutput (has_failed output.new) result }
 {
     if trace == "-" {
@@ -85,9 +92,9 @@ pub(crate) fn explain_step<R: Files + RandomSource + AllocGlobal, I: Read, O: Wr
     requires input { has_failed input.old ≡ false }
     requires output { has_failed output.old ≡ false }
     ensures status { IfOk result (λ status. status ≡ 0) }
-    ensures story { asked.now.trace.now ≡ codes "-" → OnOk result (IfSome (I.remaining (inner_of input.old)) (λ text. ExplainsTo text asked.now.byte_limit asked.now.line (O.contents (inner_of output.old)) (O.contents (inner_of output.new)))) }
+    ensures story { asked.now.trace.now ≡ codes "-" → IfSome (I.remaining (inner_of input.old)) (λ text. EndsStory text asked.now.byte_limit asked.now.line (O.contents (inner_of output.old)) (O.contents (inner_of output.new)) result) }
+    ensures file { asked.now.trace.now ≢ codes "-" → (result ≡ Err OpenTrace) ⊎ OfFile R.File.remaining (λ bytes. EndsStory (meant bytes) asked.now.byte_limit asked.now.line (O.contents (inner_of output.old)) (O.contents (inner_of output.new)) result) }
     ensures nothing { IfErr result (LeavesOutput (O.contents (inner_of output.old)) (O.contents (inner_of output.new))) }
-    ensures fault { asked.now.trace.now ≡ codes "-" → IfErr result (λ why. IfSome (I.remaining (inner_of input.old)) (λ text. IsExplainFault text asked.now.byte_limit asked.now.line why)) }
     ensures failed { FailsOutput (has_failed output.new) result }
 {
     let keys = keys_from(rt);
@@ -137,9 +144,8 @@ fn explain_from<D: Read, O: Write>(
     requires source { has_failed source.old ≡ false }
     requires output { has_failed output.old ≡ false }
     ensures status { IfOk result (λ status. status ≡ 0) }
-    ensures story { OnOk result (IfSome (D.remaining (inner_of source.old)) (λ text. ExplainsTo text asked.now.byte_limit asked.now.line (O.contents (inner_of output.old)) (O.contents (inner_of output.new)))) }
+    ensures story { IfSome (D.remaining (inner_of source.old)) (λ text. EndsStory text asked.now.byte_limit asked.now.line (O.contents (inner_of output.old)) (O.contents (inner_of output.new)) result) }
     ensures nothing { IfErr result (LeavesOutput (O.contents (inner_of output.old)) (O.contents (inner_of output.new))) }
-    ensures fault { IfErr result (λ why. IfSome (D.remaining (inner_of source.old)) (λ text. IsExplainFault text asked.now.byte_limit asked.now.line why)) }
     ensures failed { FailsOutput (has_failed output.new) result }
 {
     match read_trace_keyed(alloc, source, asked.byte_limit, keys) {

@@ -2,15 +2,17 @@
 //!
 //! It has two passes. The first replays the text as ever. If it ends in a fault of the text, the lines before that one are read again by a
 //! reader that ends there, and are replayed as any other text.
-ghost use Rattle.std.specs.Prelude.{◌≡◌, ◌≤◌, [], false, None, codes, IfOk, IfErr, IfSome};
+ghost use Rattle.std.specs.Prelude.{◌≡◌, ◌≢◌, ◌≤◌, ◌⊎◌, [], false, None, codes, IfOk, IfErr, IfSome};
+ghost use Rattle.std.specs.Io.KnownBytes.{Keeps};
 ghost use Rattle.er_device.specs.Device.{inner_of, has_failed};
+ghost use Rattle.er_exit.specs.declared.faults.Fault.TheVariants.{OpenTrace};
 ghost use Rattle.er_exit.specs.Statuses.{fault_status};
 ghost use Rattle.er_exit.specs.Lines.{fault_line};
 ghost use Rattle.er_exit.specs.Writes.{GetsLine, LeavesOutput};
 ghost use Rattle.er_rules.specs.Rules.{targets_of};
-ghost use Rattle.er_text.specs.Ending.{IsEndingOf};
-ghost use Rattle.eraser.specs.Replays.{EndsAs, FailsAs, FailsFor, IsEndOf, IsRunAs};
+ghost use Rattle.eraser.specs.Replays.{EndsAs, FailsAs, FailsCut, IsEndOf, IsRunAs, OfTraceFile};
 
+use crate::command::options_of;
 use crate::replaying::{Ended, Job, notes_of, replay_from};
 use crate::traces::{Directly, open_trace, prepare};
 use er_binary::Decoded;
@@ -103,11 +105,11 @@ where
     requires input { has_failed input.old ≡ false }
     requires output { has_failed output.old ≡ false }
     ensures end { IfOk result (IsEndOf job.entry.replay.now) }
-    ensures text { job.entry.replay.now.trace.now ≡ codes "-" → IfOk result (λ ended. IfSome (I.remaining (inner_of input.old)) (λ text. IsEndingOf text ended.ending)) }
-    ensures ends { job.entry.replay.now.trace.now ≡ codes "-" → IsRunAs job.entry.replay.now job.entry.options.now job.entry.heading.now → IfOk result (λ ended. IfSome (I.remaining (inner_of input.old)) (λ text. EndsAs R.File.remaining job.entry.replay.now text (S.touches (inner_of input.old)) (targets_of job.entry.suppressions.now) (O.contents (inner_of output.old)) (O.contents (inner_of output.new)) ended)) }
-    ensures fails { job.entry.replay.now.trace.now ≡ codes "-" → job.entry.replay.now.until_fault ≡ false → IsRunAs job.entry.replay.now job.entry.options.now job.entry.heading.now → IfErr result (λ cut. IfSome (I.remaining (inner_of input.old)) (λ text. FailsAs R.File.remaining job.entry.replay.now text (S.touches (inner_of input.old)) (targets_of job.entry.suppressions.now) (O.contents (inner_of output.old)) (O.contents (inner_of output.new)) cut.fault)) }
-    ensures unfailed { job.entry.replay.now.trace.now ≡ codes "-" → job.entry.replay.now.until_fault ≡ false → IfOk result (λ ended. (has_failed input.new ≡ false) × (has_failed output.new ≡ false)) }
-    ensures failed { job.entry.replay.now.trace.now ≡ codes "-" → job.entry.replay.now.until_fault ≡ false → IfErr result (λ cut. FailsFor (has_failed input.new) (has_failed output.new) cut.fault) }
+    ensures ends { job.entry.replay.now.trace.now ≡ codes "-" → IsRunAs job.entry.replay.now job.entry.options.now job.entry.heading.now → IfOk result (λ ended. IfSome (I.remaining (inner_of input.old)) (λ text. EndsAs R.File.remaining job.entry.replay.now text (S.touches (inner_of input.old)) job.entry.options.now.byte_limit (targets_of job.entry.suppressions.now) (O.contents (inner_of output.old)) (O.contents (inner_of output.new)) ended)) }
+    ensures file_ends { job.entry.replay.now.trace.now ≢ codes "-" → IsRunAs job.entry.replay.now job.entry.options.now job.entry.heading.now → IfOk result (λ ended. OfTraceFile R.File.remaining job.entry.replay.now (λ text touches limit. EndsAs R.File.remaining job.entry.replay.now text touches limit (targets_of job.entry.suppressions.now) (O.contents (inner_of output.old)) (O.contents (inner_of output.new)) ended)) }
+    ensures fails { job.entry.replay.now.trace.now ≡ codes "-" → job.entry.replay.now.until_fault ≡ false → IsRunAs job.entry.replay.now job.entry.options.now job.entry.heading.now → IfErr result (λ cut. IfSome (I.remaining (inner_of input.old)) (λ text. FailsAs R.File.remaining job.entry.replay.now text (S.touches (inner_of input.old)) job.entry.options.now.byte_limit (targets_of job.entry.suppressions.now) (O.contents (inner_of output.old)) (O.contents (inner_of output.new)) cut.fault)) }
+    ensures file_fails { job.entry.replay.now.trace.now ≢ codes "-" → job.entry.replay.now.until_fault ≡ false → IsRunAs job.entry.replay.now job.entry.options.now job.entry.heading.now → IfErr result (λ cut. ((cut.fault ≡ OpenTrace) × Keeps (O.contents (inner_of output.old)) (O.contents (inner_of output.new))) ⊎ OfTraceFile R.File.remaining job.entry.replay.now (λ text touches limit. FailsAs R.File.remaining job.entry.replay.now text touches limit (targets_of job.entry.suppressions.now) (O.contents (inner_of output.old)) (O.contents (inner_of output.new)) cut.fault)) }
+    ensures failed { job.entry.replay.now.trace.now ≡ codes "-" → job.entry.replay.now.until_fault ≡ false → FailsCut (has_failed input.new) (has_failed output.new) result }
     ensures alone { job.entry.replay.now.until_fault ≡ false → IfErr result (λ cut. (cut.notes.items ≡ []) × (cut.damage ≡ None)) }
     ensures nothing { job.entry.replay.now.until_fault ≡ false → IfErr result (λ cut. LeavesOutput (O.contents (inner_of output.old)) (O.contents (inner_of output.new)) cut.fault) }
 {
@@ -128,15 +130,12 @@ where
     };
     let is_kept = replay.until_fault && !is_ordinary(rt, replay.trace);
     prepare(&mut source, replay.analysis.asks_order(), is_kept);
-    let Ok(_) = source.read(&mut []) else {
+    let Ok(_) = Directly.read(source.inner_mut(), &mut []) else {
         drop(source);
         return Err(cut_by(rt.alloc(), Fault::Read));
     };
-    // A binary trace says its text in far fewer bytes, so it has no limit that nobody asked for, unless they are kept.
-    let options = match source.inner().is_binary() && !is_kept {
-        true => job.options.with_byte_limit(replay.binary_limit).unwrap(),
-        false => *job.options,
-    };
+    let has_own_limit = source.inner().is_binary() && !is_kept;
+    let options = options_of(replay, has_own_limit, job.options.keys);
     let job = Job {
         options: &options,
         ..job

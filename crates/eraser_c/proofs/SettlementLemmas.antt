@@ -9,7 +9,7 @@ use Rattle.er_settle.specs.Faults.{IsFirst}
 use Rattle.er_settle.specs.Seats.{SeatList}
 use Rattle.er_settle.specs.declared.unsettled.Unsettled.{Unsettled}
 use Rattle.eraser_c.specs.Owned.{Value}
-use Rattle.eraser_c.specs.Settlements.{IsOneRun, IsTold, all_behind, all_kept, behind, each_in, journal_in, seat_in, status_of, with_first}
+use Rattle.eraser_c.specs.Settlements.{IsOneRun, IsTold, all_behind, all_kept, behind, each_in, journal_in, seat_in, status_of_fault, with_first}
 use Rattle.eraser_c.specs.declared.handle.Handle.{Handle}
 use Rattle.eraser_c.specs.declared.status.Status.{Status}
 
@@ -104,7 +104,7 @@ put-next value handles at h yielded b within is so_far =
 pub all-settled : (name opened : ℕ) (shards seats : List (Option Value)) (journals given : List (List Entry)) (lists handed : List SeatList) (result : Result ℕ Status)
     → each_in (journal_in name) shards ≡ Ok journals → given ≡ journals → each_in seat_in seats ≡ Ok lists → handed ≡ lists → 0 < length given
     → IfOk result (λ count. IsOneRun name opened handed given count)
-    → IfErr result (λ why. (fault : Unsettled) × ((why ≡ status_of fault) × IsFirst name opened handed given fault)) → IsTold name opened shards seats result
+    → IfErr result (λ why. (fault : Unsettled) × ((why ≡ status_of_fault fault) × IsFirst name opened handed given fault)) → IsTold name opened shards seats result
 all-settled name opened shards seats journals [] lists handed result all is each same some run err = absurd (omega (arith, some))
 all-settled name opened shards seats journals (g ∷ gs) lists handed (Ok count) all is each same some run err = inr (rw (all, each, ← is, ← same) run)
 all-settled name opened shards seats journals (g ∷ gs) lists handed (Err why) all is each same some run err = inr (rw (all, each, ← is, ← same) err)

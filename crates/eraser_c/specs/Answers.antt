@@ -18,7 +18,7 @@ use Rattle.er_model.specs.Parts.{FitsEnd, IsLegal}
 use Rattle.er_model.specs.Words.{Counted}
 use Rattle.er_online.specs.Spans.{IsSpanned, resets}
 use Rattle.er_online.specs.Taken.{HasSameStates, access_of, notes_of, reply_of, state_now}
-use Rattle.er_online.specs.declared.calls.Call.{Call}
+use Rattle.er_online.specs.declared.calls.ShardCall.{ShardCall}
 use Rattle.er_seat.specs.Seats.{done, holdings_of, with_call}
 use Rattle.er_settle.specs.Seats.{SeatList}
 use Rattle.er_shadow.specs.Shadows.{needs_set}
@@ -32,13 +32,13 @@ use Rattle.eraser_c.specs.declared.threads.Thread.{Thread}
 
 -- what a shard took, with the locks that covered each call
 abbrev pub Calls : Type 0
-Calls = List (Call × List ℕ)
+Calls = List (ShardCall × List ℕ)
 
--- what a bool of C says
+-- the kind of an access that a bool of C says: true writes
 abbrev pub kind_of : Bool → Kind
 kind_of writes = cond writes writing reading
 
--- and what it says of a lock
+-- the mode of a lock that a bool of C says: true is write mode
 abbrev pub mode_of : Bool → Mode
 mode_of writes = cond writes write_mode read_mode
 
@@ -86,7 +86,7 @@ IsListedUnless None before after event number =
 abbrev pub IsListed : SeatList → SeatList → Event → ℕ → Type 0
 IsListed before after event number = IsListedUnless (refused_by (holdings_of before) event) before after event number
 
--- so does the thread or the seat of a handle
+-- the thread or the seat of a handle follows one event
 abbrev pub IsChanged : Option Value → Option Value → Event → ℕ → Type 0
 IsChanged None after event number = (after ≡ None) × (number ≡ number_of EmptyHandle)
 IsChanged (Some (Shard calls)) after event number = (after ≡ Some (Shard calls)) × (number ≡ number_of WrongHandle)
@@ -111,7 +111,7 @@ IsHeld (Some (Journal shard)) was locks counted count number = (locks ≡ was) �
 IsHeld (Some (thread_of t)) was locks counted count number = AreCopied t.held.held was locks count number
 IsHeld (Some (Seat s)) was locks counted count number = AreCopied (holdings_of s).held was locks count number
 
--- race or quiet
+-- the status of an access that was a race, or of one that was none
 abbrev pub race_if : Bool → Status
 race_if race = cond race Race Quiet
 
@@ -124,7 +124,7 @@ pub record IsTaken (before after : Calls) (t : Thread) (kind : Kind) (word : ℕ
 abbrev pub IsNoRoom : ℕ → Type 0
 IsNoRoom number = (number ≡ number_of (Refused OutOfMemory)) ⊎ (number ≡ number_of (Refused TableFull))
 
--- the same, where there is no place for a set of locks only if one is needed
+-- a refusal for want of memory, or for want of a place for a set of locks where one is needed
 abbrev pub IsNoRoomFor : Bool → ℕ → Type 0
 IsNoRoomFor needs number = (number ≡ number_of (Refused OutOfMemory)) ⊎ ((number ≡ number_of (Refused TableFull)) × IsTrue needs)
 
@@ -138,7 +138,7 @@ abbrev pub address_of : Option ℕ → ℕ
 address_of None = 2 ^ 64 - 1
 address_of (Some word) = 4 * word
 
--- a race where one was found
+-- race if a word was found, or else quiet
 abbrev pub race_of : Option ℕ → Status
 race_of None = Quiet
 race_of (Some word) = Race
@@ -154,7 +154,7 @@ pub record IsSpanAccessed (t : Thread) (kind : Kind) (span : Span) (before after
   pub legal : IsLegal (notes_of after)
   pub taken : IsSpanTaken t kind span before after found number
 
--- so it is, and `first` says where the first race is
+-- the words of the run are accessed, and `first` has the address of the first one that was a race
 abbrev pub IsSpanFound : Thread → Kind → Span → ℕ → Calls → Calls → ℕ → Type 0
 IsSpanFound t kind span first before after number = (found : Option ℕ) × ((first ≡ address_of found) × IsSpanAccessed t kind span before after found number)
 
@@ -163,7 +163,7 @@ abbrev pub NamesRace : ℕ → ℕ → Type 0
 NamesRace first number = (first ≡ address_of None) ⊎ ((number ≡ number_of Race) ⊎ IsNoRoom number)
 
 -- no access was a race, and each word of the handle's shard has the state that it had
-pub record IsSettled (before after : Option Value) (number : ℕ) : Type 0 where
+pub record LeavesStates (before after : Option Value) (number : ℕ) : Type 0 where
   pub was : Calls
   pub now : Calls
   pub from : before ≡ Some (Shard was)
@@ -184,27 +184,27 @@ pub record UnlessIgnoring (t : Thread) (before after : Calls) (number : ℕ) (P 
   pub ignored : 0 < t.held.depth → (after ≡ before) × (number ≡ number_of Ignored)
   pub counted : t.held.depth ≡ 0 → P
 
--- the words of the run are virgin
+-- the shard's list has a reuse of each page of the run more, and so its words are virgin
 abbrev pub IsReset : Span → Calls → Calls → ℕ → Type 0
 IsReset span before after number = (after ≡ before ++ resets (parts_of span)) × (number ≡ number_of Quiet)
 
--- a state's status
-abbrev pub status_of : WordState → Status
-status_of words.Virgin = Virgin
-status_of (words.Exclusive t) = Exclusive
-status_of (words.Shared candidates) = Shared
-status_of (words.SharedModified candidates) = SharedModified
+-- the status that says a word's state
+abbrev pub status_of_state : WordState → Status
+status_of_state words.Virgin = Virgin
+status_of_state (words.Exclusive t) = Exclusive
+status_of_state (words.Shared candidates) = Shared
+status_of_state (words.SharedModified candidates) = SharedModified
 
--- this state, or there is no memory
+-- the number says this state, or that there is no memory
 abbrev pub IsStatus : WordState → ℕ → Type 0
-IsStatus state number = (number ≡ number_of (status_of state)) ⊎ (number ≡ number_of (Refused OutOfMemory))
+IsStatus state number = (number ≡ number_of (status_of_state state)) ⊎ (number ≡ number_of (Refused OutOfMemory))
 
 -- the state that the definitions give of the list, or there is no memory; the list is as it was, and each of its answers is the definitions'
 abbrev pub IsState : ℕ → Calls → Calls → ℕ → Type 0
 IsState word before after number =
     (after ≡ before) × (IsLegal (notes_of before) × IsStatus (state_now before word) number)
 
--- the same of a shard, with a journal or without
+-- the number says the state that the definitions give of what the handle's shard took, with a journal or without
 abbrev pub IsStateOf : ℕ → Option Value → Option Value → ℕ → Type 0
 IsStateOf word (Some (Journal shard)) after number =
     (after ≡ Some (Journal shard)) × (IsLegalJournal shard.journal × IsStatus (journal_state shard.journal word) number)

@@ -56,7 +56,7 @@ pub record UnlessBracket (seat after : SeatList) (shard now : Journaled) (number
   pub ignored : 0 < (holdings_of seat).depth → (after ≡ seat) × ((now ≡ shard) × (number ≡ number_of Ignored))
   pub counted : (holdings_of seat).depth ≡ 0 → P
 
--- what a use of words does
+-- a seat uses words of a shard with a journal: an access unless the thread ignores it, or a reuse
 abbrev pub IsUsed : Use → ℕ → SeatList → SeatList → Journaled → Journaled → ℕ → Type 0
 IsUsed (use_of.Access kind word) ticket seat after shard now number = UnlessBracket seat after shard now number (IsListedAccess kind word ticket seat after shard now number)
 IsUsed (use_of.Reset range) ticket seat after shard now number = IsListedReset range ticket seat after shard now number

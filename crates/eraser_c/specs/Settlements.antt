@@ -39,7 +39,7 @@ seat_in (Some (Shard calls)) = Err status.WrongHandle
 seat_in (Some (Thread t)) = Err status.WrongHandle
 seat_in (Some (Journal shard)) = Err status.WrongHandle
 
--- one more, unless something is wrong
+-- one more in front of the list, or the first that is wrong
 abbrev pub with_first : {A : Type 0} → Result A Status → Result (List A) Status → Result (List A) Status
 with_first (Err why) rest = Err why
 with_first (Ok x) (Err why) = Err why
@@ -50,15 +50,15 @@ unfoldable pub each_in : {A : Type 0} → (Option Value → Result A Status) →
 each_in of [] = Ok []
 each_in of (v ∷ vs) = with_first (of v) (each_in of vs)
 
--- what a fault is called here
-abbrev pub status_of : Unsettled → Status
-status_of fault.ForeignSeat = status.Refused refusal.ForeignSeat
-status_of fault.SeatTwice = status.SeatTwice
-status_of fault.SeatMissing = status.SeatMissing
-status_of fault.Order = status.Order
-status_of fault.Entries = status.Entries
-status_of fault.Answer = status.Answer
-status_of fault.Memory = status.Refused refusal.OutOfMemory
+-- the status of a fault of settling
+abbrev pub status_of_fault : Unsettled → Status
+status_of_fault fault.ForeignSeat = status.Refused refusal.ForeignSeat
+status_of_fault fault.SeatTwice = status.SeatTwice
+status_of_fault fault.SeatMissing = status.SeatMissing
+status_of_fault fault.Order = status.Order
+status_of_fault fault.Entries = status.Entries
+status_of_fault fault.Answer = status.Answer
+status_of_fault fault.Memory = status.Refused refusal.OutOfMemory
 
 -- seats and journals make one run of so many steps: each reply, and each word's state, is the one that the definitions give of that run
 pub record IsOneRun (name opened : ℕ) (seats : List SeatList) (journals : List (List Entry)) (count : ℕ) : Type 0 where
@@ -71,20 +71,20 @@ pub record IsOneRun (name opened : ℕ) (seats : List SeatList) (journals : List
   pub states : (w : ℕ) → journal_state (journal_at journals (shard_of (length journals) w)) w ≡ state_end steps w
   pub order : IsInTurn seats steps replies
 
--- journals and lists make one run, or it is told what is wrong: with the first shard, with the first seat, that there is no shard, or the first fault
+-- the journals and lists make one run, or the result is what is wrong: the first shard, the first seat, no shard at all, or the first fault
 abbrev pub IsSettlement : ℕ → ℕ → Result (List (List Entry)) Status → Result (List SeatList) Status → Result ℕ Status → Type 0
 IsSettlement name opened (Err why) seats result = result ≡ Err why
 IsSettlement name opened (Ok journals) (Err why) result = result ≡ Err why
 IsSettlement name opened (Ok []) (Ok seats) result = result ≡ Err status.EmptyHandle
 IsSettlement name opened (Ok (journal ∷ journals)) (Ok seats) (Ok count) = IsOneRun name opened seats (journal ∷ journals) count
-IsSettlement name opened (Ok (journal ∷ journals)) (Ok seats) (Err why) = (fault : Unsettled) × ((why ≡ status_of fault) × IsFirst name opened seats (journal ∷ journals) fault)
+IsSettlement name opened (Ok (journal ∷ journals)) (Ok seats) (Err why) = (fault : Unsettled) × ((why ≡ status_of_fault fault) × IsFirst name opened seats (journal ∷ journals) fault)
 
--- so the handles' shards and seats do, unless there is no memory
+-- the handles' shards and seats settle so, or there is no memory
 abbrev pub IsTold : ℕ → ℕ → List (Option Value) → List (Option Value) → Result ℕ Status → Type 0
 IsTold name opened shards seats result =
     (result ≡ Err (status.Refused refusal.OutOfMemory)) ⊎ IsSettlement name opened (each_in (journal_in name) shards) (each_in seat_in seats) result
 
--- the number and the count of steps that say so
+-- the number and the count of steps that C gets say the result
 abbrev pub IsToldBy : Result ℕ Status → ℕ → ℕ → Type 0
 IsToldBy (Ok count) steps number = (steps ≡ count) × (number ≡ number_of status.Quiet)
 IsToldBy (Err why) steps number = (steps ≡ 0) × (number ≡ number_of why)

@@ -3,7 +3,7 @@ ghost use Rattle.std.specs.Prelude.{◌≡◌, ◌<◌, ◌≤◌, ◌^◌, ◌/
 ghost use Rattle.er_event.specs.Span.{IsOutsideMemory, most_bytes, span_of_bytes};
 ghost use Rattle.er_held.specs.Held.{nothing_held};
 ghost use Rattle.eraser_c.specs.Accesses.{IsAccess, IsSpanAccess};
-ghost use Rattle.eraser_c.specs.Answers.{IsChanged, IsHeld, IsMade, IsReset, IsSettled, IsStateOf, NamesRace, OfShard, kind_of, mode_of};
+ghost use Rattle.eraser_c.specs.Answers.{IsChanged, IsHeld, IsMade, IsReset, IsStateOf, LeavesStates, NamesRace, OfShard, kind_of, mode_of};
 ghost use Rattle.eraser_c.specs.Statuses.{number_of};
 
 use crate::handle::Handle;
@@ -175,7 +175,7 @@ pub extern "C" fn eraser_access_span(
     ensures out_of_range { bytes ≤ most_bytes → IsOutsideMemory address bytes → (result ≡ number_of (Status.Refused Refusal.AddressOutOfRange)) × (shard.new.kept_box.kept ≡ shard.old.kept_box.kept) }
     ensures none { bytes ≡ 0 → address < 2 ^ 48 → (result ≡ number_of Status.Quiet) × (shard.new.kept_box.kept ≡ shard.old.kept_box.kept) }
     ensures named { NamesRace first_race.new result }
-    ensures settled { settled.new ≡ 1 → IsSettled shard.old.kept_box.kept shard.new.kept_box.kept result }
+    ensures settled { settled.new ≡ 1 → LeavesStates shard.old.kept_box.kept shard.new.kept_box.kept result }
     ensures flag { settled.new ≤ 1 }
     ensures thread { thread.new.kept_box.kept ≡ thread.old.kept_box.kept }
 {

@@ -1,5 +1,4 @@
 //! What a call does to a shard with a journal and to a seat.
-ghost use Rattle.std.specs.Prelude.{◌≡◌};
 ghost use Rattle.eraser_c.specs.Recorded.{ByJournal, IsListedReset, IsRecorded, IsUsed};
 ghost use Rattle.eraser_c.specs.Statuses.{number_of};
 

@@ -2,7 +2,7 @@
 ghost use Rattle.std.specs.Prelude.{◌≡◌, ◌<◌, ◌⊎◌, length, Ok, Err, IfOk, IfErr, OnErr};
 ghost use Rattle.er_settle.specs.Faults.{IsFirst};
 ghost use Rattle.er_settle.specs.declared.unsettled.Unsettled.{Unsettled as Fault};
-ghost use Rattle.eraser_c.specs.Settlements.{IsOneRun, IsTold, all_behind, all_kept, behind, each_in, journal_in, seat_in, status_of};
+ghost use Rattle.eraser_c.specs.Settlements.{IsOneRun, IsTold, all_behind, all_kept, behind, each_in, journal_in, seat_in, status_of_fault};
 
 use crate::handle::Handle;
 use crate::kept::Kept;
@@ -103,16 +103,16 @@ fn settle_views(
 ) -> Result<u64, Status>
     requires { 0 < length journals.now }
     ensures ok { IfOk result (λ count. IsOneRun name opened seats.now journals.now count) }
-    ensures err { IfErr result (λ why. (fault : Fault) × ((why ≡ status_of fault) × IsFirst name opened seats.now journals.now fault)) }
+    ensures err { IfErr result (λ why. (fault : Fault) × ((why ≡ status_of_fault fault) × IsFirst name opened seats.now journals.now fault)) }
 {
     match settle_lists(alloc, name, opened, seats, journals) {
         Ok(run) => Ok(run.steps.len() as u64),
-        Err(fault) => Err(status_of(fault)),
+        Err(fault) => Err(status_of_fault(fault)),
     }
 }
 
-fn status_of(fault: Unsettled) -> Status
-    ensures { result ≡ status_of fault }
+fn status_of_fault(fault: Unsettled) -> Status
+    ensures { result ≡ status_of_fault fault }
 {
     match fault {
         Unsettled::ForeignSeat => Status::Refused(Refusal::ForeignSeat),

@@ -3,7 +3,7 @@ ghost use Rattle.std.specs.Prelude.{◌≡◌, ◌<◌, ◌≤◌, ◌^◌, true
 ghost use Rattle.er_event.specs.Span.{IsOutsideMemory, most_bytes, span_of_bytes};
 ghost use Rattle.er_journal.specs.Journals.{IsLegalJournal, journal_state};
 ghost use Rattle.eraser_c.specs.Accesses.{IsAccess, IsSpanAccess};
-ghost use Rattle.eraser_c.specs.Answers.{IsAccessed, IsReset, IsSettled, IsSpanFound, IsState, IsStateOf, IsStatus, NamesRace, OfShard, UnlessIgnoring, address_of, race_if, race_of, status_of};
+ghost use Rattle.eraser_c.specs.Answers.{IsAccessed, IsReset, IsSpanFound, IsState, IsStateOf, IsStatus, LeavesStates, NamesRace, OfShard, UnlessIgnoring, address_of, race_if, race_of, status_of_state};
 ghost use Rattle.eraser_c.specs.Statuses.{number_of};
 ghost use Rattle.er_online.specs.Taken.{HasSameStates};
 
@@ -112,7 +112,7 @@ pub(crate) fn access_span(
 ) -> SpanAnswer
     ensures answered { IsSpanAccess thread.old.kept_box.kept kind words result.first_race shard.old.kept_box.kept shard.new.kept_box.kept (number_of result.status) }
     ensures named { NamesRace result.first_race (number_of result.status) }
-    ensures settled { result.is_settled ≡ true → IsSettled shard.old.kept_box.kept shard.new.kept_box.kept (number_of result.status) }
+    ensures settled { result.is_settled ≡ true → LeavesStates shard.old.kept_box.kept shard.new.kept_box.kept (number_of result.status) }
     ensures thread { thread.new.kept_box.kept ≡ thread.old.kept_box.kept }
 {
     let Some(kept) = replace(thread, Handle::empty(alloc)).into_box() else {
@@ -137,7 +137,7 @@ fn span_by(
 ) -> SpanAnswer
     ensures answered { OfShard (λ before after number. UnlessIgnoring thread.now before after number (IsSpanFound thread.now kind words result.first_race before after number)) shard.old.kept_box.kept shard.new.kept_box.kept (number_of result.status) }
     ensures named { NamesRace result.first_race (number_of result.status) }
-    ensures settled { result.is_settled ≡ true → IsSettled shard.old.kept_box.kept shard.new.kept_box.kept (number_of result.status) }
+    ensures settled { result.is_settled ≡ true → LeavesStates shard.old.kept_box.kept shard.new.kept_box.kept (number_of result.status) }
 {
     let Some(mut kept) = replace(shard, Handle::empty(alloc)).into_box() else {
         return SpanAnswer::without_race(Status::EmptyHandle);
@@ -247,7 +247,7 @@ fn journal_state_of(shard: &OwnShard, word: Word) -> Status
 }
 
 fn state_status(state: &WordState) -> Status
-    ensures { result ≡ status_of state.now }
+    ensures { result ≡ status_of_state state.now }
 {
     match state {
         WordState::Virgin => Status::Virgin,

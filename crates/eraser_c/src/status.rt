@@ -2,7 +2,7 @@
 ghost use Rattle.std.specs.Prelude.{◌≡◌};
 ghost use Rattle.eraser_c.specs.Statuses.{number_of};
 
-use er_event::{Refusal, WordState};
+use er_event::Refusal;
 
 /// What a call of C is answered.
 #[derive(Clone, Copy, Debug, PartialEq, Eq)]

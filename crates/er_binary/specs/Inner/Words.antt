@@ -51,6 +51,7 @@ kind_for does.Unlock = Some kind.Unlock
 kind_for does.ReadLock = Some kind.ReadLock
 kind_for does.ReadUnlock = Some kind.ReadUnlock
 
+-- the verb of an access that writes, or reads
 abbrev pub verb_for : Bool → ReadyVerb
 verb_for writes = if writes then does.Write else does.Read
 

@@ -32,6 +32,7 @@ doubles holders writers (Acquire lock Read) = nat_lt 0 (slice_index writers lock
 doubles holders writers (Acquire lock Write) = nat_lt 0 (slice_index holders lock)
 doubles holders writers _ = false
 
+-- a refused event takes no lock
 abbrev pub doubles_unless : Option Refusal → Bool → Bool
 doubles_unless None found = found
 doubles_unless (Some why) found = false

@@ -17,7 +17,7 @@ answer_of states brief.Ignored = Ok reply.Ignored
 answer_of states (brief.Shown n) = Ok (reply.State (slice_index_or states n Virgin))
 answer_of states (brief.Refused why) = Err why
 
--- each of them in full
+-- the answers of a list of briefs
 unfoldable pub answers_of : List WordState → List Brief → List (Result Reply Refusal)
 answers_of states briefs = map (answer_of states) briefs
 

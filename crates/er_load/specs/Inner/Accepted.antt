@@ -8,7 +8,7 @@ abbrev pub accepts : Holdings → List Event → Bool
 accepts h [] = true
 accepts h (event ∷ later) = not (is_some (refused_by h event)) && accepts (changed_by h event) later
 
--- what the thread holds after them
+-- what the thread holds after the events
 abbrev pub after : Holdings → List Event → Holdings
 after h [] = h
 after h (event ∷ later) = after (changed_by h event) later

@@ -15,7 +15,7 @@ events_by (Reuse range) = map event.Reuse (parts_of range)
 events_by IgnoreOn = event.IgnoreOn ∷ []
 events_by IgnoreOff = event.IgnoreOff ∷ []
 
--- and of all actions of a script, in order
+-- the events of all actions of a script, in order
 unfoldable pub events_in_all : List Action → List Event
 events_in_all [] = []
 events_in_all (action ∷ script) = events_by action ++ events_in_all script

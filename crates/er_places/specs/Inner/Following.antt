@@ -25,8 +25,8 @@ pub record Follows (wants : ℕ → Bool) (before : Followed) (step : Step) (lin
   pub places : (l : ℕ) → place_in after.places l
       ≡ cond (wants line && (line == l)) (or_else (place_in before.places l) (place_by (held_by before.threads step.thread) line step.thread step.event)) (place_in before.places l)
 
--- all of it is true of these steps and their lines
-pub record StandsFor (wants : ℕ → Bool) (seen : Followed) (steps : List Step) (lines : List ℕ) : Type 0 where
+-- the pass went over these steps, which are on these lines: it keeps what their threads hold and the wanted places
+pub record HasFollowed (wants : ℕ → Bool) (seen : Followed) (steps : List Step) (lines : List ℕ) : Type 0 where
   pub threads : (t : ℕ) → held_by seen.threads t ≡ holdings_end steps t
   pub places : (l : ℕ) → place_in seen.places l ≡ cond (wants l) (place_below steps lines l (length steps)) None
 
@@ -38,7 +38,7 @@ pub record HasCome (wants : ℕ → Bool) (told known : Option (List ℕ)) (read
   pub read : IfSome told (λ text. HasRead text past lines sites reader known trace)
   pub even : length lines ≡ length past
   pub named : All (IsNamed trace.names) past
-  pub stands : StandsFor wants seen past lines
+  pub stands : HasFollowed wants seen past lines
 
 -- each place that is kept for a line has names
 abbrev pub AreNamed : NameTable → List (ℕ × Place) → Type 0

@@ -46,7 +46,7 @@ birth_by state body =
 abbrev pub birth_in : Facts → Vec ℕ → Option Birth
 birth_in f name = lookup (is_at (λ key. slice_cmp nat_cmp (vec_items name) (vec_items key))) f.locks.entries
 
--- and behind a record: of several of one lock the last counts
+-- where the life of the lock of a name began, behind one more record: of several of one lock the last counts
 abbrev pub birth_behind : State → Option (ℕ × Birth) → List ℕ → Option Birth → Option Birth
 birth_behind state None name before = before
 birth_behind state (Some born) name before = cond (bytes_eq (name_at state.locks born.0) name) (Some born.1) before

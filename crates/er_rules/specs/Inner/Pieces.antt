@@ -8,6 +8,7 @@ abbrev pub rejoined : List ℕ → Option (Bor (List ℕ)) → List ℕ
 rejoined piece None = piece
 rejoined piece (Some more) = piece ++ star ∷ more.now
 
+-- the split has the piece in front of the first star, and what is behind that
 abbrev pub IsSplit : List ℕ → Bor (List ℕ) × Option (Bor (List ℕ)) → Type 0
 IsSplit pattern split = (has_star split.0.now ≡ false) × (pattern ≡ rejoined split.0.now split.1)
 

@@ -24,8 +24,7 @@ word_at borders k = (slice_index_or borders k no_border).word
 abbrev pub AreInOrder : List Border → Type 0
 AreInOrder borders = IsNonDecreasingBy (λ b. b.word) borders
 
--- what `borders` has of the first i borders of one list and the first j of another: the ends of both at each word, and from `bound` on,
--- where the next borders are, those that stood last
+-- `borders` has the farther end of the first i and j borders of two lists at each word; from `bound` on, where the next borders are, the last ends stand
 pub record IsOverlaid (first second borders : List Border) (i j : ℕ) (earlier later : ℕ) (bound : ℕ) : Type 0 where
   pub i_within : i ≤ length first
   pub j_within : j ≤ length second

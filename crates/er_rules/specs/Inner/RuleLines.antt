@@ -26,13 +26,16 @@ abbrev pub name_in : List ℕ → List ℕ → Result (List ℕ) TextKind
 name_in first second =
     if not (has_bytes first) then Err MissingOperand else if has_bytes second then Err ExtraOperand else if not (is_site_name first) then Err BadName else Ok first
 
+-- the rule of sites of the words behind `site`
 abbrev pub site_rule_in : Bool → List ℕ → List ℕ → Result Target TextKind
 site_rule_in is_second first second = map_ok (site_target is_second) (name_in first second)
 
+-- the rule of what a trace says of the program, of the words behind the first
 abbrev pub fact_rule_in : Option FactKind → List ℕ → List ℕ → Result Target TextKind
 fact_rule_in None first second = Err BadVerb
 fact_rule_in (Some kind) first second = map_ok (AtFact kind) (name_in first second)
 
+-- some of so many bytes from an address on are outside of memory
 abbrev pub is_outside : ℕ → ℕ → Bool
 is_outside address size = nat_le (2 ^ 48) address || nat_lt (2 ^ 48) (address + size)
 
@@ -40,6 +43,7 @@ is_outside address size = nat_le (2 ^ 48) address || nat_lt (2 ^ 48) (address + 
 abbrev pub long_run_in : ℕ → ℕ → Result (Option Span) TextKind
 long_run_in address size = if is_outside address size then Err AddressOutOfRange else Ok (run_of address size)
 
+-- the rule of words of memory, of the words behind `words`
 abbrev pub run_rule_in : List ℕ → List ℕ → List ℕ → Result Target TextKind
 run_rule_in first second third =
     if not (has_bytes second) then Err MissingOperand else if has_bytes third then Err ExtraOperand
@@ -52,6 +56,7 @@ rule_in is_second sort first second third =
     else if bytes_eq sort (codes "words") then run_rule_in first second third
     else fact_rule_in (kind_in is_second sort) first second
 
+-- the rule that the words of a line write
 abbrev pub rule_of : Bool → List (List ℕ) → Result Target TextKind
 rule_of is_second words = rule_in is_second (word_at 0 words) (word_at 1 words) (word_at 2 words) (word_at 3 words)
 
@@ -63,6 +68,7 @@ header_in first second third fourth = bytes_eq first (codes "eraser") && bytes_e
 abbrev pub ReadSoFar : Type 0
 ReadSoFar = Bool × List Target
 
+-- there is a rule
 abbrev pub has_some : List Target → Bool
 has_some [] = false
 has_some (t ∷ ts) = true
@@ -71,12 +77,15 @@ has_some (t ∷ ts) = true
 abbrev pub has_begun : ReadSoFar → Bool
 has_begun read = read.0 || has_some read.1
 
+-- with one rule more
 abbrev pub with_rule : ReadSoFar → Target → ReadSoFar
 with_rule read rule = (read.0, read.1 ++ rule ∷ [])
 
+-- with the words of one more line: the header, if nothing was read yet, or a rule
 abbrev pub add_words : ReadSoFar → List (List ℕ) → Result ReadSoFar TextKind
 add_words read words = if not (has_begun read) && is_header words then Ok (true, read.1) else map_ok (with_rule read) (rule_of read.0 words)
 
+-- with the bytes of one more line, which may say nothing
 abbrev pub add_at : ReadSoFar → List ℕ → Result ReadSoFar TextKind
 add_at read bytes = if says_something bytes then add_words read (words bytes) else Ok read
 
@@ -99,12 +108,15 @@ rule_view (Sites pattern) = AtSites pattern.now
 rule_view (Words run) = AtWords (option_map span_of run)
 rule_view (Fact kind pattern) = AtFact kind pattern.now
 
+-- what a call that reads a name gives
 abbrev pub GivesName : Result (Bor (List ℕ)) TextKind → Result (List ℕ) TextKind → Type 0
 GivesName = GivesBy (λ name. name.now)
 
+-- and one that reads a run of words
 abbrev pub GivesRun : Result (Option WordSpan) TextKind → Result (Option Span) TextKind → Type 0
 GivesRun = GivesBy (option_map span_of)
 
+-- and one that reads a rule
 abbrev pub GivesRule : Result LineRule TextKind → Result Target TextKind → Type 0
 GivesRule = GivesBy rule_view
 

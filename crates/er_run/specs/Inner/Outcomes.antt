@@ -51,7 +51,7 @@ pub record IsOrderBuilt (asked : Asked) (r : Recording) (report : Option Report)
   pub names : IfSome report (λ one. All (HasNames r.names) one.lines.items)
   pub order : has ≡ (asks_order asked.analysis && has_order r.steps)
 
--- both
+-- the reports of all steps by both analyses, as far as they are asked for
 pub record AreBuilt (part : Option PartView) (asked : Asked) (r : Recording) (reports : Reports) (has : Bool) : Type 0 where
   pub lockset : IsRunBuilt part asked r reports.lockset
   pub unordered : IsOrderBuilt asked r reports.unordered has

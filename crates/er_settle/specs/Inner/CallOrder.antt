@@ -6,7 +6,7 @@ use Rattle.er_journal.specs.Entries.{Call}
 use Rattle.er_settle.specs.Seats.{SeatList}
 use Rattle.er_settle.specs.Faults.{IsGiven, event_of}
 use Rattle.er_settle.specs.Inner.JournalOrder.{EntryAt}
-use Rattle.er_settle.specs.Runs.{TurnShown, turn_of, calls_of, HasNext, HasLater}
+use Rattle.er_settle.specs.Runs.{TurnShown, turn_of, calls_of, HasNext, HasTicketLater}
 
 -- these calls of one thread
 abbrev pub turns_by : ℕ → List Call → List TurnShown
@@ -21,13 +21,13 @@ next_turn (c ∷ calls) = cond (is_some c.ticket) (c ∷ []) (c ∷ next_turn ca
 abbrev pub ticketed_turns : List TurnShown → List (ℕ × (Option ℕ × Event))
 ticketed_turns turns = map (λ a. (a.thread, (a.call.ticket, a.call.event))) (filter (λ a. is_some a.call.ticket) turns)
 
--- those of the entries
+-- threads, tickets and events that the entries record, in order
 abbrev pub entry_turns : List EntryAt → List (ℕ × (Option ℕ × Event))
 entry_turns order = map (λ d. (d.entry.thread, (Some d.entry.ticket, event_of d.entry.what))) order
 
 -- a call without a ticket has its thread's next call behind it, and some later one with a ticket
 pub record IsClosed (turns : List TurnShown) : Type 0 where
-  pub each : (k : ℕ) (a : TurnShown) → slice_get turns k ≡ Some a → a.call.ticket ≡ None → HasNext turns k a.thread × HasLater turns k a.thread
+  pub each : (k : ℕ) (a : TurnShown) → slice_get turns k ≡ Some a → a.call.ticket ≡ None → HasNext turns k a.thread × HasTicketLater turns k a.thread
 
 -- the turns up to these entries: of each seat the calls up to its place
 pub record AreTaken (seats : List SeatList) (order : List EntryAt) (next : List ℕ) (turns : List TurnShown) : Type 0 where

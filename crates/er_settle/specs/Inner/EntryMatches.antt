@@ -15,7 +15,7 @@ use Rattle.er_settle.specs.Inner.JournalOrder.{EntryAt, entries_by}
 abbrev pub ticketed_calls : List Call → List (Option ℕ × Event)
 ticketed_calls calls = map (λ c. (c.ticket, c.event)) (filter (λ c. is_some c.ticket) calls)
 
--- those that the entries record, in order
+-- the tickets and events that the entries record, in order
 abbrev pub ticketed_entries : List EntryAt → List (Option ℕ × Event)
 ticketed_entries group = map (λ d. (Some d.entry.ticket, event_of d.entry.what)) group
 

@@ -10,10 +10,10 @@ use Rattle.er_settle.specs.Inner.EntryMatches.{ticketed_calls}
 pub record AreAlikeBelow (n : ℕ) (s : SeatList) (group : List EntryAt) : Type 0 where
   pub each : (j : ℕ) (c : Call) (d : EntryAt) → j < n → slice_get s.calls j ≡ Some c → IsSome c.ticket → slice_get group (length (ticketed_calls (take j s.calls))) ≡ Some d → IsAnswered s j c d.entry
 
--- all of the seat's calls
+-- each of the seat's calls that has a ticket is answered as its entry
 abbrev pub AreAlike : SeatList → List EntryAt → Type 0
 AreAlike s group = AreAlikeBelow (length s.calls) s group
 
--- those of all seats, by the entries of their threads
+-- so it is for each seat, with the entries of its thread
 abbrev pub AllAlike : List SeatList → List EntryAt → Type 0
 AllAlike seats order = (i : ℕ) (s : SeatList) → slice_get seats i ≡ Some s → AreAlike s (entries_by s.thread order)

@@ -39,7 +39,7 @@ AreSeatLists seats = (i : ℕ) (s : SeatList) → slice_get seats i ≡ Some s �
 abbrev pub AreLegalJournals : List (List Entry) → Type 0
 AreLegalJournals journals = (p : ℕ) (entries : List Entry) → slice_get journals p ≡ Some entries → IsLegalJournal entries
 
--- both, as the passes over them find
+-- each list is one that a seat can have, and each journal is legal
 pub record AreLegal (seats : List SeatList) (journals : List (List Entry)) : Type 0 where
   pub lists : AreSeatLists seats
   pub legal : AreLegalJournals journals

@@ -10,6 +10,7 @@ use Rattle.er_model.specs.Following.{locks_for}
 use Rattle.er_model.specs.Holdings.{Holdings}
 use Rattle.er_model.specs.Table.{advanced}
 use Rattle.er_model.specs.Words.{era, is_within}
+use Rattle.er_places.specs.Places.{stood_at}
 use Rattle.er_story.specs.Story.{counted_since, turns_since, same_state, empties}
 use Rattle.er_story.specs.declared.story.Turn.{Turn}
 use Rattle.er_trace.specs.Trace.{Recording}
@@ -20,7 +21,7 @@ pub record PastView : Type 0 where
   pub accesses : ℕ
   pub turns : List Turn
 
--- before any access
+-- what is known of a word before any access
 abbrev pub fresh : PastView
 fresh = record { state = Virgin; accesses = 0; turns = [] }
 
@@ -32,10 +33,10 @@ gone_to p after h line t kind site =
       accesses = p.accesses + 1;
       turns = p.turns
           ++ cond (not (same_state p.state after))
-          (record { number = p.accesses + 1; line = line; thread = t; kind = kind; site = site; held = h.held; write_held = h.write_held; state = after; emptied = empties p.state after } ∷ []) [];
+          (record { number = p.accesses + 1; place = stood_at h line t kind site; state = after; emptied = empties p.state after } ∷ []) [];
     }
 
--- after an access that counts
+-- what is known of it after an access that counts
 abbrev pub accessed : PastView → Holdings → ℕ → ℕ → Kind → ℕ → PastView
 accessed p h line t kind site = gone_to p (advanced p.state t kind (locks_for h kind)) h line t kind site
 

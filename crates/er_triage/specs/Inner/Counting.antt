@@ -10,7 +10,7 @@ use Rattle.er_triage.specs.declared.known.KnownRace.{KnownRace}
 abbrev pub one_more : KnownRace → KnownRace
 one_more race = record race { races = min (race.races + 1) (2 ^ 64 - 1) }
 
--- and so does that in this place
+-- the rule in this place takes one race more
 abbrev pub with_one_more : List KnownRace → ℕ → Option KnownRace → List KnownRace
 with_one_more known place None = known
 with_one_more known place (Some race) = slice_set known place (one_more race)
@@ -25,6 +25,6 @@ abbrev pub with_race : NameTable → List KnownRace → Option KnownRace → Lis
 with_race names known None = known
 with_race names known (Some race) = with_race_at (rule_of names (map (known_target names) known) race.deed race.site) known race
 
--- with the races of these lines
+-- the known races behind these lines
 abbrev pub with_races : NameTable → List KnownRace → List Line → List KnownRace
 with_races names known lines = fold (λ known line. with_race names known (race_of line)) known lines

@@ -3,11 +3,11 @@ use Rattle.std.proofs.Common.{codes}
 use Rattle.er_places.specs.Places.{PlaceTable}
 use Rattle.er_places.specs.Reasons.{reason_place}
 use Rattle.er_json.proofs.PutLemmas.{put_four}
-use Rattle.er_json.specs.Sarif.{holding_words, opening_text, reason_text, sentence_words}
+use Rattle.er_json.specs.Sarif.{holding_words, opening_text, reason_location, sentence_words}
 use Rattle.er_json.proofs.locations.put_reason.Goals as goal
 
 pub returns : goal.returns
-unfolding reason_text sentence_words
+unfolding reason_location sentence_words
 returns c =
     let table : PlaceTable = c.args.legend.now.places.now in
     let place = c.of_reason-place.ensures.place in

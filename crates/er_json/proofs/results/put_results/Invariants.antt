@@ -2,7 +2,7 @@ use Rattle.std.proofs.Common.{◌≡◌, ◌++◌, take}
 use Rattle.er_json.specs.Document.{rows_text}
 use Rattle.er_json.specs.Inner.Sections.{has_none}
 use Rattle.er_json.specs.Sarif.{results_below}
-use Rattle.er_sites.specs.Inner.Counted.{AreCounts}
+use Rattle.er_sites.specs.Counted.{AreCounts}
 use Rattle.er_json.proofs.results.put_results.Given as goal
 
 -- the counts are those of the lines so far, whose results are put

@@ -1,7 +1,7 @@
 use Rattle.std.proofs.Common.{◌≡◌, ◌++◌, take}
-use Rattle.er_json.specs.Document.{reason_text}
+use Rattle.er_json.specs.Inner.Sections.{reason_in}
 use Rattle.er_print.specs.Values.{values_text}
 use Rattle.er_json.proofs.rows.put_reasons.Given as goal
 
 abbrev pub invariant-loop-place : goal.invariant-loop-place
-invariant-loop-place l = l.out.items ≡ l.fn.out.items ++ values_text (reason_text l.legend.names.now l.legend.places.now) (take l.place l.explained)
+invariant-loop-place l = l.out.items ≡ l.fn.out.items ++ values_text (reason_in l.of l.legend.names.now l.legend.places.now) (take l.place l.reasons)

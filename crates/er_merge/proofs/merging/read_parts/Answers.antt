@@ -2,7 +2,7 @@
 use Rattle.std.proofs.Common.{◌≡◌, ◌<◌, ◌∙◌, ℕ, List, [], length, map, get_or, sym, arith}
 use Rattle.std.specs.Prelude.{vec_items}
 use Rattle.std.proofs.lemmas.List.{length-map}
-use Rattle.er_merge.specs.Parts.{part_view}
+use Rattle.er_merge.specs.Parts.{report_view}
 use Rattle.er_merge.proofs.PartLemmas.{at_map, not_read, one_part_more}
 use Rattle.er_merge.proofs.merging.read_parts.Goals as goal
 
@@ -13,7 +13,7 @@ returns-in-Err c =
     let inside = c.loop-place-test.true in
     let within : c.loop-place.place < length texts = omega (arith, same, inside) in
     let here : get_or texts c.loop-place.place [] ≡ c.deref.result.now = at_map vec_items c.args.texts.now c.loop-place.place c.index-texts-place.result inside c.index-texts-place.is ∙ sym c.deref.ensures.value in
-    not_read part_view texts c.loop-place.place c.deref.result.now c.loop-place.parts.items c.in-Err.fault within here c.loop-place.invariant c.in-Err.ensures
+    not_read report_view texts c.loop-place.place c.deref.result.now c.loop-place.parts.items c.in-Err.fault within here c.loop-place.invariant c.in-Err.ensures
 
 pub loop-place-preserved : goal.loop-place-preserved
 loop-place-preserved c =

@@ -1,4 +1,4 @@
-use Rattle.std.proofs.Common.{◌≡◌, ◌∙◌, [], Bool, true, false, Some, sym, ap, refl, subst, arith, string_bytes}
+use Rattle.std.proofs.Common.{◌≡◌, ◌∙◌, [], true, false, Some, sym, ap, refl, subst, string_bytes}
 use Rattle.er_rules.specs.declared.index.Pattern.{Pattern}
 use Rattle.er_rules.specs.Patterns.{pattern_takes}
 use Rattle.er_rules.proofs.IndexLemmas.{taking-all, taking-found, taking-more, taking-none}

@@ -1,4 +1,4 @@
-use Rattle.std.proofs.Common.{◌∙◌, sym, ap}
+use Rattle.std.proofs.Common.{◌∙◌, ap}
 use Rattle.er_rules.specs.Inner.Pieces.{rejoined}
 use Rattle.er_rules.proofs.PatternLemmas.{alone, parted, apart}
 use Rattle.er_rules.proofs.patterns.pattern_takes.Goals as goal

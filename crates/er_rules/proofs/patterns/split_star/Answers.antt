@@ -1,4 +1,4 @@
-use Rattle.std.proofs.Common.{◌≡◌, ◌+◌, ◌-◌, ◌∷◌, ◌++◌, ◌∙◌, List, ℕ, length, take, drop, ap, sym, refl, arith}
+use Rattle.std.proofs.Common.{◌+◌, ◌-◌, ◌∷◌, ◌++◌, ◌∙◌, List, ℕ, length, take, drop, ap, sym, refl, arith}
 use Rattle.std.proofs.lemmas.List.{length-drop, take_all}
 use Rattle.er_rules.specs.Patterns.{star}
 use Rattle.er_rules.proofs.PatternLemmas.{no_star_in, star_splits}

@@ -1,5 +1,5 @@
 use Rattle.std.proofs.Common.{take}
-use Rattle.er_sites.specs.Inner.Counted.{AreCounts}
+use Rattle.er_sites.specs.Counted.{AreCounts}
 use Rattle.er_sites.proofs.counts.count_races.Given as goal
 
 abbrev pub invariant-loop-line : goal.invariant-loop-line

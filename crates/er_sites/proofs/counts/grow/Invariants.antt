@@ -1,10 +1,10 @@
-use Rattle.std.proofs.Common.{◌≡◌, ◌-◌, ◌^◌, ◌≤◌, ℕ, length, slice_index}
+use Rattle.std.proofs.Common.{◌≡◌, ◌-◌, ◌^◌, ◌≤◌, ℕ, length, slice_index_or}
 use Rattle.er_sites.proofs.counts.grow.Given as goal
 
-abbrev pub invariant-loop-counts : goal.invariant-loop-counts
-invariant-loop-counts l =
-    ((s : ℕ) → slice_index l.counts.items s ≡ slice_index l.initial.counts.items s)
-    × (length l.initial.counts.items ≤ 2 ^ 32 → l.len ≤ 2 ^ 32 → length l.counts.items ≤ 2 ^ 32)
+abbrev pub invariant-loop-value : goal.invariant-loop-value
+invariant-loop-value g l =
+    ((s : ℕ) → slice_index_or l.list.items s l.value ≡ slice_index_or l.initial.list.items s l.value)
+    × (length l.initial.list.items ≤ 2 ^ 32 → l.len ≤ 2 ^ 32 → length l.list.items ≤ 2 ^ 32)
 
-abbrev pub decreases-loop-counts : goal.decreases-loop-counts
-decreases-loop-counts l = l.len - length l.counts.items
+abbrev pub decreases-loop-value : goal.decreases-loop-value
+decreases-loop-value g l = l.len - length l.list.items

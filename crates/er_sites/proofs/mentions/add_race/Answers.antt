@@ -1,10 +1,9 @@
 -- One reason more, and behind its own access all of them.
-use Rattle.std.proofs.Common.{◌∙◌, ℕ, List, Option, flat_map, nat_eq, refl, ap}
-use Rattle.std.proofs.lemmas.List.{take_all}
+use Rattle.std.proofs.Common.{◌∙◌, ℕ, List, Option, nat_eq, ap}
 use Rattle.er_places.specs.Reasons.{reason_place}
 use Rattle.er_places.specs.declared.places.Place.{Place}
 use Rattle.er_report.specs.declared.report.Because.{Because}
-use Rattle.er_sites.proofs.MentionLemmas.{insert_next, insert_two}
+use Rattle.er_sites.proofs.MentionLemmas.{insert_next}
 use Rattle.er_sites.specs.Mentions.{access_mentions}
 use Rattle.indexmap.specs.IndexSet.{insert_all}
 use Rattle.er_sites.proofs.mentions.add_race.Goals as goal

@@ -1,7 +1,7 @@
 -- One line more.
 use Rattle.std.proofs.Common.{ℕ, cond, Option, Some, None, ◌∙◌, sym, ap}
 use Rattle.er_sites.proofs.ExampleLemmas.{position_next}
-use Rattle.er_sites.specs.Inner.Counted.{or_first}
+use Rattle.er_sites.specs.Inner.Rows.{or_first}
 use Rattle.er_sites.specs.Table.{is_at}
 use Rattle.er_sites.proofs.table.find_examples.Goals as goal
 

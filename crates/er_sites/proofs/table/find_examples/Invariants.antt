@@ -1,5 +1,5 @@
 use Rattle.std.proofs.Common.{take}
-use Rattle.er_sites.specs.Inner.Counted.{AreExamples}
+use Rattle.er_sites.specs.Inner.Rows.{AreExamples}
 use Rattle.er_sites.proofs.table.find_examples.Given as goal
 
 abbrev pub invariant-loop-place : goal.invariant-loop-place

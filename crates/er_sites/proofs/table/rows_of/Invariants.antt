@@ -1,4 +1,4 @@
-use Rattle.er_sites.specs.Inner.Counted.{HasRowsBelow}
+use Rattle.er_sites.specs.Inner.Rows.{HasRowsBelow}
 use Rattle.er_sites.proofs.table.rows_of.Given as goal
 
 abbrev pub invariant-loop-site : goal.invariant-loop-site

@@ -1,4 +1,4 @@
-use Rattle.std.proofs.Common.{◌≡◌, ◌∙◌, ℕ, ◌<◌, List, Some, slice_get, slice_index_or, length, refl, subst, sym, ap}
+use Rattle.std.proofs.Common.{◌≡◌, ◌∙◌, ℕ, ◌<◌, List, Some, slice_get, slice_index_or, length, refl, subst, sym}
 use Rattle.std.proofs.lemmas.Option.{slice_get_read}
 use Rattle.er_event.specs.declared.steps.Step.{Step}
 use Rattle.er_story.proofs.StoryLemmas.{story-found, story-made, story-named}

@@ -1,5 +1,5 @@
 -- A line that a rule takes is gone, and counted at the rule.
-use Rattle.std.proofs.Common.{◌≡◌, ◌∙◌, ◌∷◌, ◌++◌, List, ℕ, Some, filter, option_map, rules, slice_get, subst, sym}
+use Rattle.std.proofs.Common.{◌≡◌, ◌∙◌, ◌∷◌, ◌++◌, List, Some, filter, option_map, rules, slice_get, subst, sym}
 use Rattle.std.specs.Vec.Iter.{into_iter_items}
 use Rattle.er_report.specs.declared.report.Line.{Line}
 use Rattle.er_rules.specs.Rules.{targets_of}

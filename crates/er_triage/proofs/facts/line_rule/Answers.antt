@@ -1,5 +1,5 @@
 -- The rules say what their targets say.
-use Rattle.std.proofs.Common.{◌≡◌, ◌∙◌, List, ap, map, position}
+use Rattle.std.proofs.Common.{◌∙◌, List, ap, map, position}
 use Rattle.er_rules.specs.Rules.{target_of}
 use Rattle.er_rules.specs.declared.rules.Rule.{Rule}
 use Rattle.er_triage.specs.Facts.{fact_rule, takes_fact}

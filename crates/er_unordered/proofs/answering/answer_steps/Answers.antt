@@ -11,10 +11,10 @@ use Rattle.er_batch.proofs.BatchLemmas.{number-behind, site-behind}
 use Rattle.er_text.specs.Batches.{joined}
 use Rattle.er_order.specs.ByBytes.{Touched, answer_by_bytes, unordered_by_bytes}
 use Rattle.er_trace.specs.Trace.{Recording}
-use Rattle.er_unordered.specs.Inner.Passes.{HasComeTo, TouchAs}
-use Rattle.er_unordered.specs.Reports.{bytes_by}
+use Rattle.er_unordered.specs.Answered.{HasComeTo}
+use Rattle.er_unordered.specs.Reports.{TouchAs, bytes_by}
 use Rattle.er_batch.specs.Touching.{touch_on}
-use Rattle.er_unordered.specs.Inner.Reasons.{tag_at}
+use Rattle.er_unordered.specs.Tags.{tag_at}
 use Rattle.er_unordered.specs.Standing.{Ordered, Stands}
 use Rattle.er_unordered.proofs.PassLemmas.{come-to, plain-here, start, step-here, told-plain, whole}
 use Rattle.er_unordered.proofs.StoppingLemmas.{beyond-here, stop-by}

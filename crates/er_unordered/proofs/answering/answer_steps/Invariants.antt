@@ -3,7 +3,8 @@ use Rattle.er_batch.specs.Touching.{touch_on}
 use Rattle.er_event.specs.declared.steps.Step.{Step}
 use Rattle.er_order.specs.ByBytes.{Touched}
 use Rattle.er_text.specs.Batches.{joined}
-use Rattle.er_unordered.specs.Inner.Passes.{HasComeTo, TouchAs}
+use Rattle.er_unordered.specs.Reports.{TouchAs}
+use Rattle.er_unordered.specs.Answered.{HasComeTo}
 use Rattle.er_unordered.proofs.answering.answer_steps.Given as goal
 
 -- behind any steps that were answered, the machine stands for these and the first k steps of the trace, and the report and what is told are theirs

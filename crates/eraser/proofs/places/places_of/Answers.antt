@@ -16,7 +16,7 @@ with-facts wants None limit table facts are = tt
 with-facts wants (Some text) limit table facts are = λ r trace. let found = are r trace in record { places = found.places; names = found.names }
 
 pub returns : goal.returns
-returns g c by =
+returns g c =
     let again = (inner_of c.in-Some.again).decoded in
     let known = g.R.File.Read.remaining (source_of again) in
     let told = option_map (to_come again) known in
@@ -28,7 +28,6 @@ returns g c by =
       c.in-Some.ensures.shown,
       (
         source_of again,
-        of-bytes known (to_come again) meant (λ text. ArePlaces wants text c.args.job.replay.now.byte_limit c.with_facts.result) c.in-Some.ensures.fresh
-            (subst (λ (limit : ℕ). IfSome told (λ text. ArePlaces wants text limit c.with_facts.result)) by.bytes found),
+        of-bytes known (to_come again) meant (λ text. ArePlaces wants text c.args.job.options.now.byte_limit c.with_facts.result) c.in-Some.ensures.fresh found,
       ),
     )

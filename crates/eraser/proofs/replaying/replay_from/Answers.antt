@@ -16,15 +16,15 @@ pub returns-in-Ok-clause-ends : goal.returns-in-Ok-clause-ends
 returns-in-Ok-clause-ends g c = λ by.
     let touches : Option (List Touch) = g.S.Shortcut.touches (inner_of c.args.source.now) in
     told-ok (g.D.Read.remaining (inner_of c.args.source.now)) c.deliver-ended.result
-    (λ text. AreReportsOfText c.args.job.replay.now.part c.args.job.replay.now.analysis text touches c.args.job.replay.now.byte_limit (targets_of c.args.job.suppressions.now) c.args.job.replay.now.explain c.names.result.now c.in-Ok.field-0.reports)
-    (λ text. IsEndingOf text c.in-Ok.field-0.ending) (λ text. IsOrderOfText c.args.job.replay.now.part c.args.job.replay.now.analysis text c.args.job.replay.now.byte_limit c.in-Ok.field-0.has_order) _
+    (λ text. AreReportsOfText c.args.job.replay.now.part c.args.job.replay.now.analysis text touches c.args.job.options.now.byte_limit (targets_of c.args.job.suppressions.now) c.args.job.replay.now.explain c.names.result.now c.in-Ok.field-0.reports)
+    (λ text. IsEndingOf text c.in-Ok.field-0.ending) (λ text. IsOrderOfText c.args.job.replay.now.part c.args.job.replay.now.analysis text c.args.job.options.now.byte_limit c.in-Ok.field-0.has_order) _
     (λ text. c.deliver-ended.ensures.ends by text touches)
-    (rw (← c.names.ensures, by.run.part, by.run.bytes, by.run.explain) at c.in-Ok.ensures.reports) c.in-Ok.ensures.ending (rw (by.run.part, by.run.bytes) at c.in-Ok.ensures.order)
+    (rw (← c.names.ensures, by.run.part, by.run.explain) at c.in-Ok.ensures.reports) c.in-Ok.ensures.ending (rw by.run.part at c.in-Ok.ensures.order)
 
 pub returns-in-Ok-clause-fails : goal.returns-in-Ok-clause-fails
 returns-in-Ok-clause-fails g c = λ by.
     let touches : Option (List Touch) = g.S.Shortcut.touches (inner_of c.args.source.now) in
     told-err (g.D.Read.remaining (inner_of c.args.source.now)) c.deliver-ended.result
-    (λ text. AreReportsOfText c.args.job.replay.now.part c.args.job.replay.now.analysis text touches c.args.job.replay.now.byte_limit (targets_of c.args.job.suppressions.now) c.args.job.replay.now.explain c.names.result.now c.in-Ok.field-0.reports) _
+    (λ text. AreReportsOfText c.args.job.replay.now.part c.args.job.replay.now.analysis text touches c.args.job.options.now.byte_limit (targets_of c.args.job.suppressions.now) c.args.job.replay.now.explain c.names.result.now c.in-Ok.field-0.reports) _
     (λ text. c.deliver-ended.ensures.fails by text touches)
-    (rw (← c.names.ensures, by.run.part, by.run.bytes, by.run.explain) at c.in-Ok.ensures.reports)
+    (rw (← c.names.ensures, by.run.part, by.run.explain) at c.in-Ok.ensures.reports)

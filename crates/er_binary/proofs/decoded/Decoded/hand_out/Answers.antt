@@ -1,6 +1,6 @@
 -- What was noted is handed out, and what is left is of later lines.
 use Rattle.std.proofs.Common.{refl, sym, ap, ◌∙◌, rules}
-use Rattle.er_binary.specs.Decoded.{names_by}
+use Rattle.er_binary.specs.Inner.Forms.{names_by}
 use Rattle.er_binary.specs.Inner.Decoders.{still}
 use Rattle.er_binary.proofs.DecodedLaws.{binary_is, binary_noting, handed_by, kept_by, text_handed, unknown_handed}
 use Rattle.er_binary.proofs.TextLemmas.{ok_given}

@@ -26,7 +26,7 @@ use denote.Triple.Spec.{triple_of}
 use denote.Triple.Table.{entered}
 use denote.Triple.Walked.{says, Stays, stay_dropped, walk_of, ends_at, walk_Meets, Goes-dropped}
 use Rattle.er_event.specs.contracts.locks.Lockset as Lockset
-use Rattle.er_online.specs.contracts.calls.Call as Call
+use Rattle.er_online.specs.contracts.calls.ShardCall as ShardCall
 use Rattle.er_online.specs.contracts.history.History as History
 use Rattle.er_online.specs.contracts.history.History.and as F
 use Rattle.er_online.specs.contracts.history.History.and.Key.{name as #self}
@@ -36,7 +36,7 @@ use Rattle.er_online.proofs.history.History.and.Code as code
 abbrev stayed : Stays (F.ended).signature.params (F.ended).kept
 stayed = (
   stay_dropped (RefOf (0 ∷ []) tt (plain (λ _. History.the_row)) (λ _. tt)) yes,
-  (stay_dropped (RefOf (1 ∷ []) tt (plain (λ _. Call.the_row)) (λ _. tt)) yes, (stay_dropped (RefOf (2 ∷ []) tt (plain (λ _. Lockset.the_row)) (λ _. tt)) yes, tt)),
+  (stay_dropped (RefOf (1 ∷ []) tt (plain (λ _. ShardCall.the_row)) (λ _. tt)) yes, (stay_dropped (RefOf (2 ∷ []) tt (plain (λ _. Lockset.the_row)) (λ _. tt)) yes, tt)),
 )
 
 module _ {M : Type 1} {𝓤 : Ura M} (𝓛 : Logic 𝓤) (at_mem : Memory → SProp 𝓤) (run : Routine → Fun 𝓤) (𝓣 : Tables 𝓤 𝓛.H) where
@@ -73,7 +73,7 @@ and_spec 𝓤 𝓛 𝓜 𝓡 wired =
     (walk_Meets 𝓛 F.ended stayed (
       Goes-dropped 𝓛 3 (RefOf (0 ∷ []) tt (plain (λ _. History.the_row)) (λ _. tt)) yes (λ κs x f. refl),
       (
-        Goes-dropped 𝓛 3 (RefOf (1 ∷ []) tt (plain (λ _. Call.the_row)) (λ _. tt)) yes (λ κs x f. refl),
+        Goes-dropped 𝓛 3 (RefOf (1 ∷ []) tt (plain (λ _. ShardCall.the_row)) (λ _. tt)) yes (λ κs x f. refl),
         (Goes-dropped 𝓛 3 (RefOf (2 ∷ []) tt (plain (λ _. Lockset.the_row)) (λ _. tt)) yes (λ κs x f. refl), tt),
       ),
     ) (F.clauses 𝓛 𝓜.mem 𝓡.returns) (WpFn 𝓤 𝓛.H 𝓣.C 𝓣.Λ code.function) (WpFn-mono 𝓤 𝓛.H 𝓛.laws 𝓣 code.function)

@@ -3,7 +3,7 @@ use Rattle.er_model.specs.Parts.{FitsEnd}
 use Rattle.er_model.specs.Words.{Counted}
 use Rattle.er_online.specs.Taken.{HasSameStates, notes_of}
 use Rattle.er_shadow.specs.Replies.{reply_if}
-use Rattle.er_online.specs.declared.calls.Call.TheVariants.{Access}
+use Rattle.er_online.specs.declared.calls.ShardCall.TheVariants.{Access}
 use Rattle.er_online.proofs.Growing.{replay-grows, access-fits}
 use Rattle.er_online.proofs.Settled.{same-states, same-quiet}
 use Rattle.er_online.proofs.shard.Shard.access.Goals as goal

@@ -1,5 +1,5 @@
 use Rattle.std.proofs.Common.{refl}
-use Rattle.er_online.specs.declared.calls.Call.TheVariants.{Reset}
+use Rattle.er_online.specs.declared.calls.ShardCall.TheVariants.{Reset}
 use Rattle.er_online.proofs.Growing.{replay-grows}
 use Rattle.er_online.proofs.shard.Shard.reset.Goals as goal
 

@@ -1,4 +1,4 @@
-use Rattle.std.proofs.Common.{◌∙◌, cond, Option, Some, None, sym, ap, string_bytes}
+use Rattle.std.proofs.Common.{◌∙◌, cond, Some, None, sym, ap}
 use Rattle.std.specs.Option.{option_or}
 use Rattle.er_rules.specs.declared.index.Pattern.{Pattern}
 use Rattle.er_rules.specs.declared.rules.Rule.{Rule}

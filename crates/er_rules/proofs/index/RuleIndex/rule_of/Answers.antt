@@ -1,4 +1,4 @@
-use Rattle.std.proofs.Common.{◌∙◌, option_copied, sym, ap, None, Option, List, ℕ}
+use Rattle.std.proofs.Common.{◌∙◌, option_copied, sym, ap, Option, List, ℕ}
 use Rattle.er_rules.specs.Inner.Index.{least_of}
 use Rattle.er_rules.specs.Inner.Rules.{rule_of_pattern, rule_of_site, rule_of_words}
 use Rattle.er_rules.proofs.IndexLemmas.{least-nowhere}

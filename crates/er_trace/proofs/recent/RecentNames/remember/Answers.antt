@@ -15,7 +15,7 @@ returns-then-place-len c = λ names right knows.
       | then-is_empty w ↦ subst P (sym w.self-is) (w.make_slots.ensures names right)
       | else-is_empty w ↦ subst P (sym w.self-is) right
     ] in
-    All-set Q c.if-is_empty.self.slots.items c.slot-place.result (record { name = c.args.name; number = c.args.number }) (λ some. knows) before
+    All-set Q c.if-is_empty.self.slots.items c.place_for-place.result (record { name = c.args.name; number = c.args.number }) (λ some. knows) before
 
 pub returns-else-place-len : goal.returns-else-place-len
 returns-else-place-len c = λ names right knows.

@@ -2,8 +2,8 @@
 use Rattle.std.proofs.Common.{◌≡◌, ◌∙◌, None, refl, sym, subst}
 use Rattle.er_order.specs.ByBytes.{answer_by_bytes}
 use Rattle.er_report.specs.Report.{told as summary}
-use Rattle.er_unordered.specs.Inner.Passes.{HasAnswered, HasGathered, tells}
-use Rattle.er_unordered.specs.Inner.Reasons.{line_reason, one_told, no_tag, none_told}
+use Rattle.er_unordered.specs.Answered.{HasAnswered, HasGathered, tells}
+use Rattle.er_unordered.specs.Tags.{line_reason, one_told, no_tag, none_told}
 use Rattle.er_unordered.specs.Reasons.{order_reasons}
 use Rattle.er_unordered.specs.Reports.{unordered_report}
 use Rattle.er_unordered.specs.declared.ordering.Machines.{Machines}

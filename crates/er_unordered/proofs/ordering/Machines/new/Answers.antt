@@ -1,4 +1,4 @@
-use Rattle.er_unordered.specs.Inner.Reasons.{line_reason, one_told, no_tag, none_told}
+use Rattle.er_unordered.specs.Tags.{line_reason, one_told, no_tag, none_told}
 use Rattle.er_unordered.proofs.StoppingLemmas.{started}
 use Rattle.er_unordered.proofs.ordering.Machines.new.Goals as goal
 

@@ -1,4 +1,4 @@
-use Rattle.std.proofs.Common.{rules, List, Err, IsTrue, ◌≡◌, ◌<◌, ◌∙◌, ap, arith, length, ℕ}
+use Rattle.std.proofs.Common.{List, Err, IsTrue, ◌≡◌, ◌<◌, ◌∙◌, ap, arith, length, ℕ}
 use Rattle.er_load.specs.Workloads.{thread_count}
 use Rattle.er_load.specs.Inner.Progress.{done_after}
 use Rattle.er_settle.specs.Seats.{SeatList}

@@ -14,14 +14,15 @@ abbrev pub line_reason : ℕ → Option Step → Because
 line_reason number None = record { label = label.Unordered; line = number; thread = 0; kind = Read }
 line_reason number (Some step) = record { label = label.Unordered; line = number; thread = step.thread; kind = event_kind step.event }
 
--- and the list that a race has of it
+-- what is told of a race: the list of the reason that was found
 abbrev pub one_told : Option Because → List (List Because)
 one_told found = option_to_list found ∷ []
 
--- without reasons there is nothing
+-- without reasons nothing is kept of a step
 abbrev pub no_tag : ℕ → Option Step → Unit {0}
 no_tag number step = tt
 
+-- without reasons nothing is told of a race
 abbrev pub none_told : Option (Unit {0}) → List (List Because)
 none_told found = []
 

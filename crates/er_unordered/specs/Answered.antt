@@ -1,25 +1,15 @@
 -- How far happens-before has come in the steps of a recording.
-use Rattle.std.specs.Prelude.{◌≡◌, ◌+◌, ◌<◌, ℕ, All, Bool, true, false, List, length, take, Option}
+use Rattle.std.specs.Prelude.{◌≡◌, ℕ, All, Bool, true, false, List, length, take, Option}
+pub use Rattle.er_batch.specs.Runs.{recorded}
 use Rattle.er_event.specs.declared.steps.Step.{Step}
+use Rattle.er_order.specs.ByBytes.{Touched, answer_by_bytes}
 use Rattle.er_report.specs.Builder.{Built, IsBuiltBy}
 use Rattle.er_report.specs.declared.report.Because.{Because}
-use Rattle.er_trace.specs.Names.{NameTable}
 use Rattle.er_trace.specs.Trace.{Recording, IsNamed, HasSiteName}
-use Rattle.er_lines.specs.declared.ready.Touch.{Touch}
-use Rattle.er_order.specs.ByBytes.{Touched, answer_by_bytes}
-use Rattle.er_unordered.specs.Reports.{touched_by}
 use Rattle.er_unordered.specs.Standing.{Ordered, Stands}
-use Rattle.er_unordered.specs.Inner.Reasons.{line_reason, one_told, no_tag, none_told, tag_at, told_at}
+use Rattle.er_unordered.specs.Tags.{line_reason, one_told, no_tag, none_told, tag_at, told_at}
 use Rattle.er_unordered.specs.declared.ordering.Machines.{Machines}
 use Rattle.er_unordered.specs.declared.ordering.Machines.TheVariants.{Plain, Telling}
-
--- these steps, their lines and sites, under these names
-abbrev pub recorded : List Step → List ℕ → List ℕ → NameTable → Recording
-recorded steps lines sites names = record { steps = steps; lines = lines; sites = sites; names = names }
-
--- behind so many positions, those of these lines touch what touches say of their lines
-abbrev pub TouchAs : Touched → List Touch → List ℕ → ℕ → Type 0
-TouchAs touched touches lines n = (k : ℕ) → k < length lines → touched (n + k) ≡ touched_by touches lines k
 
 -- the machine stands for the recording's first n steps, which touch these bytes, and the report and what is told are theirs
 pub record HasComeTo {A : Type 0} (touched : Touched) (tag_of : ℕ → Option Step → A) (told_of : Option A → List (List Because)) (machine : Ordered A) (builder : Built) (told : List (List Because)) (r : Recording) (n : ℕ) : Type 0 where
@@ -35,12 +25,12 @@ pub record HasAnswered {A : Type 0} (touched : Touched) (tag_of : ℕ → Option
   pub seen : All (HasSiteName r.names) r.sites
   pub one_each : length r.sites ≡ length r.steps
 
--- with reasons or without
+-- all of the recording's steps were answered, and reasons were kept, or nothing, as the machine does
 abbrev pub HasGathered : Touched → Machines → Built → List (List Because) → Recording → Type 0
 HasGathered touched (Plain machine) builder told r = HasAnswered touched no_tag none_told machine builder told r
 HasGathered touched (Telling machine) builder told r = HasAnswered touched line_reason one_told machine builder told r
 
--- it keeps what reasons want
+-- the machine keeps what reasons want
 abbrev pub tells : Machines → Bool
 tells (Plain machine) = false
 tells (Telling machine) = true

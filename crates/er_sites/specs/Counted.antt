@@ -1,16 +1,11 @@
--- Counts by site, and the rows that are made of them.
-use Rattle.std.specs.Prelude.{◌≡◌, ◌≤◌, ◌<◌, ◌+◌, ◌^◌, ℕ, zero, suc, cond, nat_lt, List, Option, Some, None, length, slice_index, slice_index_or, count_by, All}
-use Rattle.std.specs.List.{position, sum_by}
+-- Counts of races by site.
+use Rattle.std.specs.Prelude.{◌≡◌, ◌≤◌, ◌<◌, ◌+◌, ◌^◌, ℕ, zero, suc, List, length, slice_index, count_by}
 use Rattle.er_event.specs.declared.steps.Kind.TheVariants as kind
 use Rattle.er_report.specs.declared.report.Line.{Line}
-use Rattle.er_report.specs.declared.report.Line.TheVariants.{Race, Reused, Refused, Shown}
-use Rattle.er_sites.specs.Table.{is_at, races_at, races_in, IsOwnCount}
-pub use Rattle.er_report.specs.Names.{HasNames}
 pub use Rattle.er_report.specs.declared.report.Line.{Line as LineOf}
+use Rattle.er_report.specs.declared.report.Line.TheVariants.{Race, Reused, Refused, Shown}
 pub use Rattle.er_sites.specs.Table.{reads_at, writes_at, reuses_at}
 use Rattle.er_sites.specs.declared.counts.Counts.{Counts}
-use Rattle.er_sites.specs.declared.row.SiteRow.{SiteRow}
-use Rattle.er_trace.specs.Names.{NameTable}
 
 -- the counts are those of the races of the lines, and their lists are no longer than there are sites
 pub record AreCounts (lines : List Line) (counts : Counts) : Type 0 where
@@ -35,17 +30,3 @@ count_like counts (Reused number thread range zero held explained) = 0
 count_like counts (Reused number thread range (suc site) held explained) = slice_index counts.reuses.items (suc site)
 count_like counts (Refused number step refusal) = 0
 count_like counts (Shown number word state) = 0
-
--- the first place, or the other where there is no first
-abbrev pub or_first : Option ℕ → Option ℕ → Option ℕ
-or_first None other = other
-or_first (Some place) other = Some place
-
--- each site has the place of its first race
-abbrev pub AreExamples : List Line → List (Option ℕ) → Type 0
-AreExamples lines examples = (s : ℕ) → slice_index_or examples s None ≡ position (is_at s) lines
-
--- the rows are those of the sites below this one
-pub record HasRowsBelow (names : NameTable) (lines : List Line) (rows : List SiteRow) (site : ℕ) : Type 0 where
-  pub own : All (IsOwnCount names lines) rows
-  pub each : (q : ℕ) → sum_by (races_in q) rows ≡ cond (nat_lt q site) (races_at lines q) 0
