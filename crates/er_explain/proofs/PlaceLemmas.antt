@@ -323,7 +323,6 @@ pub record AreEmptiedFrom {A : Type 0} (ps : List ℕ) (books : List (Book A)) (
   pub inside : (i : ℕ) → is_between lo hi i ≡ true → (number_at left i < number) ⊎ (book_of left fewer i ≡ Untouched)
 
 module _ {A : Type 0} (ps : List ℕ) (books : List (Book A)) (lo hi : ℕ) where
-
   module _ (left : List ℕ) (fewer : List (Book A)) (before number : ℕ) (next : number + 1 ≡ before) (so_far : AreEmptiedFrom ps books left fewer lo hi before) where
     -- a number of another place
     lower : (i : ℕ) → place_at left number ≢ i → number_at left i < before → number_at left i < number

@@ -98,4 +98,3 @@ pub head_read : (names : NameTable) (line : LineView) → line_number line < 2 ^
 head_read names (RacedView race) small = place_read race.line _ small
 head_read names (RefusedView number step refusal) small = place_read number _ small
 head_read names (ShownView number word state) small = place_read number _ small
-
