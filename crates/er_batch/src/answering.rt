@@ -16,17 +16,15 @@ ghost use Rattle.er_trace.specs.Trace.{Recording};
 
 use er_event::{Event, Lockset, NoRoom, Refusal, Reply, Site, Step};
 use er_journal::Stopped;
-use er_replay::{Brief, Machine, no_room};
+use er_replay::{Brief, OwnMachine, no_room};
 use er_report::{ReportBuilder, view_of};
 use er_trace::{Names, Trace};
 use std::alloc::AllocError;
-use std::sync::Wait;
 
 /// Answers the steps of a batch and adds them to the report, and says where the run has stopped. Once it has stopped nothing is added.
 /// Another analysis of the same batches can be made beside it.
-pub fn answer_batch<R: Wait>(
-    rt: &R,
-    machine: &mut Machine<'_>,
+pub fn answer_batch(
+    machine: &mut OwnMachine,
     trace: &Trace,
     builder: &mut ReportBuilder<'_>,
     stop: Option<(u64, NoRoom)>,
@@ -43,7 +41,7 @@ pub fn answer_batch<R: Wait>(
     if stop.is_some() {
         return Ok(stop);
     }
-    Ok(match answer_steps(rt, machine, trace, builder)? {
+    Ok(match answer_steps(machine, trace, builder)? {
         Some(Stopped { at, cause }) => Some((lines[at as usize], cause)),
         None => None,
     })
@@ -103,9 +101,8 @@ pub(crate) fn add_behind(
 
 // Answers each step and adds it to the report, up to the first that finds no room. Steps without a line are counted, and added before the
 // next step with one. If there are more of them than can be counted, that is reported as a want of memory.
-fn answer_steps<R: Wait>(
-    rt: &R,
-    machine: &mut Machine<'_>,
+fn answer_steps(
+    machine: &mut OwnMachine,
     trace: &Trace,
     builder: &mut ReportBuilder<'_>,
 ) -> Result<Option<Stopped>, AllocError>
@@ -124,7 +121,7 @@ fn answer_steps<R: Wait>(
     let mut plain = 0;
     for (k, step) in steps.iter().enumerate() {
         machine.look_ahead(steps, k);
-        let (brief, changed) = machine.take(rt, *step);
+        let (brief, changed) = machine.take(&(), *step);
         if says_nothing(explains, step.event, brief, changed) {
             plain += 1;
         } else {

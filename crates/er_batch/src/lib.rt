@@ -9,7 +9,7 @@
 //! (`answered`), and a fault is the text's first (`fault`).
 //!
 //! ```text
-//! let lockset = LocksetAnalyst::new(alloc, &table, &rules, false, NameKeys::KNOWN)?;
+//! let lockset = LocksetAnalyst::new(alloc, &rules, &Options::usual())?;
 //! let found = analyse(&rt, alloc, &mut reader, &ByText, &Options::usual(), 1, lockset, &mut Unwatched)?;
 //! let report = found.analyst.finish();
 //! ```

@@ -6,14 +6,13 @@ ghost use Rattle.er_report.specs.Report.{report_of, told};
 ghost use Rattle.er_rules.specs.Rules.{targets_of};
 ghost use Rattle.er_trace.specs.Trace.{Recording, no_steps};
 
-use crate::{Analyst, Answered, answer_batch};
+use crate::{Analyst, Answered, Options, answer_batch};
 use er_event::{NoRoom, Step};
 use er_lines::Touch;
-use er_replay::Machine;
+use er_replay::OwnMachine;
 use er_report::{Report, ReportBuilder};
 use er_rules::Suppressions;
-use er_table::LocksetTable;
-use er_trace::{NameKeys, Trace};
+use er_trace::Trace;
 use std::alloc::{AllocError, Global};
 use std::marker::Model;
 use std::sync::Wait;
@@ -21,13 +20,13 @@ use std::thread::Threads;
 
 /// Answers steps by the lockset rule, up to one that finds no room.
 #[derive(Drop)]
-pub struct LocksetAnalyst<'t, 'r> {
-    machine: Machine<'t>,
+pub struct LocksetAnalyst<'r> {
+    machine: OwnMachine,
     builder: ReportBuilder<'r>,
     stop: Option<(u64, NoRoom)>,
 }
 
-impl<'t, 'r> Model for LocksetAnalyst<'t, 'r> {
+impl<'r> Model for LocksetAnalyst<'r> {
     ghost use Rattle.er_batch.specs.Analysts.{Ran};
 
     ghost Value = { Ran };
@@ -35,18 +34,22 @@ impl<'t, 'r> Model for LocksetAnalyst<'t, 'r> {
     ghost view = { λ a. record { machine = a.machine; builder = a.builder; stop = a.stop } };
 }
 
-impl<'t, 'r> LocksetAnalyst<'t, 'r> {
-    /// Before any step. The sets are kept in this table, these rules take races, and the keys hash the words and their pages.
+impl<'r> LocksetAnalyst<'r> {
+    /// Before any step. These rules take races, and so many sets of locks may be met, whose limit, reasons and keys these options have.
     pub fn new(
         alloc: Global,
-        table: &'t LocksetTable,
         suppressions: &'r Suppressions,
-        explain: bool,
-        keys: NameKeys,
-    ) -> Result<LocksetAnalyst<'t, 'r>, AllocError>
-        ensures stands { (asked : Asked) → asked.rules ≡ targets_of suppressions.now → asked.explain ≡ explain → IfOk result (λ analyst. HasRunFor analyst asked no_steps) }
+        options: &Options,
+    ) -> Result<LocksetAnalyst<'r>, AllocError>
+        ensures stands { (asked : Asked) → asked.rules ≡ targets_of suppressions.now → asked.explain ≡ options.now.explain → IfOk result (λ analyst. HasRunFor analyst asked no_steps) }
     {
-        let machine = Machine::keyed(alloc, table, keys)?;
+        let Options {
+            explain,
+            keys,
+            max_sets,
+            ..
+        } = *options;
+        let machine = OwnMachine::keyed(alloc, max_sets, keys)?;
         let builder = ReportBuilder::explaining_keyed(alloc, suppressions, explain, keys)?;
         Ok(LocksetAnalyst {
             machine,
@@ -72,7 +75,7 @@ impl<'t, 'r> LocksetAnalyst<'t, 'r> {
     }
 }
 
-impl<'t, 'r> Analyst for LocksetAnalyst<'t, 'r> {
+impl<'r> Analyst for LocksetAnalyst<'r> {
     ghost use Rattle.er_batch.specs.Analysts.{HasRunFor};
     ghost use Rattle.er_report.specs.Reports.{asks_locks};
 
@@ -97,11 +100,11 @@ impl<'t, 'r> Analyst for LocksetAnalyst<'t, 'r> {
 
     fn answer<R: Threads + Wait + Sync>(
         &mut self,
-        rt: &R,
+        _rt: &R,
         trace: &Trace,
         _touches: &[Touch],
     ) -> Answered {
-        self.stop = answer_batch(rt, &mut self.machine, trace, &mut self.builder, self.stop)?;
+        self.stop = answer_batch(&mut self.machine, trace, &mut self.builder, self.stop)?;
         Ok(())
     }
 

@@ -35,7 +35,7 @@ pub struct Options {
 }
 
 impl Options {
-    /// The most sets of locks that a table keeps.
+    /// The most sets of locks that a table or a machine keeps.
     pub const MOST_SETS: u32 = 1_048_576;
 
     /// The most bytes that a text may have, 2^62.

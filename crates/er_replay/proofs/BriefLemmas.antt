@@ -1,5 +1,5 @@
 -- An answer in brief, and the whole one that is made of it.
-use Rattle.std.proofs.Common.{◌≡◌, ◌⊎◌, ℕ, true, false, Result, Ok, Err, IfErr, IsFalse, IsOk, IsTrue, refl, ap, sym, ◌∙◌, ⊎_elim}
+use Rattle.std.proofs.Common.{◌≡◌, ◌⊎◌, ℕ, false, Result, Ok, Err, IfErr, IsFalse, IsOk, IsTrue, refl, ap, sym, ◌∙◌, ⊎_elim}
 use Rattle.er_event.specs.declared.refusals.Refusal.{Refusal}
 use Rattle.er_event.specs.declared.refusals.Refusal.TheVariants.{OutOfMemory, TableFull}
 use Rattle.er_event.specs.declared.steps.Event.{Event}

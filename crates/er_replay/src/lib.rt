@@ -15,6 +15,8 @@
 //! and leaves the words. Such a machine may stand for no list. So `step` also says what it answers and changes by the machine's own
 //! holdings and states (`answered`, `holdings`, `states`).
 //!
+//! An [`OwnMachine`] has its sets of locks for itself, and takes no table: where no other machine meets the same sets, each set is kept once.
+//!
 //! [`Threads`] has the threads' holdings alone, for a machine of another analysis.
 //!
 //! [`Machine::take`] takes a step as `step` does, but answers it by one byte, of which [`Machine::in_full`] makes the whole answer where one is wanted
@@ -29,7 +31,7 @@
 //! ```
 #![tactic(auto)]
 
-pub use machine::{Brief, Machine};
+pub use machine::{Brief, Machine, MachineIn, OwnMachine};
 pub use runs::{no_room, run};
 pub use threads::Threads;
 

@@ -1,5 +1,5 @@
 //! The machine: every thread's holdings and every word's state.
-ghost use Rattle.std.specs.Prelude.{◌≡◌, ◌⊎◌, ◌<◌, ◌++◌, ◌∷◌, [], ◌&&◌, ℕ, Bool, cond, true, false, List, IsTrue, IsFalse, IsOk, IsErr, IfOk, IfErr, IsErrOf, OnOk, OnErr, Ok, Err, None, Some};
+ghost use Rattle.std.specs.Prelude.{◌≡◌, ◌⊎◌, ◌<◌, ◌≤◌, ◌++◌, ◌∷◌, [], ◌&&◌, ℕ, Bool, cond, true, false, List, IsTrue, IsFalse, IsOk, IsErr, IfOk, IfErr, IsErrOf, OnOk, OnErr, Ok, Err, None, Some};
 ghost use Rattle.er_event.specs.declared.steps.Event.{Event as Events};
 ghost use Rattle.er_event.specs.declared.steps.Step.{Step as Steps};
 ghost use Rattle.er_event.specs.declared.steps.WordState.{WordState as WordStates};
@@ -12,16 +12,16 @@ ghost use Rattle.er_journal.specs.AnswerList.{is_state};
 ghost use Rattle.er_model.specs.Events.{is_show};
 ghost use Rattle.er_replay.specs.Wants.{is_access, asks_by, may_want, wants_memory};
 ghost use Rattle.er_shadow.specs.Replies.{reply_if};
+ghost use Rattle.er_table.specs.Sets.{most_sets};
 
 use crate::threads::Threads;
 use er_event::{Event, Kind, Refusal, Reply, Step, ThreadId, Word, WordState};
 use er_held::Held;
 use er_keys::HashKeys;
-use er_shadow::ShadowMap;
-use er_table::LocksetTable;
+use er_shadow::{OwnWords, ShadowMap, Words};
+use er_table::{Grow, LocksetTable, Owned, Shared, Store};
 use std::alloc::{AllocError, Global};
 use std::marker::Model;
-use std::sync::Wait;
 
 /// What an accepted step is answered, in one byte: a [`Reply`] has room for the state that a show finds.
 #[derive(Clone, Copy, Debug, PartialEq, Eq)]
@@ -40,12 +40,18 @@ pub enum Brief {
 
 /// Each thread's holdings and each word's state.
 #[derive(Drop)]
-pub struct Machine<'t> {
+pub struct MachineIn<S: Store> {
     threads: Threads,
-    words: ShadowMap<'t>,
+    words: Words<S>,
 }
 
-impl<'t> Model for Machine<'t> {
+/// A machine that shares its sets of locks by a table, which may make it wait.
+pub type Machine<'t> = MachineIn<Shared<'t>>;
+
+/// A machine that has its sets of locks for itself, and waits for nobody.
+pub type OwnMachine = MachineIn<Owned>;
+
+impl<S: Store> Model for MachineIn<S> {
     ghost use Rattle.er_replay.specs.Standing.{Replayed};
 
     ghost Value = { Replayed };
@@ -53,8 +59,8 @@ impl<'t> Model for Machine<'t> {
     ghost view = { λ m. record { threads = m.threads; words = m.words } };
 }
 
-impl<'t> Machine<'t> {
-    ghost use Rattle.er_replay.specs.Standing.{holding, states, state_shown, in_full, Stands, found_no_room};
+impl<'t> MachineIn<Shared<'t>> {
+    ghost use Rattle.er_replay.specs.Standing.{Stands};
 
     /// A machine that has taken no step. The sets of locks that its words need go into the table. Whoever chooses the pages that are accessed,
     /// or the threads that take locks, can make it slow: see [`keyed`](Machine::keyed).
@@ -72,13 +78,40 @@ impl<'t> Machine<'t> {
     ) -> Result<Machine<'t>, AllocError>
         ensures { IfOk result (λ machine. Stands machine []) }
     {
-        let threads = Threads::new(alloc, keys);
-        let words = ShadowMap::keyed(alloc, table, keys)?;
-        Ok(Machine { threads, words })
+        Ok(MachineIn::over(alloc, ShadowMap::keyed(alloc, table, keys)?, keys))
+    }
+}
+
+impl MachineIn<Owned> {
+    ghost use Rattle.er_replay.specs.Standing.{Stands};
+
+    /// A machine that has taken no step, whose words may need `max_sets` sets of locks. It finds each page, thread and set by these keys.
+    pub fn keyed(alloc: Global, max_sets: u32, keys: HashKeys) -> Result<OwnMachine, AllocError>
+        requires few { max_sets ≤ most_sets }
+        ensures { IfOk result (λ machine. Stands machine []) }
+    {
+        Ok(MachineIn::over(alloc, OwnWords::keyed(alloc, max_sets, keys)?, keys))
+    }
+}
+
+impl<S: Store> MachineIn<S> {
+    ghost use Rattle.er_replay.specs.Standing.{holding, states, state_shown, in_full, Stands, found_no_room};
+    ghost use Rattle.er_shadow.specs.Shadows.{states as states_among};
+
+    fn over(alloc: Global, words: Words<S>, keys: HashKeys) -> MachineIn<S>
+        requires virgin { (w : ℕ) → states_among words w ≡ WordStates.Virgin }
+        ensures { Stands result [] }
+    {
+        MachineIn {
+            threads: Threads::new(alloc, keys),
+            words,
+        }
     }
 
     /// Takes one step and says what it is answered.
-    pub fn step<R: Wait>(&mut self, rt: &R, step: Step) -> Result<Reply, Refusal>
+    pub fn step<R>(&mut self, rt: &R, step: Step) -> Result<Reply, Refusal>
+    where
+        S: Grow<R>,
         ensures answer { (past : List Steps) → Stands self.old past → IsFalse (found_no_room result) → result ≡ answer_next past step }
         ensures goes_on { (past : List Steps) → Stands self.old past → IsFalse (found_no_room result) → Stands self.new (past ++ step ∷ []) }
 
@@ -111,7 +144,9 @@ impl<'t> Machine<'t> {
     /// at any other step.
     // Two loops take steps. A call at each step would add 3 % to a replay.
     #[inline(always)]
-    pub fn take<R: Wait>(&mut self, rt: &R, step: Step) -> (Result<Brief, Refusal>, bool)
+    pub fn take<R>(&mut self, rt: &R, step: Step) -> (Result<Brief, Refusal>, bool)
+    where
+        S: Grow<R>,
         ensures answer { (past : List Steps) → Stands self.old past → IsFalse (found_no_room result.0) → in_full (states self.new) step.event result.0 ≡ answer_next past step }
         ensures goes_on { (past : List Steps) → Stands self.old past → IsFalse (found_no_room result.0) → Stands self.new (past ++ step ∷ []) }
         ensures unchanged { (past : List Steps) → Stands self.old past → IsFalse (found_no_room result.0) → result.1 ≡ false → (w : ℕ) → state_end (past ++ step ∷ []) w ≡ state_end past w }
@@ -179,7 +214,9 @@ impl<'t> Machine<'t> {
 
     // What a step does, by the machine's own holdings and states. Split for the prover.
     #[inline(always)]
-    fn follow<R: Wait>(&mut self, rt: &R, step: Step) -> (Result<Brief, Refusal>, bool)
+    fn follow<R>(&mut self, rt: &R, step: Step) -> (Result<Brief, Refusal>, bool)
+    where
+        S: Grow<R>,
         ensures answer { IsFalse (found_no_room result.0) → in_full (states self.new) step.event result.0 ≡ answered (holding self.old step.thread) (states self.old) step }
         ensures holdings { IsFalse (found_no_room result.0) → (t : ℕ) → holding self.new t ≡ after_step (holding self.old t) t step }
         ensures states { IsFalse (found_no_room result.0) → (w : ℕ) → states self.new w ≡ state_after (holding self.old step.thread) (states self.old w) w step }
@@ -227,13 +264,15 @@ impl<'t> Machine<'t> {
 
     // An access, which isn't counted while its thread ignores, and whether it changed its word.
     #[inline(always)]
-    fn access_noting<R: Wait>(
+    fn access_noting<R>(
         &mut self,
         rt: &R,
         thread: ThreadId,
         kind: Kind,
         word: Word,
     ) -> Result<(Brief, bool), Refusal>
+    where
+        S: Grow<R>,
         ensures reply { IfOk result (λ answer. (now : ℕ → WordStates) (event : Events) → in_full now event (Ok answer.0) ≡ Ok (replied (holding self.old thread) (states self.old) thread (Event.Access kind word 0))) }
         ensures ok { OnOk result ((w : ℕ) → states self.new w ≡ moved (states self.old w) w (marked (holding self.old thread) thread (Event.Access kind word 0))) }
         ensures same { IfOk result (λ answer. answer.1 ≡ false → (w : ℕ) → states self.new w ≡ states self.old w) }

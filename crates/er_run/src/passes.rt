@@ -32,17 +32,13 @@ use std::sync::Wait;
 use std::thread::Threads;
 
 /// What answers the steps of a request: each rule that is asked for, and what looks for damage.
-type Analysts<'t, 'r> = Pair<
-    Pair<Option<LocksetAnalyst<'t, 'r>>, Option<OrderAnalyst<'r>>>,
-    Inspection,
->;
+type Analysts<'r> = Pair<Pair<Option<LocksetAnalyst<'r>>, Option<OrderAnalyst<'r>>>, Inspection>;
 
-/// The report by the lockset rule of a replay by several workers, over this table. A quarter of them answer while the others read, since of several that
-/// answer each goes over all steps.
+/// The report by the lockset rule of a replay by several workers, which share their sets of locks by a table. A quarter of them answer while the others
+/// read, since of several that answer each goes over all steps.
 pub(crate) fn report_by_crew<R: Threads + Wait + Sync, D: Read, S: Shortcut<D>, V: Watch>(
     rt: &R,
     alloc: Global,
-    table: &LocksetTable,
     reader: &mut Device<D>,
     shortcut: &S,
     suppressions: &Suppressions,
@@ -55,7 +51,8 @@ pub(crate) fn report_by_crew<R: Threads + Wait + Sync, D: Read, S: Shortcut<D>, 
 {
     let answering = (options.workers / 4).max(1);
     let readers = (options.workers - answering).max(1);
-    let crew = CrewAnalyst::new(rt, alloc, table, suppressions, options, answering)?;
+    let table = LocksetTable::keyed(alloc, options.max_sets, options.keys)?;
+    let crew = CrewAnalyst::new(rt, alloc, &table, suppressions, options, answering)?;
     let inspection = Inspection::new(alloc, looks_for_damage(options));
     let all = Pair {
         first: crew,
@@ -109,11 +106,10 @@ fn end_crew(
     }
 }
 
-/// The reports of a replay by one worker that forgets the steps, with reasons if they are asked for, over this table.
+/// The reports of a replay by one worker that forgets the steps, with reasons if they are asked for.
 pub(crate) fn reports_by_one<R: Threads + Wait + Sync, D: Read, S: Shortcut<D>, V: Watch>(
     rt: &R,
     alloc: Global,
-    table: &LocksetTable,
     reader: &mut Device<D>,
     shortcut: &S,
     suppressions: &Suppressions,
@@ -126,7 +122,7 @@ pub(crate) fn reports_by_one<R: Threads + Wait + Sync, D: Read, S: Shortcut<D>, 
     ensures alone { is_unstopped options.now.part analysis ≡ false → IfErr result IsOfReading }
     ensures one { asks_order analysis ≡ false → IfErr result IsOfOneWorker }
 {
-    let all = analysts_of(alloc, table, suppressions, options, analysis)?;
+    let all = analysts_of(alloc, suppressions, options, analysis)?;
     let readers = options.workers;
     match analyse(rt, alloc, reader, shortcut, options, readers, all, watcher) {
         Ok(found) => end(found, options),
@@ -142,17 +138,16 @@ fn looks_for_damage(options: &Options) -> bool
 }
 
 // What answers the steps of such a request, before any step.
-fn analysts_of<'t, 'r>(
+fn analysts_of<'r>(
     alloc: Global,
-    table: &'t LocksetTable,
     suppressions: &'r Suppressions,
     options: &Options,
     analysis: Analysis,
-) -> Result<Analysts<'t, 'r>, AllocError>
+) -> Result<Analysts<'r>, AllocError>
     ensures stands { (asked : Asked) → asked.analysis ≡ analysis → asked.rules ≡ targets_of suppressions.now → asked.explain ≡ options.now.explain → asked.strict ≡ looks_for_damage options.now
         → IfOk result (λ all. AllStand all.first.first all.first.second all.second.inspector asked no_steps) }
 {
-    let lockset = lockset_if(alloc, table, suppressions, options, analysis)?;
+    let lockset = lockset_if(alloc, suppressions, options, analysis)?;
     let ordering = ordering_if(alloc, suppressions, options, analysis)?;
     Ok(Pair {
         first: Pair {
@@ -164,21 +159,19 @@ fn analysts_of<'t, 'r>(
 }
 
 // The lockset rule, if it is asked for.
-fn lockset_if<'t, 'r>(
+fn lockset_if<'r>(
     alloc: Global,
-    table: &'t LocksetTable,
     suppressions: &'r Suppressions,
     options: &Options,
     analysis: Analysis,
-) -> Result<Option<LocksetAnalyst<'t, 'r>>, AllocError>
+) -> Result<Option<LocksetAnalyst<'r>>, AllocError>
     ensures stands { (asked : Asked) → asked.analysis ≡ analysis → asked.rules ≡ targets_of suppressions.now → asked.explain ≡ options.now.explain
         → IfOk result (λ lockset. StandsIf (λ (one : Ran). HasRunFor one asked no_steps) (asks_locks asked.analysis) lockset) }
 {
     if !analysis.asks_locks() {
         return Ok(None);
     }
-    let lockset = LocksetAnalyst::new(alloc, table, suppressions, options.explain, options.keys)?;
-    Ok(Some(lockset))
+    Ok(Some(LocksetAnalyst::new(alloc, suppressions, options)?))
 }
 
 // Happens-before, if it is asked for.
@@ -199,7 +192,7 @@ fn ordering_if<'r>(
 }
 
 // The reports of the text that was read, or its damage, if the replay is strict and there is any, or why an analysis has stopped.
-fn end(found: Analysed<Analysts<'_, '_>>, options: &Options) -> Result<ReplayedTrace, RunFault>
+fn end(found: Analysed<Analysts<'_>>, options: &Options) -> Result<ReplayedTrace, RunFault>
     ensures outcome { (asked : Asked) (told : Option (List ℕ)) (limit : ℕ) → (asked.strict ≡ true → options.now.part ≡ None) → IsAnswered (λ r. AllStand found.entry.analyst.first.first found.entry.analyst.first.second found.entry.analyst.second.inspector asked r × HasCounted options.now.part found.entry.of_pages r.steps) options.now.part told limit found.entry.trace.names
         → IfSome told (λ text. IsEndingOf text found.entry.ending) → IsOutcomeOf options.now.part told limit asked result }
     ensures alone { options.now.part ≡ None → is_some found.entry.analyst.first.second ≡ false → IfErr result IsOfReading }
@@ -236,7 +229,7 @@ fn end(found: Analysed<Analysts<'_, '_>>, options: &Options) -> Result<ReplayedT
 
 // The reports of the steps that were answered, and whether one of these is an order event, or why they weren't all answered.
 fn reports_of(
-    analysts: Pair<Option<LocksetAnalyst<'_, '_>>, Option<OrderAnalyst<'_>>>,
+    analysts: Pair<Option<LocksetAnalyst<'_>>, Option<OrderAnalyst<'_>>>,
     options: &Options,
 ) -> Result<(Reports, bool), RunFault>
     ensures built { (asked : Asked) (r : Recording) → StandsIf (λ (one : Ran). HasRunFor one asked r) (asks_locks asked.analysis) analysts.entry.first → StandsIf (λ (one : OrderRan). HasOrdered one asked r) (asks_order asked.analysis) analysts.entry.second
@@ -300,7 +293,7 @@ fn order_report(ordering: Option<OrderAnalyst<'_>>) -> Result<(Option<Report>, b
 
 // The report by the lockset rule, if it is asked for. Of a part, or beside another report, a run that has stopped is a fault.
 fn run_report(
-    lockset: Option<LocksetAnalyst<'_, '_>>,
+    lockset: Option<LocksetAnalyst<'_>>,
     unstopped: bool,
 ) -> Result<Option<Report>, RunFault>
     ensures built { (part : Option PartView) (asked : Asked) (r : Recording) → is_unstopped part asked.analysis ≡ unstopped → StandsIf (λ (one : Ran). HasRunFor one asked r) (asks_locks asked.analysis) lockset.entry

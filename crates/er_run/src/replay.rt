@@ -22,7 +22,6 @@ use er_lines::{ByText, Shortcut};
 use er_print::write_report;
 use er_report::{Analysis, Report, Reports};
 use er_rules::Suppressions;
-use er_table::LocksetTable;
 use std::alloc::Global;
 use std::io::{Read, Write};
 use std::sync::Wait;
@@ -145,15 +144,13 @@ where
     ensures alone { options.now.workers ≡ 1 → options.now.part ≡ None → analysis ≡ Lockset → IfErr result IsOfReading }
     ensures one { options.now.workers ≡ 1 → analysis ≡ Lockset → IfErr result IsOfOneWorker }
 {
-    let table = LocksetTable::keyed(alloc, options.max_sets, options.keys)?;
     let found = if options.workers > 1 && !analysis.asks_order() {
         let rules = suppressions;
-        report_by_crew(rt, alloc, &table, reader, shortcut, rules, options, watcher)
+        report_by_crew(rt, alloc, reader, shortcut, rules, options, watcher)
     } else {
         reports_by_one(
             rt,
             alloc,
-            &table,
             reader,
             shortcut,
             suppressions,
@@ -162,7 +159,6 @@ where
             watcher,
         )
     };
-    drop(table);
     watcher.end();
     found
 }

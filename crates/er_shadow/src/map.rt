@@ -94,7 +94,15 @@ impl Words<Owned> {
         requires few { max_sets ≤ most_sets }
         ensures { IfOk result (λ map. (w : ℕ) → states map w ≡ Virgin) }
     {
-        Words::over(alloc, OwnKnown::new(alloc, max_sets), HashKeys::KNOWN)
+        OwnWords::keyed(alloc, max_sets, HashKeys::KNOWN)
+    }
+
+    /// A map whose words are all virgin, and whose pages and sets of locks are hashed by these keys. It takes `max_sets` sets.
+    pub fn keyed(alloc: Global, max_sets: u32, keys: HashKeys) -> Result<OwnWords, AllocError>
+        requires few { max_sets ≤ most_sets }
+        ensures { IfOk result (λ map. (w : ℕ) → states map w ≡ Virgin) }
+    {
+        Words::over(alloc, OwnKnown::keyed(alloc, max_sets, keys), keys)
     }
 }
 

@@ -68,14 +68,14 @@ impl<'t> KnownIn<Shared<'t>> {
 }
 
 impl KnownIn<Owned> {
-    /// The empty set alone has a number yet, and `max_sets` others may get one. Whoever chooses the sets can make it slow.
-    pub fn new(alloc: Global, max_sets: u32) -> OwnKnown
+    /// The empty set alone has a number yet, and `max_sets` others may get one. The sets are hashed by these keys.
+    pub fn keyed(alloc: Global, max_sets: u32, keys: HashKeys) -> OwnKnown
         requires few { max_sets ≤ most_sets }
         ensures { result ≡ [] ∷ [] }
     {
         KnownIn {
-            numbers: Numbers::new(alloc, Owned::new(alloc, max_sets)),
-            meets: HashMap::with_hasher(alloc, NumberHasher::new(HashKeys::KNOWN)),
+            numbers: Numbers::new(alloc, Owned::keyed(alloc, max_sets, keys)),
+            meets: HashMap::with_hasher(alloc, NumberHasher::new(keys)),
         }
     }
 }

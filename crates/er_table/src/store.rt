@@ -115,12 +115,12 @@ pub struct Owned {
 }
 
 impl Owned {
-    pub(crate) fn new(alloc: Global, max_sets: u32) -> Owned
+    pub(crate) fn keyed(alloc: Global, max_sets: u32, keys: HashKeys) -> Owned
         ensures none { result.sets.keys ≡ [] }
         ensures limit { result.max_sets ≡ max_sets }
     {
         Owned {
-            sets: IndexSet::with_hasher(alloc, NumberHasher::new(HashKeys::KNOWN)),
+            sets: IndexSet::with_hasher(alloc, NumberHasher::new(keys)),
             max_sets,
         }
     }

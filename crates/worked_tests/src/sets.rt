@@ -8,13 +8,13 @@ use er_batch::answer_batch;
 use er_device::Device;
 use er_event::{Kind, LockId, Lockset, ThreadId, Word};
 use er_gate::{Gate, PairGate};
-use er_replay::Machine;
+use er_replay::OwnMachine;
 use er_report::ReportBuilder;
 use er_rules::Suppressions;
 use er_shadow::OwnWords;
 use er_table::{Book, LocksetTable, OwnKnown, Sets};
 use er_text::read_trace;
-use er_trace::Trace;
+use er_trace::{NameKeys, Trace};
 use std::test::*;
 use std::thread;
 
@@ -89,7 +89,7 @@ fn each_vector_is_pushed_to_once(rt: HostRuntime) {
 
 // The number that an owner with room for two sets of its own gives the set of each of these locks alone, and 0 where it gives none.
 fn own_numbers<R: Host>(rt: &R, locks: &[u32]) -> std::vec::Vec<u32> {
-    let mut known = OwnKnown::new(rt.alloc(), 2);
+    let mut known = OwnKnown::keyed(rt.alloc(), 2, NameKeys::KNOWN);
     let mut numbers = std::vec::Vec::new(rt.alloc());
     for lock in locks {
         let number = known.number_of(&(), &set_of(rt, *lock)).unwrap_or(0);
@@ -136,29 +136,28 @@ fn words_over_own_sets_find_a_race(rt: HostRuntime) {
 }
 
 // Whether there is room for the steps of a trace in a report that has so many before them, and how many steps and races it then has.
-fn counted<R: Host>(rt: &R, table: &LocksetTable, trace: &Trace, before: u64) -> (bool, u64, u64) {
+fn counted<R: Host>(rt: &R, trace: &Trace, before: u64) -> (bool, u64, u64) {
     let rules = Suppressions::new(rt.alloc());
-    let mut machine = Machine::new(rt.alloc(), table).expect(rt, "memory");
+    let mut machine = OwnMachine::keyed(rt.alloc(), 1, NameKeys::KNOWN).expect(rt, "memory");
     let mut builder = ReportBuilder::new(rt.alloc(), &rules).expect(rt, "memory");
     let mut has_room = before <= u64::MAX - builder.steps();
     if has_room {
         builder.add_plain(before);
-        has_room = answer_batch(rt, &mut machine, trace, &mut builder, None).is_ok();
+        has_room = answer_batch(&mut machine, trace, &mut builder, None).is_ok();
     }
     (has_room, builder.steps(), builder.races())
 }
 
 #[test]
 fn more_steps_than_32_bits_number(rt: HostRuntime) {
-    let table = table_of_hundred(&rt);
     let mut text = Device::new(b"eraser trace 1\nt1 write 0x1000\nt2 write 0x1000\n".as_slice());
     let trace = read_trace(rt.alloc(), &mut text, 100).expect(&rt, "a trace");
     for before in [0, (1 << 32) - 3, (1 << 32) - 2, 1 << 33, u64::MAX - 2] {
-        let found = counted(&rt, &table, &trace, before);
+        let found = counted(&rt, &trace, before);
         assert_eq!(rt; found, (true, before + 2, 1), "behind {before}");
     }
     for before in [u64::MAX - 1, u64::MAX] {
-        let (has_room, steps, _) = counted(&rt, &table, &trace, before);
+        let (has_room, steps, _) = counted(&rt, &trace, before);
         assert_eq!(rt; (has_room, steps), (false, before), "behind {before}");
     }
 }

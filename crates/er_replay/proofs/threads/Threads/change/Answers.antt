@@ -1,5 +1,4 @@
-use Rattle.std.proofs.Common.{◌≡◌, ℕ, nat_eq, cond, Err, Some, IsTrue, slice_get, ap, ◌∙◌, sym}
-use Rattle.er_event.specs.Lockset.{has}
+use Rattle.std.proofs.Common.{◌≡◌, ℕ, nat_eq, cond, Err, Some, slice_get, ap, ◌∙◌, sym}
 use Rattle.std.specs.Map.{lookup}
 use Rattle.indexmap.specs.IndexMap.{keys, values, with_value_at}
 use Rattle.er_held.specs.ThreadLocks.{holding_among}

@@ -1,8 +1,8 @@
 -- What the step's brief answer says, the whole one says, but for a show that finds no memory, which changes nothing.
-use Rattle.std.proofs.Common.{◌∙◌, sym}
+use Rattle.std.proofs.Common.{◌∙◌}
 use Rattle.er_replay.specs.Standing.{holding, states}
 use Rattle.er_replay.proofs.BriefLemmas.{answers, brief-room, full-table, if_err, refused, show-no-access, shows, show-wants, whole}
-use Rattle.er_replay.proofs.machine.Machine.step.Goals as goal
+use Rattle.er_replay.proofs.machine.MachineIn.step.Goals as goal
 
 pub returns-clause-answer : goal.returns-clause-answer
 returns-clause-answer g c past stands room =

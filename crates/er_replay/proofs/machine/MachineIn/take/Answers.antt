@@ -2,7 +2,7 @@ use Rattle.std.proofs.Common.{◌∙◌, sym}
 use Rattle.er_model.proofs.Prefixes.{stands-answer}
 use Rattle.er_replay.specs.Standing.{holding, states}
 use Rattle.er_replay.proofs.MachineLemmas.{stands-next}
-use Rattle.er_replay.proofs.machine.Machine.take.Goals as goal
+use Rattle.er_replay.proofs.machine.MachineIn.take.Goals as goal
 
 pub returns-clause-answer : goal.returns-clause-answer
 returns-clause-answer g c past stands room =
