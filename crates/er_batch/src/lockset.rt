@@ -43,13 +43,8 @@ impl<'r> LocksetAnalyst<'r> {
     ) -> Result<LocksetAnalyst<'r>, AllocError>
         ensures stands { (asked : Asked) → asked.rules ≡ targets_of suppressions.now → asked.explain ≡ options.now.explain → IfOk result (λ analyst. HasRunFor analyst asked no_steps) }
     {
-        let Options {
-            explain,
-            keys,
-            max_sets,
-            ..
-        } = *options;
-        let machine = OwnMachine::keyed(alloc, max_sets, keys)?;
+        let (explain, keys) = (options.explain, options.keys);
+        let machine = OwnMachine::keyed(alloc, options.max_sets, keys)?;
         let builder = ReportBuilder::explaining_keyed(alloc, suppressions, explain, keys)?;
         Ok(LocksetAnalyst {
             machine,

@@ -144,19 +144,12 @@ where
     ensures alone { options.now.workers ≡ 1 → options.now.part ≡ None → analysis ≡ Lockset → IfErr result IsOfReading }
     ensures one { options.now.workers ≡ 1 → analysis ≡ Lockset → IfErr result IsOfOneWorker }
 {
+    let rules = suppressions;
     let found = if options.workers > 1 && !analysis.asks_order() {
-        let rules = suppressions;
         report_by_crew(rt, alloc, reader, shortcut, rules, options, watcher)
     } else {
         reports_by_one(
-            rt,
-            alloc,
-            reader,
-            shortcut,
-            suppressions,
-            options,
-            analysis,
-            watcher,
+            rt, alloc, reader, shortcut, rules, options, analysis, watcher,
         )
     };
     watcher.end();
