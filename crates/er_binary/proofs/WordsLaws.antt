@@ -182,7 +182,7 @@ after_named s kind.Fact n body behind right named = named
 after_named s kind.Lost n body behind right named = named
 after_named s kind.End n body behind right named = named
 
--- a number that had a name has it still, whatever record came
+-- states with the same lists of names have the same names
 pub kept_all : (old new : State) → new.threads ≡ old.threads → new.locks ≡ old.locks → new.places ≡ old.places → (kind : NameKind) (n : ℕ) → names_in new kind n ≡ names_in old kind n
 kept_all old new threads locks places names.Thread n = ap (λ (t : List (List ℕ)). name_at t n) threads
 kept_all old new threads locks places names.Lock n = ap (λ (t : List (List ℕ)). name_at t n) locks

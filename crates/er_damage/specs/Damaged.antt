@@ -10,7 +10,7 @@ use Rattle.er_damage.specs.Damage.{IsRefusedAt, IsHeldTwiceAt, IsFirstLine}
 abbrev pub last_line_if : Bool → List ℕ → Option ℕ
 last_line_if test text = cond test (Some (line_count text)) None
 
--- the damage of a text: the first refused step, the first that doubles a lock, the last line without LF or `end`, the last comment if it says that events are lost
+-- the damage of a text: its first refused step, the first step by which a lock is held twice, its last line if that has no LF or a text 3 has no end, and the last comment if it says that events are lost
 pub record IsDamageOf (text : List ℕ) (limit : ℕ) (damage : Damage) : Type 0 where
   pub recording : Recording
   pub trace : IsTrace text limit recording

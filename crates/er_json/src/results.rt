@@ -6,7 +6,7 @@ ghost use Rattle.er_sites.specs.Counted.{AreCounts};
 
 use crate::document::put_separator;
 use crate::locations::open_location;
-use crate::rows::{Form, put_reasons};
+use crate::rows::{ReasonForm, put_reasons};
 use crate::stacks::put_stacks;
 use er_places::{Legend, Places};
 use er_print::Piece::{Address, Locks, Name, Number, Site, Text, Thread};
@@ -162,7 +162,7 @@ fn put_back(out: &mut Vec<u8>, legend: &Legend, race: &Race<'_>) -> Put
     requires { HasRaceNames legend.now.names.now race.now }
     ensures { OnOk result (out.new.items ≡ out.old.items ++ back_text legend.now.names.now legend.now.places.now race.now) }
 {
-    put_reasons(out, Form::Location, legend, race.explained)?;
+    put_reasons(out, ReasonForm::Location, legend, race.explained)?;
     out.extend_from_slice(b"]")?;
     put_stacks(out, legend.places, race)?;
     put!(out, Style::Json, legend.names;

@@ -16,7 +16,7 @@ use std::alloc::{AllocError, Global};
 
 /// What a reason of a race is written as: an object of a document, or a location of a log.
 #[derive(Clone, Copy, Drop)]
-pub(crate) enum Form {
+pub(crate) enum ReasonForm {
     Object,
     Location,
 }
@@ -74,7 +74,7 @@ fn put_end(out: &mut Vec<u8>, legend: &Legend, race: &Race<'_>) -> Put
     ensures { OnOk result (out.new.items ≡ out.old.items ++ reasons_end legend.now.names.now legend.now.places.now race.now) }
 {
     let places = legend.places;
-    put_reasons(out, Form::Object, legend, race.explained)?;
+    put_reasons(out, ReasonForm::Object, legend, race.explained)?;
     out.extend_from_slice(b"]")?;
     let own = places.of_race(race);
     put_calls(out, places, places.calls_of(own))?;
@@ -84,24 +84,24 @@ fn put_end(out: &mut Vec<u8>, legend: &Legend, race: &Race<'_>) -> Put
 }
 
 /// Puts the accesses that make a race, each in this form.
-pub(crate) fn put_reasons(out: &mut Vec<u8>, of: Form, legend: &Legend, reasons: &[Because]) -> Put
+pub(crate) fn put_reasons(out: &mut Vec<u8>, form: ReasonForm, legend: &Legend, reasons: &[Because]) -> Put
     requires { All (HasReasonNames legend.now.names.now) reasons.now }
-    ensures { OnOk result (out.new.items ≡ out.old.items ++ values_text (reason_in of legend.now.names.now legend.now.places.now) reasons.now) }
+    ensures { OnOk result (out.new.items ≡ out.old.items ++ values_text (reason_in form legend.now.names.now legend.now.places.now) reasons.now) }
 {
     for (place, because) in reasons.iter().enumerate() {
         out.extend_from_slice(comma_before(place))?;
-        put_reason_in(out, of, legend, because)?;
+        put_reason_in(out, form, legend, because)?;
     }
     Ok(())
 }
 
-fn put_reason_in(out: &mut Vec<u8>, of: Form, legend: &Legend, because: &Because) -> Put
+fn put_reason_in(out: &mut Vec<u8>, form: ReasonForm, legend: &Legend, because: &Because) -> Put
     requires { HasReasonNames legend.now.names.now because.now }
-    ensures { OnOk result (out.new.items ≡ out.old.items ++ reason_in of legend.now.names.now legend.now.places.now because.now) }
+    ensures { OnOk result (out.new.items ≡ out.old.items ++ reason_in form legend.now.names.now legend.now.places.now because.now) }
 {
-    match of {
-        Form::Object => put_reason(out, legend, because),
-        Form::Location => locations::put_reason(out, legend, because),
+    match form {
+        ReasonForm::Object => put_reason(out, legend, because),
+        ReasonForm::Location => locations::put_reason(out, legend, because),
     }
 }
 

@@ -51,23 +51,23 @@ pub record ReportView : Type 0 where
 abbrev pub entry_view : Entry → EntryView
 entry_view entry = record { place = entry.place; text = entry.text.now }
 
--- and so the lines that were read so far
+-- what was read so far, with texts in place of slices of memory
 abbrev pub body_view : Body → BodyView
 body_view body = record { entries = map entry_view body.entries.items; counts = body.counts.items; totals = body.totals; last = body.last }
 
--- and what a report says behind its first line
+-- what a report says behind its first line, seen so
 abbrev pub content_view : Content → ContentView
 content_view content = record { entries = map entry_view content.entries.items; counts = content.counts.items; totals = content.totals }
 
--- and what the first line says
+-- what a first line says, seen so
 abbrev pub heading_view : Heading → HeadingView
 heading_view heading = record { part = heading.part; parts = heading.parts; about = heading.about.now }
 
--- and the whole report
+-- the whole report, seen so
 abbrev pub report_view : PartReport → ReportView
 report_view part = record { heading = heading_view part.heading; content = content_view part.content }
 
--- and what a first line says, if it names a part
+-- what a first line says, if it names a part
 abbrev pub seen_heading : Option Heading → Option HeadingView
 seen_heading None = None
 seen_heading (Some heading) = Some (heading_view heading)

@@ -73,12 +73,12 @@ pub record HasPlainNames (names : NameTable) : Type 0 where
 abbrev pub Fits : ℕ → Type 0
 Fits n = n < 2 ^ 64
 
--- so do the numbers that are printed for what a thread did
+-- the numbers that are printed for what a thread did fit in 64 bits
 abbrev pub DeedFits : Deed → Type 0
 DeedFits (deed.Access kind word) = Unit {0}
 DeedFits (deed.Reuse range) = Fits (bytes_between range.lo range.hi)
 
--- and for what an access has to do with a race
+-- the numbers that are printed for what an access has to do with a race fit in 64 bits
 abbrev pub LabelFits : Label → Type 0
 LabelFits label.First = Unit {0}
 LabelFits label.Joined = Unit {0}
@@ -86,11 +86,11 @@ LabelFits label.Write = Unit {0}
 LabelFits (label.Uncovered lock) = Fits lock
 LabelFits label.Unordered = Unit {0}
 
--- and for a reason
+-- the numbers that are printed for a reason fit in 64 bits
 abbrev pub ReasonFits : Because → Type 0
 ReasonFits because = Fits because.line × LabelFits because.label
 
--- and for an event
+-- the numbers that are printed for an event fit in 64 bits
 abbrev pub EventFits : Event → Type 0
 EventFits (Acquire lock mode) = Fits lock
 EventFits (Release lock mode) = Fits lock
@@ -102,14 +102,14 @@ EventFits (Show word) = Unit {0}
 EventFits (Level level) = Unit {0}
 EventFits (Sync sync) = Unit {0}
 
--- and for the state of a word
+-- the numbers that are printed for the state of a word fit in 64 bits
 abbrev pub StateFits : WordState → Type 0
 StateFits Virgin = Unit {0}
 StateFits (Exclusive thread) = Unit {0}
 StateFits (Shared locks) = All Fits locks
 StateFits (SharedModified locks) = All Fits locks
 
--- and for a line
+-- the numbers that are printed for a line fit in 64 bits
 abbrev pub LineFits : LineView → Type 0
 LineFits (RacedView race) = Fits race.line × DeedFits race.deed × All Fits race.held × All ReasonFits race.explained
 LineFits (RefusedView number step refusal) = Fits number × EventFits step.event

@@ -8,7 +8,7 @@ use crate::lines::{Place, ReportLine, Totals, number_behind, report_line};
 use er_lines::line_len;
 use std::alloc::{AllocError, Global};
 
-/// A line of a step, or of a reason, and where it belongs. A reason belongs where the line of a step above it does.
+/// A line of a step, or of a reason, and where it belongs. A reason belongs where the last line of a step above it does.
 #[derive(Clone, Copy)]
 pub struct Entry<'a> {
     pub place: Place,

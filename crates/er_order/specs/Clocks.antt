@@ -49,7 +49,7 @@ gives a (OfThread t) = a.thread == t || starts a.sync t
 gives a (OfReleases l m) = gives_up a.sync l m
 gives a (OfObject x) = signals a.sync x
 
--- what does this puts its thread's knowledge into another clock than the thread's own
+-- by this effect a thread's knowledge goes into another clock than its own
 abbrev pub publishes : Effect → Bool
 publishes (Released lock mode) = true
 publishes (Started thread) = true

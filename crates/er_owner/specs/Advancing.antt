@@ -31,6 +31,6 @@ abbrev pub has_no_candidates : NumberedState → Bool
 has_no_candidates (SharedModified set) = set == 0
 has_no_candidates _ = false
 
--- a race is reported where an access takes the last candidate of a word that was written while shared
+-- a race is reported where a word comes to have been written while shared with no candidate left, and had not been so before
 abbrev pub reports_race : NumberedState → NumberedState → Bool
 reports_race before after = has_no_candidates after && not (has_no_candidates before)

@@ -41,11 +41,11 @@ address_text word = codes "0x" ++ hex_digits 12 (4 * word)
 abbrev pub site_text : NameTable → ℕ → List ℕ
 site_text names site = site_in style.Plain names site
 
--- and a lock
+-- a lock in a text for people
 abbrev pub lock_text : NameTable → ℕ → List ℕ
 lock_text names lock = lock_in style.Plain names lock
 
--- and a set of locks
+-- a set of locks in a text for people
 abbrev pub locks_text : NameTable → List ℕ → List ℕ
 locks_text names locks = locks_in style.Plain names locks
 

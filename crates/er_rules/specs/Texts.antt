@@ -90,14 +90,14 @@ abbrev pub site_kinds : List (List ℕ) → List (Bool × TextKind)
 site_kinds operands =
     (nat_lt (length operands) 1, MissingOperand) ∷ (nat_lt 1 (length operands), ExtraOperand) ∷ (not (is_site_name (word_at 0 operands)), BadName) ∷ []
 
--- and of those behind `words`
+-- the faults of the words behind `words`, in their order
 abbrev pub run_kinds : List (List ℕ) → List (Bool × TextKind)
 run_kinds operands =
     (nat_lt (length operands) 2, MissingOperand) ∷ (nat_lt 2 (length operands), ExtraOperand)
     ∷ (not (is_number_at 0 operands), BadNumber) ∷ (not (is_number_at 1 operands), BadNumber)
     ∷ (nat_le (2 ^ 48) (number_at 0 operands) || nat_lt (2 ^ 48) (number_at 0 operands + number_at 1 operands), AddressOutOfRange) ∷ []
 
--- and of those behind any other word
+-- the faults of the words behind any other word
 abbrev pub fact_kinds : Option FactKind → List (List ℕ) → List (Bool × TextKind)
 fact_kinds None operands = (true, BadVerb) ∷ []
 fact_kinds (Some kind) operands = site_kinds operands

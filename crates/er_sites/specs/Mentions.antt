@@ -60,7 +60,7 @@ abbrev pub lone_mentions : Mention → PlaceTable → RaceView → ℕ → Deed 
 lone_mentions of table race zero (deed.Reuse range) = race_mentions of table (Some race)
 lone_mentions of table race site did = []
 
--- the same of what may be a race
+-- what a race mentions, if there is one and it is a reuse without a site
 abbrev pub reuse_mentions : Mention → PlaceTable → Option RaceView → List ℕ
 reuse_mentions of table None = []
 reuse_mentions of table (Some race) = lone_mentions of table race race.site race.deed

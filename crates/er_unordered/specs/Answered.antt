@@ -25,7 +25,7 @@ pub record HasAnswered {A : Type 0} (touched : Touched) (tag_of : ℕ → Option
   pub seen : All (HasSiteName r.names) r.sites
   pub one_each : length r.sites ≡ length r.steps
 
--- all of the recording's steps were answered, and reasons were kept, or nothing, as the machine does
+-- all of the recording's steps were answered, by a machine that keeps what reasons want or by one that doesn't
 abbrev pub HasGathered : Touched → Machines → Built → List (List Because) → Recording → Type 0
 HasGathered touched (Plain machine) builder told r = HasAnswered touched no_tag none_told machine builder told r
 HasGathered touched (Telling machine) builder told r = HasAnswered touched line_reason one_told machine builder told r

@@ -120,7 +120,7 @@ pub record AreShown {F : Type 0} (remaining : F → Option (List ℕ)) (replay :
   pub form : IsForm replay.form names table rules excerpts reports body
   pub says : bytes ≡ heading ++ body
 
--- these bytes are the form that is asked for of the reports of the text's trace, or of a part of it, which has at most so many bytes, under these rules, and with the lines of the first races alone if their number is limited
+-- these bytes are the form that is asked for of the reports of a text of at most so many bytes, or of a part of its trace, by this analysis and these rules, with the lines of the first races alone if their number is limited
 pub record IsOutput {F : Type 0} (remaining : F → Option (List ℕ)) (replay : Replay) (text : List ℕ) (touches : Option (List Touch)) (limit : ℕ) (rules : List Target) (bytes : List ℕ) : Type 0 where
   pub names : NameTable
   pub raced : Reports

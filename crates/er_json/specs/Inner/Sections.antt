@@ -5,8 +5,8 @@ pub use Rattle.er_json.specs.Document.{rows_text}
 use Rattle.er_json.specs.Sarif.{reason_location}
 use Rattle.er_json.specs.declared.document.Section.{Section}
 use Rattle.er_json.specs.declared.document.Section.TheVariants as section
-use Rattle.er_json.specs.declared.rows.Form.{Form}
-use Rattle.er_json.specs.declared.rows.Form.TheVariants as form
+use Rattle.er_json.specs.declared.rows.ReasonForm.{ReasonForm}
+use Rattle.er_json.specs.declared.rows.ReasonForm.TheVariants as form
 use Rattle.er_places.specs.Places.{PlaceTable}
 use Rattle.er_report.specs.Lines.{LineView}
 use Rattle.er_report.specs.declared.report.Because.{Because}
@@ -37,6 +37,6 @@ next_text is_first [] = []
 next_text is_first (row ∷ rows) = separator_text is_first ++ row
 
 -- a reason as an object of a document, or as a location of a log
-abbrev pub reason_in : Form → NameTable → PlaceTable → Because → List ℕ
+abbrev pub reason_in : ReasonForm → NameTable → PlaceTable → Because → List ℕ
 reason_in form.Object = reason_text
 reason_in form.Location = reason_location

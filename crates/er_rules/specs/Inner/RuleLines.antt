@@ -112,11 +112,11 @@ rule_view (Fact kind pattern) = AtFact kind pattern.now
 abbrev pub GivesName : Result (Bor (List ℕ)) TextKind → Result (List ℕ) TextKind → Type 0
 GivesName = GivesBy (λ name. name.now)
 
--- and one that reads a run of words
+-- what a call that reads a run of words gives
 abbrev pub GivesRun : Result (Option WordSpan) TextKind → Result (Option Span) TextKind → Type 0
 GivesRun = GivesBy (option_map span_of)
 
--- and one that reads a rule
+-- what a call that reads a rule gives
 abbrev pub GivesRule : Result LineRule TextKind → Result Target TextKind → Type 0
 GivesRule = GivesBy rule_view
 
