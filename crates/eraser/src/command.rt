@@ -11,6 +11,7 @@ ghost use Rattle.er_exit.specs.Writes.{GetsLine, LeavesOutput};
 ghost use Rattle.er_request.specs.Words.{IsUsual, names_hints, names_progress, names_until_fault, prints_input, replays_input};
 ghost use Rattle.er_rules.specs.Rules.{targets_of};
 ghost use Rattle.er_triage.specs.Notes.{AreNotes};
+ghost use Rattle.eraser.specs.Merging.{IsButForPages};
 ghost use Rattle.eraser.specs.Notes.{AddsNotesOn, GetsNotes, GetsTextNotes};
 ghost use Rattle.eraser.specs.Printing.{PrintsTo};
 ghost use Rattle.eraser.specs.Replays.{AreOptionsOf, ComesTo, EndsAs, EndsUsually, FailsAs, IsEndOf, OfTrace, OfTraceFile, UnderRules, headed_part, limit_of};
