@@ -77,8 +77,8 @@ COSTS = {
     "started": (16_000, [[], HAPPENS_BEFORE]),
     "two-signals": (4000, [[], HAPPENS_BEFORE]),
     "some-signals": (4000, [[], HAPPENS_BEFORE]),
-    # Names of 2,000 threads fit into the 4,096 slots of recent names, and those of 8,000 don't. That step comes once, so the shorter text has nearly as many
-    # threads as slots.
+    # Nearly all names of 2,000 threads have one of the 4,096 slots of recent names, two thirds of those of 4,000, and hardly any of 16,000. The step to the hash
+    # comes once and is no growth, so the shorter text has a part of it already.
     "barriers": (4000, [[], HAPPENS_BEFORE]),
     "unequal": (4000, [[], HAPPENS_BEFORE]),
     "in-turn": (8000, [[], HAPPENS_BEFORE]),
