@@ -134,8 +134,7 @@ where
     P: Write,
     requires input { has_failed input.old ≡ false }
     requires output { has_failed output.old ≡ false }
-    ensures same { (replay.new.hints ≡ replay.old.hints) × (replay.new.until_fault ≡ replay.old.until_fault) }
-    ensures rest { IsButForPages replay.old replay.new }
+    ensures same { IsButForPages replay.old replay.new }
     ensures none { replay.old.reports.items ≡ [] → replay.new ≡ replay.old }
     ensures end { IfOk result (IsEndOf replay.new) }
     ensures ends { IfOk result (λ ended. UnderRules replay.new (λ rules. OfTrace R.File.remaining replay.new (I.remaining (inner_of input.old)) (S.touches (inner_of input.old)) (λ text touches limit. EndsAs R.File.remaining replay.new text touches limit rules (O.contents (inner_of output.old)) (O.contents (inner_of output.new)) ended))) }

@@ -82,8 +82,7 @@ pub(crate) fn merge_for<R: Files + AllocGlobal>(
     let texts = texts_of(rt, &replay.reports)?;
     let made = merged_of(rt, replay, &texts);
     drop(texts);
-    let merged = made?;
-    take_merged(replay, merged);
+    take_merged(replay, made?);
     Ok(())
 }
 
@@ -98,12 +97,7 @@ fn take_merged(replay: &mut Replay<'_>, merged: Merged)
     ensures same { IsButForPages replay.old replay.new }
     ensures made { (replay.new.part ≡ Some merged.pages) × (replay.new.counts ≡ Some merged.counts) }
 {
-    let Merged {
-        text,
-        counts,
-        pages,
-    } = merged;
-    drop(text);
+    let Merged { counts, pages, .. } = merged;
     replay.part = Some(pages);
     replay.counts = Some(counts);
 }
