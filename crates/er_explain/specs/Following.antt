@@ -1,11 +1,19 @@
 -- How far a pass over a list of steps has come.
-use Rattle.std.specs.Prelude.{◌≡◌, ℕ, List}
+use Rattle.std.specs.Prelude.{◌≡◌, ℕ, nat_lt, cond, List, Option, Some, None}
+use Rattle.er_event.specs.declared.steps.Event.{Event}
+use Rattle.er_event.specs.declared.steps.Event.TheVariants.{Access}
 use Rattle.er_event.specs.declared.steps.Step.{Step}
 use Rattle.er_held.specs.ThreadLocks.{held_by}
 use Rattle.er_model.specs.Answers.{reading_of}
+use Rattle.er_model.specs.Following.{locks_for}
 use Rattle.er_model.specs.Holdings.{Holdings, holdings_at}
 use Rattle.er_explain.specs.Book.{Book}
 use Rattle.er_explain.specs.Books.{book_at}
+
+-- the locks that cover an access, if it counts
+abbrev pub cover_by : Holdings → Event → Option (List ℕ)
+cover_by h (Access kind w site) = cond (nat_lt 0 h.depth) None (Some (locks_for h kind))
+cover_by h _ = None
 
 -- what each thread holds after the first k steps
 abbrev pub AreHeldAt : List Step → List Holdings → ℕ → Type 0

@@ -4,14 +4,12 @@ ghost use Rattle.er_explain.specs.Book.{Untouched};
 ghost use Rattle.er_explain.specs.Books.{book_accessed};
 ghost use Rattle.er_explain.specs.Inner.Places.{book_of, number_at, place_at, AreApart};
 ghost use Rattle.er_explain.specs.WordBooks.{book_at_place, joining_in};
-ghost use Rattle.er_held.specs.ThreadLocks.{held_by};
-ghost use Rattle.er_model.specs.Following.{locks_for};
 ghost use Rattle.std.specs.List.{position_or_len};
 ghost use Rattle.std.specs.Simd.Lanes.{chunk};
 
 use crate::Made;
 use crate::book::{Access, Book, Joint};
-use er_held::ThreadLocks;
+use er_event::Lockset;
 use std::alloc::{AllocError, Global};
 use std::marker::Model;
 use std::simd::prelude::*;
@@ -59,17 +57,17 @@ impl<A: Copy> Block<A> {
         &mut self,
         alloc: Global,
         spare: &mut Vec<Joint<Access<A>>>,
-        locks: &ThreadLocks,
+        cover: &Lockset,
         place: usize,
         access: Access<A>,
     ) -> Made<()>
         requires { place < 32 }
-        ensures { OnOk result ((i : ℕ) → book_at_place self.new i ≡ cond (nat_eq place i) (book_accessed (book_at_place self.old place) access access.thread access.kind (locks_for (held_by locks.now access.thread) access.kind)) (book_at_place self.old i)) }
+        ensures { OnOk result ((i : ℕ) → book_at_place self.new i ≡ cond (nat_eq place i) (book_accessed (book_at_place self.old place) access access.thread access.kind cover.now) (book_at_place self.old i)) }
     {
         let count = self.books.len();
         let number = number_at(&self.places, count, place as u8);
         if number < count {
-            return self.books[number].access(alloc, spare, locks, access);
+            return self.books[number].access(alloc, spare, cover, access);
         }
         // No two books have the same place, so there is room for this one, and this refusal never comes. That isn't proved.
         if count >= 32 {

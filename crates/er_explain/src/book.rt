@@ -3,12 +3,9 @@ ghost use Rattle.std.specs.Prelude.{◌≡◌, ◌<◌, map, IfOk, OnOk, None, S
 ghost use Rattle.er_explain.specs.Book.{Owned};
 ghost use Rattle.er_explain.specs.Books.{begun, gone_on, pair_after, book_accessed};
 ghost use Rattle.er_explain.specs.WordBooks.{joining_in};
-ghost use Rattle.er_held.specs.ThreadLocks.{held_by};
-ghost use Rattle.er_model.specs.Following.{locks_for};
 
 use crate::Made;
-use er_event::{Kind, LockId, ThreadId};
-use er_held::ThreadLocks;
+use er_event::{Kind, LockId, Lockset, ThreadId};
 use std::alloc::Global;
 use std::marker::Model;
 use std::mem;
@@ -115,17 +112,16 @@ impl<A: Copy> Joint<A> {
 }
 
 impl<A: Copy> Joint<Access<A>> {
-    // A second thread has joined, under the locks that it holds. It takes a spare joining over, if there is one.
+    // A second thread has joined, under these locks. It takes a spare joining over, if there is one.
     fn begin(
         alloc: Global,
         spare: &mut Vec<Joint<Access<A>>>,
-        locks: &ThreadLocks,
+        cover: &Lockset,
         first: Access<A>,
         join: Access<A>,
     ) -> Made<Joint<Access<A>>>
-        ensures { IfOk result (λ joint. joint ≡ begun first join join.kind (locks_for (held_by locks.now join.thread) join.kind)) }
+        ensures { IfOk result (λ joint. joint ≡ begun first join join.kind cover.now) }
     {
-        let cover = locks.cover_of(alloc, join.thread, join.kind)?;
         let mut joint = match spare.pop() {
             Some(joint) => joint,
             None => {
@@ -148,13 +144,13 @@ impl<A: Copy> Joint<Access<A>> {
         Ok(joint)
     }
 
-    fn go_on(&mut self, locks: &ThreadLocks, access: Access<A>)
-        ensures { self.new ≡ gone_on self.old access access.kind (locks_for (held_by locks.now access.thread) access.kind) }
+    fn go_on(&mut self, cover: &Lockset, access: Access<A>)
+        ensures { self.new ≡ gone_on self.old access access.kind cover.now }
     {
         if let (None, Kind::Write) = (self.parts.write, access.kind) {
             self.parts.write = Some(access);
         }
-        find_uncovered(&mut self.parts.pairs, locks, access);
+        find_uncovered(&mut self.parts.pairs, cover, access);
     }
 }
 
@@ -169,23 +165,23 @@ fn put_locks<A: Copy>(pairs: &mut Vec<Pair<A>>, locks: &[LockId]) -> Made<()>
     Ok(())
 }
 
-fn find_uncovered<A: Copy>(pairs: &mut [Pair<Access<A>>], locks: &ThreadLocks, access: Access<A>)
-    ensures { pairs.new ≡ map (pair_after access (locks_for (held_by locks.now access.thread) access.kind)) pairs.old }
+fn find_uncovered<A: Copy>(pairs: &mut [Pair<Access<A>>], cover: &Lockset, access: Access<A>)
+    ensures { pairs.new ≡ map (pair_after access cover.now) pairs.old }
 {
     for i in 0..pairs.len() {
-        pairs[i] = pair_after(pairs[i], locks, access);
+        pairs[i] = pair_after(pairs[i], cover, access);
     }
 }
 
 fn pair_after<A: Copy>(
     pair: Pair<Access<A>>,
-    locks: &ThreadLocks,
+    cover: &Lockset,
     access: Access<A>,
 ) -> Pair<Access<A>>
-    ensures { result ≡ pair_after access (locks_for (held_by locks.now access.thread) access.kind) pair }
+    ensures { result ≡ pair_after access cover.now pair }
 {
     let Pair { lock, at: found } = pair;
-    if found.is_some() || locks.covers(access.thread, access.kind, lock) {
+    if found.is_some() || cover.contains(lock) {
         return pair;
     }
     let at = Some(access);
@@ -207,10 +203,10 @@ impl<A: Copy> Book<A> {
         &mut self,
         alloc: Global,
         spare: &mut Vec<Joint<Access<A>>>,
-        locks: &ThreadLocks,
+        cover: &Lockset,
         access: Access<A>,
     ) -> Made<()>
-        ensures { OnOk result (self.new ≡ book_accessed self.old access access.thread access.kind (locks_for (held_by locks.now access.thread) access.kind)) }
+        ensures { OnOk result (self.new ≡ book_accessed self.old access access.thread access.kind cover.now) }
     {
         match &mut self.packed {
             Packed::Alone(kind, owner, at) => {
@@ -220,11 +216,11 @@ impl<A: Copy> Book<A> {
                         thread: *owner,
                         kind: *kind,
                     };
-                    let joint = Joint::begin(alloc, spare, locks, first, access)?;
+                    let joint = Joint::begin(alloc, spare, cover, first, access)?;
                     drop(mem::replace(&mut self.packed, Packed::Together(joint)));
                 }
             }
-            Packed::Together(joint) => joint.go_on(locks, access),
+            Packed::Together(joint) => joint.go_on(cover, access),
         }
         Ok(())
     }

@@ -1,18 +1,20 @@
 //! The explanation of one access.
-ghost use Rattle.std.specs.Prelude.{◌≡◌, ◌<◌, ◌≤◌, ◌↔◌, ℕ, IfOk, IfSome, IsNone, IsSome, Ok, Some, length, slice_get};
+ghost use Rattle.std.specs.Prelude.{◌≡◌, ◌<◌, ◌≤◌, ◌↔◌, ℕ, IfOk, IfSome, IsNone, IsSome, Ok, Some, length, option_copied, slice_get};
 ghost use Rattle.er_event.specs.Lockset.{IsRising};
 ghost use Rattle.er_explain.specs.Book.{Joined, name_of};
 ghost use Rattle.er_explain.specs.Books.{book_at, joining_of};
 ghost use Rattle.er_explain.specs.Explaining.{explanation_at};
+ghost use Rattle.er_explain.specs.Following.{cover_by};
 ghost use Rattle.er_explain.specs.Naming.{named_book, named_joining};
 ghost use Rattle.er_explain.specs.WordBooks.{book_in};
+ghost use Rattle.er_held.specs.ThreadLocks.{held_by};
 ghost use Rattle.er_model.specs.Answers.{answer, reading_of};
 ghost use Rattle.er_model.specs.Explanations.{Explanation as Explained, Explains, locks_listed, word_of};
 
 use crate::book::{Access, Joint};
 use crate::{Explanation, Made, Uncovered, WordBooks};
-use er_event::{Event, Reply, Step, Word};
-use er_held::ThreadLocks;
+use er_event::{Event, Lockset, Reply, Step, Word};
+use er_held::{Held, ThreadLocks};
 use er_keys::HashKeys;
 use std::alloc::{AllocError, Global};
 
@@ -86,8 +88,38 @@ fn books_of(alloc: Global, steps: &[Step], end: usize) -> Made<WordBooks<u64>>
     let mut locks = ThreadLocks::new(alloc);
     let mut books = WordBooks::keyed(alloc, HashKeys::KNOWN);
     for (at, step) in steps[..end].iter().enumerate() {
-        books.follow(&locks, at as u64, step)?;
+        let cover = cover_among(alloc, &locks, step)?;
+        let followed = books.follow(cover.as_ref(), at as u64, step);
+        drop(cover);
+        followed?;
         locks.follow(alloc, step)?;
     }
     Ok(books)
+}
+
+/// The locks that cover an access by a thread that holds this, if it counts.
+pub fn cover_in(held: &Held, event: Event) -> Option<&Lockset>
+    ensures { option_copied result ≡ cover_by held.now event }
+{
+    match event {
+        Event::Access(kind, ..) if !held.ignoring() => Some(held.cover(kind)),
+        _ => None,
+    }
+}
+
+/// A copy of the locks that cover a step's access, if it counts.
+pub fn cover_among(
+    alloc: Global,
+    locks: &ThreadLocks,
+    step: &Step,
+) -> Result<Option<Lockset>, AllocError>
+    ensures { IfOk result (λ cover. cover ≡ cover_by (held_by locks.now step.now.thread) step.now.event) }
+{
+    let Step { thread, event } = *step;
+    match event {
+        Event::Access(kind, ..) if !locks.is_ignoring(thread) => {
+            Ok(Some(locks.cover_of(alloc, thread, kind)?))
+        }
+        _ => Ok(None),
+    }
 }

@@ -3,15 +3,15 @@ ghost use Rattle.std.specs.Prelude.{◌≡◌, ◌==◌, ◌<◌, ℕ, cond, opt
 ghost use Rattle.er_explain.specs.Book.{Untouched, access_of};
 ghost use Rattle.er_explain.specs.Books.{book_accessed, book_after};
 ghost use Rattle.er_explain.specs.WordBooks.{book_in, is_place_in, joining_in};
-ghost use Rattle.er_held.specs.ThreadLocks.{held_by};
-ghost use Rattle.er_model.specs.Following.{locks_for, marked};
+ghost use Rattle.er_explain.specs.Following.{cover_by};
+ghost use Rattle.er_model.specs.Following.{marked};
+ghost use Rattle.er_model.specs.Holdings.{Holdings};
 ghost use Rattle.er_model.specs.Words.{is_within};
 
 use crate::Made;
 use crate::block::Block;
 use crate::book::{Access, Joint};
-use er_event::{Event, PageRange, Step, Word};
-use er_held::ThreadLocks;
+use er_event::{Event, Lockset, PageRange, Step, Word};
 use er_keys::{HashKeys, Hints, NumberHasher, index_of};
 use indexmap::IndexMap;
 use std::alloc::{AllocError, Global};
@@ -52,16 +52,15 @@ impl<A: Copy> WordBooks<A> {
         }
     }
 
-    /// Goes on by a step, if these are the locks that each thread holds before it. Its access is named so, and by its thread and its kind.
-    pub fn follow(&mut self, locks: &ThreadLocks, at: A, step: &Step) -> Result<(), AllocError>
-        ensures { OnOk result ((w : ℕ) → book_in self.new w ≡ book_after (book_in self.old w) w (access_of at step.now) (marked (held_by locks.now step.now.thread) step.now.thread step.now.event)) }
+    /// Goes on by a step. Its access is named so, and by its thread and its kind. If it counts, these are the locks that cover it.
+    pub fn follow(&mut self, cover: Option<&Lockset>, at: A, step: &Step) -> Result<(), AllocError>
+        ensures { (h : Holdings) → option_copied cover.entry ≡ cover_by h step.now.event → OnOk result ((w : ℕ) → book_in self.new w ≡ book_after (book_in self.old w) w (access_of at step.now) (marked h step.now.thread step.now.event)) }
     {
         match step.event {
             Event::Access(kind, word, _) => {
-                if !locks.is_ignoring(step.thread) {
+                if let Some(cover) = cover {
                     let thread = step.thread;
-                    let access = Access { at, thread, kind };
-                    self.access(locks, word, access)?;
+                    self.access(cover, word, Access { at, thread, kind })?;
                 }
             }
             Event::Reuse(range) => self.reuse(range),
@@ -70,8 +69,8 @@ impl<A: Copy> WordBooks<A> {
         Ok(())
     }
 
-    fn access(&mut self, locks: &ThreadLocks, word: Word, access: Access<A>) -> Made<()>
-        ensures { OnOk result ((w : ℕ) → book_in self.new w ≡ cond (word == w) (book_accessed (book_in self.old word) access access.thread access.kind (locks_for (held_by locks.now access.thread) access.kind)) (book_in self.old w)) }
+    fn access(&mut self, cover: &Lockset, word: Word, access: Access<A>) -> Made<()>
+        ensures { OnOk result ((w : ℕ) → book_in self.new w ≡ cond (word == w) (book_accessed (book_in self.old word) access access.thread access.kind cover.now) (book_in self.old w)) }
     {
         let number = word.block();
         let place = word.place_in_block();
@@ -79,12 +78,12 @@ impl<A: Copy> WordBooks<A> {
             Some(index) => {
                 self.hints.note(number, index);
                 let block = &mut self.blocks[index];
-                block.access(self.alloc, &mut self.spare, locks, place, access)?;
+                block.access(self.alloc, &mut self.spare, cover, place, access)?;
                 Ok(())
             }
             None => {
                 let mut block = Block::new(self.alloc);
-                block.access(self.alloc, &mut self.spare, locks, place, access)?;
+                block.access(self.alloc, &mut self.spare, cover, place, access)?;
                 self.hints.note(number, self.blocks.len());
                 self.blocks.insert(number, block)?;
                 Ok(())
