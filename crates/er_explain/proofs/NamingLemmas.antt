@@ -1,20 +1,15 @@
 -- A book whose accesses have other names goes on as the book by positions does.
-use Rattle.std.proofs.Common.{◌≡◌, ◌∙◌, ℕ, zero, suc, ◌<◌, ◌+◌, Bool, true, false, not, cond, ◌==◌, List, [], ◌∷◌, map, slice_get, Option, Some, None, add-one, refl, sym, ap, arith}
+use Rattle.std.proofs.Common.{◌≡◌, ◌∙◌, ℕ, zero, suc, ◌<◌, ◌+◌, Bool, true, false, not, cond, ◌==◌, List, [], ◌∷◌, map, Option, Some, None, add-one, refl, sym, ap, arith}
 use Rattle.er_event.specs.declared.steps.Kind.{Kind}
 use Rattle.er_event.specs.declared.steps.Step.{Step}
 use Rattle.er_event.specs.Lockset.{has}
-use Rattle.er_held.specs.ThreadLocks.{held_by}
 use Rattle.er_model.specs.Answers.{reading_of}
-use Rattle.er_model.specs.Following.{marked}
-use Rattle.er_model.specs.Holdings.{Holdings}
 use Rattle.er_model.specs.Words.{Mark, Counted, Reused, Shown, Nothing, Reading, is_writing, is_within}
 use Rattle.er_explain.specs.Books.{or_this, pair_after, book_accessed, book_after, book_at}
-use Rattle.er_explain.specs.Following.{AreHeldAt}
 use Rattle.er_explain.specs.Naming.{named_option, named_pair, named_book}
 use Rattle.er_explain.specs.declared.book.Pair.{Pair}
 use Rattle.er_explain.specs.Book.{Book, Untouched, Owned, Joined}
 use Rattle.er_explain.proofs.BookSteps.{book-step, book-start}
-use Rattle.er_explain.proofs.Passes.{mark-held}
 
 module _ {A B : Type 0} (f : A → B) where
   named-or : (o : Option A) (test : Bool) (a : A) → named_option f (or_this o test a) ≡ or_this (named_option f o) test (f a)
@@ -72,10 +67,9 @@ module _ {B : Type 0} where
       named-next f r w n ∙ (λ i. book_after (before i) w (name i) (read i)) ∙ sym (named-next g s w n)
 
   -- and follows the steps
-  pub named-follows : (f : ℕ → B) (steps : List Step) (w k : ℕ) (step : Step) (threads : List Holdings) (before after : Book B) → slice_get steps k ≡ Some step → AreHeldAt steps threads k
-      → before ≡ named_book f (book_at (reading_of steps) w k) → after ≡ book_after before w (f k) (marked (held_by threads step.thread) step.thread step.event)
+  pub named-follows : (f : ℕ → B) (steps : List Step) (w k : ℕ) (m : Mark) (before after : Book B) → m ≡ reading_of steps k
+      → before ≡ named_book f (book_at (reading_of steps) w k) → after ≡ book_after before w (f k) m
       → after ≡ named_book f (book_at (reading_of steps) w (k + 1))
-  named-follows f steps w k step threads before after is held known follows =
-      let read = mark-held steps k step threads is held in
+  named-follows f steps w k m before after read known follows =
       follows ∙ (λ i. book_after (known i) w (f k) (read i)) ∙ sym (named-next f (reading_of steps) w k)
       ∙ ap (λ (n : ℕ). named_book f (book_at (reading_of steps) w n)) (sym (add-one k))

@@ -173,11 +173,7 @@ fn find_uncovered<A: Copy>(pairs: &mut [Pair<Access<A>>], cover: &Lockset, acces
     }
 }
 
-fn pair_after<A: Copy>(
-    pair: Pair<Access<A>>,
-    cover: &Lockset,
-    access: Access<A>,
-) -> Pair<Access<A>>
+fn pair_after<A: Copy>(pair: Pair<Access<A>>, cover: &Lockset, access: Access<A>) -> Pair<Access<A>>
     ensures { result ≡ pair_after access cover.now pair }
 {
     let Pair { lock, at: found } = pair;

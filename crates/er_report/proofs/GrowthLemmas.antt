@@ -165,7 +165,6 @@ module _ (before after : Recording) (rules : List Target) (on : GoesOn before af
   unfolding holdings
   follows-on kept n within follows =
       record {
-        held = λ t. follows.held t ∙ ap (λ (past : List Step). holdings past t) (sym (accepted-there before after rules on n within));
         books = λ w. follows.books w ∙ book-same n w within;
         told = follows.told ∙ told-same n within;
       }

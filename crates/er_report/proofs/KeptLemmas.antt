@@ -12,7 +12,6 @@ use Rattle.std.specs.Prelude.{Ok}
 use Rattle.er_explain.proofs.Explained.{explained-at}
 use Rattle.er_explain.proofs.FoundLemmas.{race-told}
 use Rattle.er_explain.proofs.NamingLemmas.{named-follows, named-start}
-use Rattle.er_explain.proofs.Passes.{held-start, held-next}
 use Rattle.er_explain.proofs.RaceLemmas.{explanations_at, race-is}
 use Rattle.er_explain.specs.Book.{Book, Untouched}
 use Rattle.er_explain.specs.Books.{book_after, joining_of}
@@ -22,14 +21,14 @@ use Rattle.er_explain.specs.Naming.{named_pair, named_joining, named_book}
 use Rattle.er_explain.specs.Racing.{is_race, places_below}
 use Rattle.er_explain.specs.WordBooks.{Blocks, book_in, joining_in}
 use Rattle.er_explain.specs.declared.book.Pair.{Pair}
-use Rattle.er_held.specs.ThreadLocks.{held_by}
+use Rattle.er_model.proofs.AnswersLemmas.{reading-step}
 use Rattle.er_model.proofs.Explanations.{race-rising}
 use Rattle.er_model.proofs.Meaning.{join-counted}
 use Rattle.er_model.proofs.Search.{least_below-Some}
 use Rattle.er_model.specs.Answers.{answer, reading_of}
 use Rattle.er_model.specs.Explanations.{Explanation, ExplainsAccess, first_write, word_in, word_of}
 use Rattle.er_model.specs.Following.{marked}
-use Rattle.er_model.specs.Holdings.{Holdings, after_step}
+use Rattle.er_model.specs.Holdings.{holdings_at}
 use Rattle.er_model.specs.Words.{Reading, counts, writes, era, first, counted_from}
 use Rattle.std.specs.Prelude.{nat_le}
 use Rattle.er_report.proofs.LawLemmas.{counted-step, least-counted, uncovered-counted}
@@ -171,32 +170,30 @@ is-printed r rules k told races so_far now =
     one false = refl
 
 -- before any step, and after one more
-pub follows-start : (threads : List Holdings) (books : Blocks LineAccess) (told : List (List Because)) → threads ≡ [] → ((w : ℕ) → book_in books w ≡ Untouched) → told ≡ []
-    → (r : Recording) (rules : List Target) → Follows (record { threads = threads; books = books; told = told }) r rules 0
+pub follows-start : (books : Blocks LineAccess) (told : List (List Because)) → ((w : ℕ) → book_in books w ≡ Untouched) → told ≡ []
+    → (r : Recording) (rules : List Target) → Follows (record { books = books; told = told }) r rules 0
 unfolding told_below
-follows-start threads books told none empty nothing r rules =
+follows-start books told empty nothing r rules =
     record {
-      held = held-start r.steps threads none;
       books = λ w. empty w ∙ sym (named-start (access_at r) (reading_of r.steps) w);
       told = nothing;
     }
 
 pub follows-next : (before after : Kept) (r : Recording) (rules : List Target) (k line : ℕ) (step : Step) (printed : Bool) (books : Blocks LineAccess)
     → Follows before r rules k → slice_get r.steps k ≡ Some step → line ≡ slice_index r.lines k → printed ≡ is_printed r rules k
-    → ((w : ℕ) → book_in books w ≡ book_after (book_in before.books w) w (line_access line (Some step)) (marked (held_by before.threads step.thread) step.thread step.event))
-    → ((t : ℕ) → held_by after.threads t ≡ after_step (held_by before.threads t) t step)
+    → ((w : ℕ) → book_in books w ≡ book_after (book_in before.books w) w (line_access line (Some step)) (marked (holdings_at r.steps step.thread k) step.thread step.event))
     → after.books ≡ books
     → after.told ≡ before.told ++ cond printed (word_reasons (book_in books) (word_in step.event) ∷ []) []
     → Follows after r rules (k + 1)
 unfolding access_at told_below
-follows-next before after r rules k line step printed books so_far here number is goes held same tells =
+follows-next before after r rules k line step printed books so_far here number is goes same tells =
     let access : line_access line (Some step) ≡ access_at r k = λ i. line_access (number i) (sym here i) in
     let book : (w : ℕ) → book_in books w ≡ line_book r (k + 1) w =
     λ w.
-    named-follows (access_at r) r.steps w k step before.threads (book_in before.books w) (book_in books w) here so_far.held (so_far.books w)
-    (goes w ∙ ap (λ (a : LineAccess). book_after (book_in before.books w) w a (marked (held_by before.threads step.thread) step.thread step.event)) access) in
+    named-follows (access_at r) r.steps w k (marked (holdings_at r.steps step.thread k) step.thread step.event) (book_in before.books w) (book_in books w)
+    (sym (reading-step r.steps k step here)) (so_far.books w)
+    (goes w ∙ ap (λ (a : LineAccess). book_after (book_in before.books w) w a (marked (holdings_at r.steps step.thread k) step.thread step.event)) access) in
     record {
-      held = held-next r.steps k step before.threads after.threads here so_far.held held;
       books = λ w. ap (λ (all : Blocks LineAccess). book_in all w) same ∙ book w;
       told =
           tells

@@ -8,7 +8,6 @@ use Rattle.er_event.specs.declared.steps.Reply.TheVariants.{Done, Quiet, Race, I
 use Rattle.er_event.specs.declared.steps.Step.{Step}
 use Rattle.er_explain.specs.Racing.{is_race, places_below}
 use Rattle.er_model.specs.Answers.{answer, state_at}
-use Rattle.er_model.specs.Explanations.{word_of}
 use Rattle.er_model.specs.Threads.{accepted, held}
 use Rattle.er_report.specs.Kept.{Kept, Follows}
 use Rattle.er_report.specs.Report.{Answering, Summary, matching_rule_by, lines_by, no_reasons, count_below, rule_counts, is_printed_by, is_refused}
@@ -89,9 +88,9 @@ ArePlainBy answers k n = (i : ℕ) → k ≤ i → i < k + n → is_plain (answe
 abbrev pub ArePlain : List Step → ℕ → ℕ → Type 0
 ArePlain steps k n = ArePlainBy (answer steps) k n
 
--- the step at position k is an access that leaves the state of its word as it was
+-- the step at position k leaves the state of every word as it was
 abbrev pub KeepsState : List Step → ℕ → Type 0
-KeepsState steps k = (w : ℕ) × (word_of (slice_get steps k) ≡ Some w) × (state_at steps w (suc k) ≡ state_at steps w k)
+KeepsState steps k = (w : ℕ) → state_at steps w (suc k) ≡ state_at steps w k
 
 -- each of the n steps from position k on is one
 abbrev pub KeepStates : List Step → ℕ → ℕ → Type 0

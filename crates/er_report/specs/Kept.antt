@@ -4,14 +4,12 @@ use Rattle.er_event.specs.declared.steps.Kind.TheVariants.{Read}
 use Rattle.er_event.specs.declared.steps.Step.{Step}
 use Rattle.er_explain.specs.Book.{Book, access_named, access_of}
 use Rattle.er_explain.specs.Books.{book_at}
-use Rattle.er_explain.specs.Following.{AreHeldAt}
 use Rattle.er_explain.specs.Joined.{Joining}
 use Rattle.er_explain.specs.Naming.{named_book}
 use Rattle.er_explain.specs.WordBooks.{Blocks, book_in, joining_in}
 use Rattle.er_explain.specs.declared.book.Access.{Access}
 use Rattle.er_model.specs.Answers.{reading_of}
 use Rattle.er_model.specs.Explanations.{word_of}
-use Rattle.er_model.specs.Holdings.{Holdings}
 use Rattle.er_report.specs.Report.{is_printed}
 use Rattle.er_report.specs.declared.report.Because.{Because}
 use Rattle.er_report.specs.declared.report.Label.{Label}
@@ -66,14 +64,12 @@ unfoldable pub told_below : Recording → List Target → ℕ → List (List Bec
 told_below r rules zero = []
 told_below r rules (suc n) = told_below r rules n ++ cond (is_printed r rules n) (word_reasons (line_book r (suc n)) (word_of (slice_get r.steps n)) ∷ []) []
 
--- what each thread holds, the books of all words, and the reasons so far
+-- the books of all words, and the reasons so far
 pub record Kept : Type 0 where
-  pub threads : List Holdings
   pub books : Blocks LineAccess
   pub told : List (List Because)
 
 -- this is kept of the recording's first n steps under these rules
 pub record Follows (kept : Kept) (r : Recording) (rules : List Target) (n : ℕ) : Type 0 where
-  pub held : AreHeldAt r.steps kept.threads n
   pub books : (w : ℕ) → book_in kept.books w ≡ line_book r n w
   pub told : kept.told ≡ told_below r rules n

@@ -1,16 +1,17 @@
 //! `Explainer`, which finds the reasons of races while steps go by.
-ghost use Rattle.std.specs.Prelude.{◌≡◌, ◌++◌, ◌+◌, ℕ, [], List, length, map, slice_get, slice_index, IfOk, OnOk, Some};
+ghost use Rattle.std.specs.Prelude.{◌≡◌, ◌++◌, ◌+◌, ℕ, [], List, length, map, option_copied, slice_get, slice_index, IfOk, OnOk, Some};
+ghost use Rattle.er_explain.specs.Following.{cover_by};
 ghost use Rattle.er_explain.specs.WordBooks.{book_in};
 ghost use Rattle.er_model.specs.Explanations.{word_in};
+ghost use Rattle.er_model.specs.Holdings.{holdings_at};
 ghost use Rattle.er_report.specs.Kept.{Follows, joining_reasons, told_found, word_reasons};
 ghost use Rattle.er_report.specs.Report.{is_printed};
 ghost use Rattle.er_rules.specs.Rules.{Target};
 ghost use Rattle.er_trace.specs.Trace.{Recording};
 
 use crate::{Because, Label, Made};
-use er_event::{Event, Step, Word};
+use er_event::{Event, Lockset, Step, Word};
 use er_explain::{Access, Joint, WordBooks};
-use er_held::ThreadLocks;
 use er_keys::HashKeys;
 use std::alloc::Global;
 use std::marker::Model;
@@ -18,7 +19,6 @@ use std::marker::Model;
 /// The reasons of the printed races so far, and the books that later ones will need. It keeps no step.
 #[derive(Drop)]
 pub(crate) struct Explainer {
-    locks: ThreadLocks,
     // An access is named by its line.
     books: WordBooks<u64>,
     told: Vec<Vec<Because>>,
@@ -31,7 +31,7 @@ impl Model for Explainer {
 
     ghost Value = { Kept };
 
-    ghost view = { λ e. record { threads = e.locks; books = e.books; told = map (λ reasons. reasons.items) e.told.items } };
+    ghost view = { λ e. record { books = e.books; told = map (λ reasons. reasons.items) e.told.items } };
 }
 
 impl Explainer {
@@ -40,7 +40,6 @@ impl Explainer {
         ensures { (r : Recording) (rules : List Target) → Follows result r rules 0 }
     {
         Explainer {
-            locks: ThreadLocks::new(alloc),
             books: WordBooks::keyed(alloc, keys),
             told: Vec::new(alloc),
             alloc,
@@ -54,12 +53,17 @@ impl Explainer {
         self.told.len()
     }
 
-    /// Goes on by a step on this line, which may be a race that is printed.
-    pub(crate) fn follow(&mut self, line: u64, step: &Step, printed: bool) -> Made<()>
-        ensures { (r : Recording) (rules : List Target) (k : ℕ) → Follows self.old r rules k → slice_get r.steps k ≡ Some step.now → line ≡ slice_index r.lines k → printed ≡ is_printed r rules k → OnOk result (Follows self.new r rules (k + 1)) }
+    /// Goes on by a step on this line, which may be a race that is printed. If its access counts, these are the locks that cover it.
+    pub(crate) fn follow(
+        &mut self,
+        line: u64,
+        step: &Step,
+        cover: Option<&Lockset>,
+        printed: bool,
+    ) -> Made<()>
+        ensures { (r : Recording) (rules : List Target) (k : ℕ) → Follows self.old r rules k → slice_get r.steps k ≡ Some step.now → line ≡ slice_index r.lines k → option_copied cover.entry ≡ cover_by (holdings_at r.steps step.now.thread k) step.now.event → printed ≡ is_printed r rules k → OnOk result (Follows self.new r rules (k + 1)) }
     {
-        self.books.follow(&self.locks, line, step)?;
-        self.locks.follow(self.alloc, step)?;
+        self.books.follow(cover, line, step)?;
         if printed {
             let reasons = self.reasons_for(word_in(step.event))?;
             self.told.push(reasons)?;

@@ -11,6 +11,7 @@ ghost use Rattle.er_rules.specs.Rules.{targets_of};
 
 use crate::{Made, Report, ReportBuilder};
 use er_event::{Lockset, NoRoom, ThreadId};
+use er_explain::cover_among;
 use er_held::ThreadLocks;
 use er_journal::{Answer, Outcome, Stopped};
 use er_keys::HashKeys;
@@ -87,7 +88,10 @@ fn add_steps(
         let added = builder.add(names, line, site, step, answer, &held);
         drop(held);
         added?;
-        builder.explain(line, step)?;
+        let cover = cover_among(alloc, locks, step)?;
+        let explained = builder.explain(line, step, cover.as_ref());
+        drop(cover);
+        explained?;
         locks.follow(alloc, step)?;
     }
     Ok(())

@@ -5,9 +5,11 @@ use Rattle.std.proofs.lemmas.Option.{slice_get_read, slice_get_within}
 use Rattle.er_trace.specs.Trace.{Recording}
 use Rattle.er_event.specs.declared.steps.Step.{Step}
 use Rattle.er_explain.proofs.Passes.{held-start, held-next}
+use Rattle.er_explain.specs.Following.{cover_by}
 use Rattle.er_journal.specs.AnswerList.{shown}
 use Rattle.er_journal.specs.declared.answers.Stopped.{Stopped}
 use Rattle.er_model.specs.Answers.{answer}
+use Rattle.er_model.specs.Holdings.{Holdings}
 use Rattle.er_report.specs.Builder.{IsBuilt, IsReported}
 use Rattle.er_report.specs.Kept.{Kept}
 use Rattle.er_report.specs.Report.{answered_steps}
@@ -61,10 +63,11 @@ loop-k-preserved c =
     (ap (λ (numbers : List ℕ). slice_index numbers k) c.lines.ensures.value) site c.names-names.ensures c.in_ok-held.ensures (c.loop-k.invariant.held step.thread) in
     record {
       built =
-          c.in_ok-explain.ensures.explained r k (c.in_ok-added.ensures.built_by (answer r.steps) r k c.loop-k.invariant.built.built at)
-          (still-explained c.loop-k.builder c.add-added.new.self r k c.in_ok-added.ensures.rules c.in_ok-added.ensures.kept c.loop-k.invariant.built.explained) at.here at.line;
-      explains = c.in_ok-explain.ensures.explains ∙ ap (λ (kept : Option Kept). is_some kept) c.in_ok-added.ensures.kept ∙ c.loop-k.invariant.explains;
-      rules = c.in_ok-explain.ensures.rules ∙ c.in_ok-added.ensures.rules ∙ c.loop-k.invariant.rules;
+          c.in_ok-explained.ensures.explained r k (c.in_ok-added.ensures.built_by (answer r.steps) r k c.loop-k.invariant.built.built at)
+          (still-explained c.loop-k.builder c.add-added.new.self r k c.in_ok-added.ensures.rules c.in_ok-added.ensures.kept c.loop-k.invariant.built.explained) at.here at.line
+          (λ _. c.as_ref.ensures.value ∙ c.in_ok-cover.ensures ∙ ap (λ (h : Holdings). cover_by h step.event) (c.loop-k.invariant.held step.thread));
+      explains = c.in_ok-explained.ensures.explains ∙ ap (λ (kept : Option Kept). is_some kept) c.in_ok-added.ensures.kept ∙ c.loop-k.invariant.explains;
+      rules = c.in_ok-explained.ensures.rules ∙ c.in_ok-added.ensures.rules ∙ c.loop-k.invariant.rules;
       held = held-next r.steps k step c.loop-k.locks c.follow.new.self here c.loop-k.invariant.held c.in_ok-follow.ensures.threads;
       within = omega (arith, many, below);
     }

@@ -1,5 +1,5 @@
 -- The race that was added last gets its reasons, if it has a line and reasons are wanted.
-use Rattle.std.proofs.Common.{◌∙◌, ◌+◌, ℕ, List, Option, length, IfSome, sym, ap, subst}
+use Rattle.std.proofs.Common.{◌∙◌, ◌+◌, ℕ, List, Option, is_some, length, IfSome, sym, ap, subst}
 use Rattle.er_report.specs.Builder.{Built, IsBuilt, IsExplained, IsReported}
 use Rattle.er_report.specs.Kept.{Kept, Follows}
 use Rattle.er_report.specs.Report.{told}
@@ -16,7 +16,7 @@ seen inside = record { report = told inside.report; races = inside.races.items; 
 
 pub returns-clause-explained : goal.returns-clause-explained
 unfolding IsBuilt
-returns-clause-explained c = λ r k built explained here number.
+returns-clause-explained c = λ r k built explained here number covers.
     let before : Built = seen c.self.inside in
     let was_built : IsBuilt before r (k + 1) = subst (λ (builder : Built). IsBuilt builder r (k + 1)) (sym c.self.view_is) built in
     let was_explained : IsExplained before r k = subst (λ (builder : Built). IsExplained builder r k) (sym c.self.view_is) explained in
@@ -29,7 +29,8 @@ returns-clause-explained c = λ r k built explained here number.
           subst (λ inside. IsReported (seen inside) r (k + 1)) (sym w.self-inside-is)
           (record {
             built = record { report = was_built.report; races = was_built.races };
-            explained = w.in_ok-follow.ensures r before.rules k follows here number printed;
+            explained = w.in_ok-follow.ensures r before.rules k follows here number
+                (covers (ap (λ (builder : Built). is_some builder.kept) (sym c.self.view_is) ∙ ap (λ (o : Option Kept). is_some o) w.in-Some.is)) printed;
           })
       | in_default w ↦
           subst (λ inside. IsReported (seen inside) r (k + 1)) (sym w.self-inside-is)
