@@ -53,24 +53,6 @@ impl Options {
     /// In how many shards the words are unless something else is asked for.
     pub const USUAL_SHARDS: u32 = 8;
 
-    /// These options, without explanations and with one worker; None if a number is out of its limits.
-    pub fn new(max_sets: u32, byte_limit: u64) -> Option<Options>
-        ensures kept { IfSome result (λ options. (options.max_sets ≡ max_sets) × (options.byte_limit ≡ byte_limit)) }
-        ensures plain { IfSome result (λ options. options.explain ≡ false) }
-        ensures alone { IfSome result (λ options. (options.shards ≡ usual_shards) × (options.workers ≡ 1)) }
-        ensures lenient { IfSome result (λ options. options.strict ≡ false) }
-        ensures whole { IfSome result (λ options. options.part ≡ None) }
-        ensures some { 1 ≤ max_sets → max_sets ≤ most_sets → byte_limit ≤ most_bytes → IsSome result }
-        ensures none { (max_sets ≡ 0) ⊎ ((most_sets < max_sets) ⊎ (most_bytes < byte_limit)) → IsNone result }
-    {
-        if max_sets < 1 || max_sets > Options::MOST_SETS {
-            return None;
-        }
-        let mut options = Options::usual().with_byte_limit(byte_limit)?;
-        options.max_sets = max_sets;
-        Some(options)
-    }
-
     /// The most sets of locks, texts of 256 MiB, no explanations and one worker: what the program uses unless something else is asked for.
     pub fn usual() -> Options
         ensures sets { result.max_sets ≡ most_sets }
@@ -95,11 +77,7 @@ impl Options {
     /// The same options, by which each race that is printed is explained, or none is.
     pub fn with_explain(mut self, explain: bool) -> Options
         ensures explain { result.explain ≡ explain }
-        ensures sets { result.max_sets ≡ self.max_sets }
-        ensures bytes { result.byte_limit ≡ self.byte_limit }
-        ensures crew { (result.shards ≡ self.shards) × (result.workers ≡ self.workers) }
-        ensures strict { result.strict ≡ self.strict }
-        ensures part { result.part ≡ self.part }
+        ensures others { (result.max_sets ≡ self.max_sets) × (result.byte_limit ≡ self.byte_limit) × (result.shards ≡ self.shards) × (result.workers ≡ self.workers) × (result.strict ≡ self.strict) × (result.part ≡ self.part) }
     {
         self.explain = explain;
         self
@@ -108,11 +86,7 @@ impl Options {
     /// The same options, by which a damaged trace is a fault, or isn't.
     pub fn with_strict(mut self, strict: bool) -> Options
         ensures strict { result.strict ≡ strict }
-        ensures part { result.part ≡ self.part }
-        ensures sets { result.max_sets ≡ self.max_sets }
-        ensures bytes { result.byte_limit ≡ self.byte_limit }
-        ensures explain { result.explain ≡ self.explain }
-        ensures crew { (result.shards ≡ self.shards) × (result.workers ≡ self.workers) }
+        ensures others { (result.max_sets ≡ self.max_sets) × (result.byte_limit ≡ self.byte_limit) × (result.explain ≡ self.explain) × (result.shards ≡ self.shards) × (result.workers ≡ self.workers) × (result.part ≡ self.part) }
     {
         self.strict = strict;
         self
@@ -121,11 +95,7 @@ impl Options {
     /// The same options, by which this part of the trace is replayed, or all of it without a part.
     pub fn with_part(mut self, part: Option<Part>) -> Options
         ensures part { result.part ≡ part }
-        ensures sets { result.max_sets ≡ self.max_sets }
-        ensures bytes { result.byte_limit ≡ self.byte_limit }
-        ensures explain { result.explain ≡ self.explain }
-        ensures crew { (result.shards ≡ self.shards) × (result.workers ≡ self.workers) }
-        ensures strict { result.strict ≡ self.strict }
+        ensures others { (result.max_sets ≡ self.max_sets) × (result.byte_limit ≡ self.byte_limit) × (result.explain ≡ self.explain) × (result.shards ≡ self.shards) × (result.workers ≡ self.workers) × (result.strict ≡ self.strict) }
     {
         self.part = part;
         self
@@ -133,12 +103,7 @@ impl Options {
 
     /// The same options, by which the names and the pages of the trace are hashed by these keys.
     pub fn with_keys(mut self, keys: NameKeys) -> Options
-        ensures sets { result.max_sets ≡ self.max_sets }
-        ensures bytes { result.byte_limit ≡ self.byte_limit }
-        ensures explain { result.explain ≡ self.explain }
-        ensures crew { (result.shards ≡ self.shards) × (result.workers ≡ self.workers) }
-        ensures strict { result.strict ≡ self.strict }
-        ensures part { result.part ≡ self.part }
+        ensures others { (result.max_sets ≡ self.max_sets) × (result.byte_limit ≡ self.byte_limit) × (result.explain ≡ self.explain) × (result.shards ≡ self.shards) × (result.workers ≡ self.workers) × (result.strict ≡ self.strict) × (result.part ≡ self.part) }
     {
         self.keys = keys;
         self
@@ -146,10 +111,8 @@ impl Options {
 
     /// The same options, with texts of at most this many bytes; None if it is out of its limits.
     pub fn with_byte_limit(mut self, byte_limit: u64) -> Option<Options>
-        ensures kept { IfSome result (λ options. (options.max_sets ≡ self.max_sets) × ((options.byte_limit ≡ byte_limit) × (options.explain ≡ self.explain))) }
-        ensures crew { IfSome result (λ options. (options.shards ≡ self.shards) × (options.workers ≡ self.workers)) }
-        ensures strict { IfSome result (λ options. options.strict ≡ self.strict) }
-        ensures part { IfSome result (λ options. options.part ≡ self.part) }
+        ensures limit { IfSome result (λ options. options.byte_limit ≡ byte_limit) }
+        ensures others { IfSome result (λ options. (options.max_sets ≡ self.max_sets) × (options.explain ≡ self.explain) × (options.shards ≡ self.shards) × (options.workers ≡ self.workers) × (options.strict ≡ self.strict) × (options.part ≡ self.part)) }
         ensures some { byte_limit ≤ most_bytes → IsSome result }
         ensures none { most_bytes < byte_limit → IsNone result }
     {
@@ -162,10 +125,8 @@ impl Options {
 
     /// The same options, with this many shards and workers; None if one of them is out of its limits.
     pub fn with_workers(mut self, shards: u32, workers: u32) -> Option<Options>
-        ensures kept { IfSome result (λ options. (options.max_sets ≡ self.max_sets) × ((options.byte_limit ≡ self.byte_limit) × (options.explain ≡ self.explain))) }
         ensures crew { IfSome result (λ options. (options.shards ≡ shards) × (options.workers ≡ workers)) }
-        ensures strict { IfSome result (λ options. options.strict ≡ self.strict) }
-        ensures part { IfSome result (λ options. options.part ≡ self.part) }
+        ensures others { IfSome result (λ options. (options.max_sets ≡ self.max_sets) × (options.byte_limit ≡ self.byte_limit) × (options.explain ≡ self.explain) × (options.strict ≡ self.strict) × (options.part ≡ self.part)) }
         ensures some { AreInLimits shards workers → IsSome result }
         ensures some_only { IsSome result → AreInLimits shards workers }
     {

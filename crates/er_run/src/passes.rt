@@ -147,8 +147,16 @@ fn analysts_of<'r>(
     ensures stands { (asked : Asked) → asked.analysis ≡ analysis → asked.rules ≡ targets_of suppressions.now → asked.explain ≡ options.now.explain → asked.strict ≡ looks_for_damage options.now
         → IfOk result (λ all. AllStand all.first.first all.first.second all.second.inspector asked no_steps) }
 {
-    let lockset = lockset_if(alloc, suppressions, options, analysis)?;
-    let ordering = ordering_if(alloc, suppressions, options, analysis)?;
+    let lockset = if analysis.asks_locks() {
+        Some(LocksetAnalyst::new(alloc, suppressions, options)?)
+    } else {
+        None
+    };
+    let ordering = if analysis.asks_order() {
+        Some(OrderAnalyst::new(alloc, suppressions, options.explain, options.keys)?)
+    } else {
+        None
+    };
     Ok(Pair {
         first: Pair {
             first: lockset,
@@ -156,39 +164,6 @@ fn analysts_of<'r>(
         },
         second: Inspection::new(alloc, looks_for_damage(options)),
     })
-}
-
-// The lockset rule, if it is asked for.
-fn lockset_if<'r>(
-    alloc: Global,
-    suppressions: &'r Suppressions,
-    options: &Options,
-    analysis: Analysis,
-) -> Result<Option<LocksetAnalyst<'r>>, AllocError>
-    ensures stands { (asked : Asked) → asked.analysis ≡ analysis → asked.rules ≡ targets_of suppressions.now → asked.explain ≡ options.now.explain
-        → IfOk result (λ lockset. StandsIf (λ (one : Ran). HasRunFor one asked no_steps) (asks_locks asked.analysis) lockset) }
-{
-    if !analysis.asks_locks() {
-        return Ok(None);
-    }
-    Ok(Some(LocksetAnalyst::new(alloc, suppressions, options)?))
-}
-
-// Happens-before, if it is asked for.
-fn ordering_if<'r>(
-    alloc: Global,
-    suppressions: &'r Suppressions,
-    options: &Options,
-    analysis: Analysis,
-) -> Result<Option<OrderAnalyst<'r>>, AllocError>
-    ensures stands { (asked : Asked) → asked.analysis ≡ analysis → asked.rules ≡ targets_of suppressions.now → asked.explain ≡ options.now.explain
-        → IfOk result (λ ordering. StandsIf (λ (one : OrderRan). HasOrdered one asked no_steps) (asks_order asked.analysis) ordering) }
-{
-    if !analysis.asks_order() {
-        return Ok(None);
-    }
-    let ordering = OrderAnalyst::new(alloc, suppressions, options.explain, options.keys)?;
-    Ok(Some(ordering))
 }
 
 // The reports of the text that was read, or its damage, if the replay is strict and there is any, or why an analysis has stopped.
