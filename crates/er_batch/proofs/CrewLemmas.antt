@@ -1,24 +1,29 @@
 -- Workers go on with each batch, and its items say what is to be said of each of its steps.
-use Rattle.std.proofs.Common.{◌≡◌, ◌⊎◌, ◌<◌, ◌≤◌, ◌+◌, ℕ, suc, add-one, true, false, List, [], ◌++◌, length, length-append, slice_get, slice_index, Some, Result, Ok, Err, IfOk, IfErr, OnOk, is_some, refl, sym, ap, subst, ◌∙◌, inl, inr, arith}
+use Rattle.std.proofs.Common.{◌≡◌, ◌⊎◌, ◌<◌, ◌≤◌, ◌+◌, ◌==◌, ℕ, suc, add-one, nat_lt, Bool, true, false, cond, List, [], ◌++◌, length, length-append, slice_get, slice_index, Some, Result, Ok, Err, IfOk, IfErr, OnOk, is_some, refl, sym, ap, subst, ◌∙◌, inl, inr, arith}
 use Rattle.std.specs.Prelude.{MatchResult}
-use Rattle.std.proofs.lemmas.Bool.{cases_lt}
+use Rattle.std.proofs.lemmas.Bool.{cases_lt, eqb-true}
 use Rattle.std.proofs.lemmas.List.Elements.{All-nil}
 use Rattle.std.proofs.lemmas.Option.{slice_get_within}
 use Rattle.er_batch.proofs.BatchLemmas.{goes-on, grown}
 use Rattle.er_batch.specs.Analysts.{Asked, CrewRan, HasCrewRun, IsCrewReady}
-use Rattle.er_batch.specs.Inner.Items.{AreItems, IsNext}
+use Rattle.er_batch.specs.Inner.Items.{AreItems, Holds, IsNext, is_reuse}
 use Rattle.er_batch.specs.Runs.{IsWellFormed, recorded}
 use Rattle.er_event.proofs.Lists.{get_behind, get_still}
 use Rattle.er_event.specs.declared.steps.Event.{Event}
 use Rattle.er_event.specs.declared.steps.Event.TheVariants.{Acquire, Release, Access, Reuse, IgnoreOn, IgnoreOff, Show, Level, Sync}
+use Rattle.er_event.specs.declared.steps.Kind.{Kind}
 use Rattle.er_event.specs.declared.steps.Step.{Step}
 use Rattle.er_event.specs.declared.steps.WordState.{WordState}
 use Rattle.er_explain.proofs.RaceLemmas.{race-is}
 use Rattle.er_explain.specs.Racing.{is_race}
+use Rattle.er_model.proofs.AnswersLemmas.{state-step}
 use Rattle.er_model.proofs.Prefixes.{holdings-front, state-front}
+use Rattle.er_model.proofs.Threads.{holdings-step}
 use Rattle.er_model.specs.Answers.{answer, state_at}
-use Rattle.er_model.specs.Explanations.{word_in, word_of}
-use Rattle.er_model.specs.Holdings.{Holdings, holdings_at}
+use Rattle.er_model.specs.Following.{locks_for, marked}
+use Rattle.er_model.specs.Holdings.{Holdings, after_step, holdings_at}
+use Rattle.er_model.specs.Table.{moved}
+use Rattle.er_model.specs.Words.{Counted, Nothing}
 use Rattle.er_model.specs.Threads.{accepted, held}
 use Rattle.er_parallel.specs.Crews.{Crewed, AreNoted, AreUnusual, HaveAnswered, LeavesWord, IsAmong, IsAnswered}
 use Rattle.er_parallel.specs.Faults.{AsksForSet, MayFail}
@@ -26,7 +31,8 @@ use Rattle.er_parallel.specs.Usual.{usual}
 use Rattle.er_parallel.specs.declared.config.ReplayFault.{ReplayFault}
 use Rattle.er_parallel.specs.declared.config.ReplayFault.TheVariants as replaying
 use Rattle.er_parallel.specs.declared.worker.Unusual.{Unusual}
-use Rattle.er_replay.specs.Wants.{asks_by, is_access}
+use Rattle.er_replay.specs.Standing.{Replayed, Stands, holding}
+use Rattle.er_replay.specs.Wants.{asks_by}
 use Rattle.er_report.proofs.GrowthLemmas.{reported-on}
 use Rattle.er_report.specs.Builder.{Built, IsReported, IsStepAt, KeepsState, is_plain}
 use Rattle.er_text.specs.Batches.{joined}
@@ -57,17 +63,26 @@ plain-usual (Show w) = refl
 plain-usual (Level n) = refl
 plain-usual (Sync sync) = refl
 
--- an access that leaves its word leaves the state of it
-leaves-state : (steps : List Step) (k : ℕ) (event : Event) → is_access event ≡ true → LeavesWord steps k event → (w : ℕ) × (word_in event ≡ Some w) × (state_at steps w (suc k) ≡ state_at steps w k)
-leaves-state steps k (Access kind w site) accesses same = (w, refl, ap (state_at steps w) (sym (add-one k)) ∙ same)
-leaves-state steps k (Acquire l m) accesses same = cc
-leaves-state steps k (Release l m) accesses same = cc
-leaves-state steps k (Reuse range) accesses same = cc
-leaves-state steps k IgnoreOn accesses same = cc
-leaves-state steps k IgnoreOff accesses same = cc
-leaves-state steps k (Show w) accesses same = cc
-leaves-state steps k (Level n) accesses same = cc
-leaves-state steps k (Sync sync) accesses same = cc
+-- an access leaves other words, and a step that reuses nothing and leaves its word leaves every word
+access-other : (b : Bool) (s : WordState) (t word w : ℕ) (kind : Kind) (cover : List ℕ) → (word == w) ≡ false → moved s w (cond b Nothing (Counted t kind word cover)) ≡ s
+access-other true s t word w kind cover differs = refl
+access-other false s t word w kind cover differs = rw differs refl
+
+leaves-states : (steps : List Step) (k : ℕ) (h : Holdings) (t : ℕ) (event : Event) → is_reuse event ≡ false → LeavesWord steps k event → (w : ℕ)
+    → state_at steps w (suc k) ≡ moved (state_at steps w k) w (marked h t event) → state_at steps w (suc k) ≡ state_at steps w k
+leaves-states steps k h t (Access kind word site) still same w goes = by (word == w) refl
+  where
+    by : (b : Bool) → (word == w) ≡ b → state_at steps w (suc k) ≡ state_at steps w k
+    by true is = rw (eqb-true word w is) at (ap (state_at steps word) (sym (add-one k)) ∙ same)
+    by false differs = goes ∙ access-other (nat_lt 0 h.depth) (state_at steps w k) t word w kind (locks_for h kind) differs
+leaves-states steps k h t (Reuse range) still same w goes = cc
+leaves-states steps k h t (Acquire l m) still same w goes = goes
+leaves-states steps k h t (Release l m) still same w goes = goes
+leaves-states steps k h t IgnoreOn still same w goes = goes
+leaves-states steps k h t IgnoreOff still same w goes = goes
+leaves-states steps k h t (Show word) still same w goes = goes
+leaves-states steps k h t (Level n) still same w goes = goes
+leaves-states steps k h t (Sync sync) still same w goes = goes
 
 same-step : (one other : Step) → Some one ≡ Some other → one ≡ other
 same-step one other is = cc
@@ -125,14 +140,14 @@ module _ (past batch : List Step) (lines sites : List ℕ) (names : NameTable) (
   pub usual-plain : (next : ℕ) → IsNext items next k → IsNext items next (k + 1) → is_plain (answer (past ++ batch) (length past + k)) ≡ true
   usual-plain next before after = ap is_plain (sym (as-usual next before after []).answered) ∙ plain-usual step.event
 
-  -- and if it is an access that isn't noted, its word has the state that it had
-  pub unnoted : AreNoted past batch items → is_access step.event ≡ true → (next : ℕ) → IsNext items next k → IsNext items next (k + 1) → KeepsState (past ++ batch) (length past + k)
-  unnoted noted accesses next before after = by (noted k step here)
+  -- and if it is no reuse and isn't noted, every word has the state that it had
+  pub unnoted : AreNoted past batch items → is_reuse step.event ≡ false → (next : ℕ) → IsNext items next k → IsNext items next (k + 1) → KeepsState (past ++ batch) (length past + k)
+  unnoted noted still next before after w = by (noted k step here)
     where
-      by : LeavesWord (past ++ batch) (length past + k) step.event ⊎ IsAmong items k → KeepsState (past ++ batch) (length past + k)
+      by : LeavesWord (past ++ batch) (length past + k) step.event ⊎ IsAmong items k → state_at (past ++ batch) w (suc (length past + k)) ≡ state_at (past ++ batch) w (length past + k)
       by (inl same) =
-          let found = leaves-state (past ++ batch) (length past + k) step.event accesses same in
-          (found.0, ap word_of there ∙ found.1, found.2)
+          leaves-states (past ++ batch) (length past + k) (holdings_at (past ++ batch) step.thread (length past + k)) step.thread step.event still same w
+          (state-step (past ++ batch) (length past + k) step w there)
       by (inr among) = absurd (among-none next before after among)
 
 -- a step that asks for a set does so in every list that goes on from its own
@@ -167,6 +182,15 @@ may-front steps more replaying.TableFull may = asks-front steps more may
 may-front steps more replaying.WorkerNotStarted may = tt
 may-front steps more replaying.WorkerLost may = may
 
+-- what threads hold goes on by a step
+pub holds-next : (wanted : Bool) (before after : Replayed) (steps : List Step) (n : ℕ) (step : Step) → slice_get steps n ≡ Some step
+    → ((t : ℕ) → holding after t ≡ after_step (holding before t) t step) → Holds wanted before steps n → Holds wanted after steps (n + 1)
+holds-next wanted before after steps n step here goes holds is t =
+    goes t
+    ∙ ap (λ (h : Holdings). after_step h t step) (holds is t)
+    ∙ sym (holdings-step steps n step t here)
+    ∙ ap (holdings_at steps t) (sym (add-one n))
+
 -- workers that can't be started
 pub start-may : (why : ReplayFault) → (why ≡ replaying.Memory) ⊎ (why ≡ replaying.WorkerNotStarted) → MayFail [] why
 start-may why (inl is) = rw is tt
@@ -189,15 +213,15 @@ module _ (old : CrewRan) (asked : Asked) (r : Recording) (steps : List Step) (ru
 
   -- and go on to the end of the steps, or stop in them
   pub ready-on : (crew before : Crewed) → old.crew ≡ Ok before → (items : List Unusual) → HaveAnswered crew (r.steps ++ steps) → AreItems (is_some old.builder.kept) r.steps steps items
-      → IsCrewReady (record { crew = Ok crew; items = items; builder = old.builder }) asked r steps
+      → IsCrewReady (record { holder = old.holder; crew = Ok crew; items = items; builder = old.builder }) asked r steps
   ready-on crew before is items on are = record {
-    answered = (on, (rw is at run.answered).1, are);
+    answered = (on, (rw is at run.answered).1, are, (rw is at run.answered).2);
     rules = run.rules;
     explain = run.explain;
     formed = run.formed;
   }
 
-  pub ready-fault : (why : ReplayFault) (items : List Unusual) → MayFail (r.steps ++ steps) why → IsCrewReady (record { crew = Err why; items = items; builder = old.builder }) asked r steps
+  pub ready-fault : (why : ReplayFault) (items : List Unusual) → MayFail (r.steps ++ steps) why → IsCrewReady (record { holder = old.holder; crew = Err why; items = items; builder = old.builder }) asked r steps
   ready-fault why items may = record { answered = may; rules = run.rules; explain = run.explain; formed = run.formed }
 
 -- the steps of a batch behind those that are past, which they are ready for
@@ -220,20 +244,26 @@ module _ (past : List Step) (lines sites : List ℕ) (names : NameTable) (trace 
   pub reported : (crew : Crewed) → old.crew ≡ Ok crew → IsReported old.builder after (length past)
   reported crew is = reported-on old.builder _ after (length past) (goes-on past lines sites names trace kept run.formed) (omega arith) (rw is at run.answered).1
 
-  pub goes : (crew : Crewed) → old.crew ≡ Ok crew → (added : Built) → added.rules ≡ old.builder.rules → is_some added.kept ≡ is_some old.builder.kept
-      → IsReported added after (length past + length trace.steps) → HasCrewRun (record { crew = old.crew; items = old.items; builder = added }) asked after
-  goes crew is added rules explains reported = record {
-    answered = rw is ((rw is at run.answered).0, subst (IsReported added after) (sym (length-append past trace.steps)) reported);
+  -- what is past is the front of what is there then
+  pub holds : (crew : Crewed) → old.crew ≡ Ok crew → Holds (is_some old.builder.kept) old.holder (past ++ trace.steps) (length past)
+  holds crew is wanted t = (rw is at run.answered).3 wanted t ∙ sym (holdings-front past trace.steps t (length past) (omega arith))
+
+  pub goes : (crew : Crewed) → old.crew ≡ Ok crew → (added : Built) (holder : Replayed) → added.rules ≡ old.builder.rules → is_some added.kept ≡ is_some old.builder.kept
+      → IsReported added after (length past + length trace.steps) → Holds (is_some old.builder.kept) holder (past ++ trace.steps) (length past + length trace.steps)
+      → HasCrewRun (record { holder = holder; crew = old.crew; items = old.items; builder = added }) asked after
+  goes crew is added holder rules explains reported holds = record {
+    answered = rw is ((rw is at run.answered).0, subst (IsReported added after) (sym (length-append past trace.steps)) reported,
+        subst (λ (n : ℕ). Holds (is_some added.kept) holder (past ++ trace.steps) n) (sym (length-append past trace.steps)) (λ wanted. holds (sym explains ∙ wanted)));
     rules = rules ∙ run.rules;
     explain = explains ∙ run.explain;
     formed = formed;
   }
 
 -- before any step
-pub begun : (crew : Result Crewed ReplayFault) (items : List Unusual) (builder : Built) (asked : Asked) → IfOk crew (λ crew. HaveAnswered crew [])
+pub begun : (holder : Replayed) (crew : Result Crewed ReplayFault) (items : List Unusual) (builder : Built) (asked : Asked) → Stands holder [] → IfOk crew (λ crew. HaveAnswered crew [])
     → IfErr crew (λ why. (why ≡ replaying.Memory) ⊎ (why ≡ replaying.WorkerNotStarted))
-    → ((r : Recording) → IsReported builder r 0) → builder.rules ≡ asked.rules → is_some builder.kept ≡ asked.explain → HasCrewRun (record { crew = crew; items = items; builder = builder }) asked no_steps
-begun crew items builder asked none fault built rules explain = record {
+    → ((r : Recording) → IsReported builder r 0) → builder.rules ≡ asked.rules → is_some builder.kept ≡ asked.explain → HasCrewRun (record { holder = holder; crew = crew; items = items; builder = builder }) asked no_steps
+begun holder crew items builder asked nothing none fault built rules explain = record {
   answered = by crew none fault;
   rules = rules;
   explain = explain;
@@ -241,11 +271,11 @@ begun crew items builder asked none fault built rules explain = record {
 }
   where
     by : (o : Result Crewed ReplayFault) → IfOk o (λ crew. HaveAnswered crew []) → IfErr o (λ why. (why ≡ replaying.Memory) ⊎ (why ≡ replaying.WorkerNotStarted))
-        → MatchResult o (λ crew. HaveAnswered crew [] × IsReported builder no_steps 0) (λ why. MayFail [] why)
-    by (Ok crew) none fault = (none, built no_steps)
+        → MatchResult o (λ crew. HaveAnswered crew [] × IsReported builder no_steps 0 × Holds (is_some builder.kept) holder [] 0) (λ why. MayFail [] why)
+    by (Ok crew) none fault = (none, built no_steps, λ _. nothing.0)
     by (Err why) none fault = start-may why fault
 
 -- what holds of a batch that was added
-pub on-done : (X E : Type 0) (result : Result X E) (P Q S T : Type 0) → OnOk result P → OnOk result Q → OnOk result S → (P → Q → S → T) → OnOk result T
-on-done X E (Ok x) P Q S T p q s then = then p q s
-on-done X E (Err e) P Q S T p q s then = tt
+pub on-done : (X E : Type 0) (result : Result X E) (P Q S U T : Type 0) → OnOk result P → OnOk result Q → OnOk result S → OnOk result U → (P → Q → S → U → T) → OnOk result T
+on-done X E (Ok x) P Q S U T p q s u then = then p q s u
+on-done X E (Err e) P Q S U T p q s u then = tt

@@ -6,7 +6,6 @@ use Rattle.er_event.specs.declared.steps.Step.{Step}
 use Rattle.er_model.proofs.Search.{below_or_at}
 use Rattle.er_model.specs.Answers.{answer, answer_next, state_end}
 use Rattle.er_replay.specs.Standing.{Replayed, Stands}
-use Rattle.er_replay.specs.Wants.{is_access}
 use Rattle.er_report.specs.Builder.{Built, ArePlain, IsReported, KeepsState, KeepStates, is_plain}
 use Rattle.er_batch.proofs.StepLemmas.{answer-here, keeps-here, past-next}
 use Rattle.er_batch.specs.Inner.Answering.{HasComeTo, Lags}
@@ -47,13 +46,13 @@ lags-end before after r n plain lags adds = subst (IsReported after r) lags.behi
 -- a step that has nothing to say, and one that was added
 module _ (old new : Replayed) (r : Recording) (n plain : ℕ) (step : Step) (here : slice_get r.steps n ≡ Some step) (next : Stands new (take n r.steps ++ step ∷ [])) where
   pub come-plain : (builder : Built) (given : Result Reply Refusal) → HasComeTo old builder r n plain → given ≡ answer_next (take n r.steps) step → is_plain given ≡ true
-      → (IsTrue (is_some builder.kept) → (is_access step.event ≡ true) × ((w : ℕ) → state_end (take n r.steps ++ step ∷ []) w ≡ state_end (take n r.steps) w))
+      → (IsTrue (is_some builder.kept) → (w : ℕ) → state_end (take n r.steps ++ step ∷ []) w ≡ state_end (take n r.steps) w)
       → HasComeTo new builder r (n + 1) (plain + 1)
   come-plain builder given come answered nothing keeps =
       record {
         stands = subst (Stands new) (past-next r.steps n step here) next;
         lags = lags-more builder r n plain come.lags (ap is_plain (sym (answer-here r.steps n step here) ∙ sym answered) ∙ nothing)
-            (λ wanted. let known = keeps wanted in keeps-here r.steps n step here known.0 known.1);
+            (λ wanted. keeps-here r.steps n step here (keeps wanted));
       }
 
   pub come-told : (after : Built) → IsReported after r (n + 1) → HasComeTo new after r (n + 1) 0

@@ -12,12 +12,13 @@ use Rattle.er_event.specs.declared.steps.Reply.TheVariants.{Race}
 use Rattle.er_event.specs.declared.steps.Step.{Step}
 use Rattle.er_explain.proofs.RaceLemmas.{race-is}
 use Rattle.er_explain.proofs.FoundLemmas.{no-word}
+use Rattle.er_explain.specs.Following.{cover_by}
+use Rattle.er_model.proofs.Threads.{holdings-step}
 use Rattle.er_model.proofs.Prefixes.{answer-front, holdings-front, holdings-grow, state-front}
 use Rattle.er_model.specs.Answers.{answer, answer_next, state_at, state_end}
 use Rattle.er_model.specs.Explanations.{word_in, word_of}
 use Rattle.er_model.specs.Holdings.{Holdings, changed_unless, refused_by, holdings, holdings_at, holdings_end}
 use Rattle.er_model.specs.Threads.{accepted, held}
-use Rattle.er_replay.specs.Wants.{is_access}
 use Rattle.er_report.specs.Builder.{IsStepAt, KeepsState}
 
 -- an access leaves what its thread holds
@@ -36,17 +37,24 @@ same-either : (b : Bool) (h other : Holdings) → other ≡ h → cond b other h
 same-either true h other same = same
 same-either false h other same = refl
 
--- the word of an access
-pub access-word : (event : Event) → is_access event ≡ true → (w : ℕ) × (word_in event ≡ Some w)
-access-word (Access kind w site) accesses = (w, refl)
-access-word (Acquire l m) accesses = cc
-access-word (Release l m) accesses = cc
-access-word (Reuse range) accesses = cc
-access-word IgnoreOn accesses = cc
-access-word IgnoreOff accesses = cc
-access-word (Show w) accesses = cc
-access-word (Level n) accesses = cc
-access-word (Sync sync) accesses = cc
+-- nor does another step change what covers it
+cover-after : (b : Bool) (h : Holdings) (event : Event) → cover_by (cond b (changed_unless (refused_by h event) h event) h) event ≡ cover_by h event
+cover-after true h (Access kind w site) = refl
+cover-after false h (Access kind w site) = refl
+cover-after b h (Acquire l m) = refl
+cover-after b h (Release l m) = refl
+cover-after b h (Reuse range) = refl
+cover-after b h IgnoreOn = refl
+cover-after b h IgnoreOff = refl
+cover-after b h (Show w) = refl
+cover-after b h (Level n) = refl
+cover-after b h (Sync sync) = refl
+
+pub covers-next : (steps : List Step) (k : ℕ) (step : Step) → slice_get steps k ≡ Some step → cover_by (holdings_at steps step.thread (k + 1)) step.event ≡ cover_by (holdings_at steps step.thread k) step.event
+covers-next steps k step here =
+    ap (λ (n : ℕ). cover_by (holdings_at steps step.thread n) step.event) (add-one k)
+    ∙ ap (λ (h : Holdings). cover_by h step.event) (holdings-step steps k step step.thread here)
+    ∙ cover-after (step.thread == step.thread) (holdings_at steps step.thread k) step.event
 
 module _ (steps : List Step) (k : ℕ) (step : Step) (here : slice_get steps k ≡ Some step) where
   abbrev past : List Step
@@ -103,10 +111,14 @@ module _ (steps : List Step) (k : ℕ) (step : Step) (here : slice_get steps k �
       ∙ ap (λ (all : List Step). state_at all w (k + 1)) (take-append-drop (k + 1) steps)
       ∙ ap (state_at steps w) (add-one k)
 
-  pub keeps-here : is_access step.event ≡ true → ((w : ℕ) → state_end (past ++ step ∷ []) w ≡ state_end past w) → KeepsState steps k
-  keeps-here accesses same =
-      let word = access-word step.event accesses in
-      (word.0, ap word_of here ∙ word.1, sym (state-behind word.0) ∙ same word.0 ∙ state-before word.0)
+  pub keeps-here : ((w : ℕ) → state_end (past ++ step ∷ []) w ≡ state_end past w) → KeepsState steps k
+  keeps-here same w = sym (state-behind w) ∙ same w ∙ state-before w
+
+  pub covers-end : cover_by (holdings_end (past ++ step ∷ []) step.thread) step.event ≡ cover_by (holdings_at steps step.thread k) step.event
+  covers-end =
+      ap (λ (h : Holdings). cover_by h step.event) (holdings-grow past step step.thread)
+      ∙ cover-after (step.thread == step.thread) (holdings_end past step.thread) step.event
+      ∙ ap (λ (h : Holdings). cover_by h step.event) (holdings-here step.thread)
 
 pub step-at : (r : Recording) (k : ℕ) (names : NameTable) (number site : ℕ) (step : Step) (given : Result Reply Refusal) (locks : List ℕ)
     → slice_get r.steps k ≡ Some step → number ≡ slice_index r.lines k → site ≡ slice_index r.sites k → names ≡ r.names → given ≡ answer_next (take k r.steps) step

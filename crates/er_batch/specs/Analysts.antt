@@ -1,6 +1,6 @@
 -- What an analyst is asked for, and what a pass over a text comes to.
 use Rattle.std.specs.Prelude.{◌≡◌, ◌++◌, ◌-◌, ◌^◌, ℕ, min, Bool, List, count_by, length, Option, Some, None, IfSome, is_some, Result, MatchResult}
-use Rattle.er_batch.specs.Inner.Items.{AreItems}
+use Rattle.er_batch.specs.Inner.Items.{AreItems, Holds}
 use Rattle.er_batch.specs.Runs.{HasRun, IsPartOf, IsWellFormed}
 use Rattle.er_event.specs.declared.refusals.NoRoom.{NoRoom}
 use Rattle.er_event.specs.declared.steps.Step.{Step}
@@ -64,15 +64,18 @@ pub record HasRunFor (ran : Ran) (asked : Asked) (r : Recording) : Type 0 where
   pub rules : ran.builder.rules ≡ asked.rules
   pub explain : is_some ran.builder.kept ≡ asked.explain
 
--- what several workers keep of the steps so far: themselves, or why they have stopped, the unusual answers to the last batch, and the report
+-- what several workers keep of the steps so far: a machine that has what threads hold, themselves, or why they have stopped, the unusual
+-- answers to the last batch, and the report
 pub record CrewRan : Type 0 where
+  pub holder : Replayed
   pub crew : Result Crewed ReplayFault
   pub items : List Unusual
   pub builder : Built
 
--- they have answered the recording's steps, which are in the report, or have a fault that these steps may give
+-- they have answered the recording's steps, which are in the report, or have a fault that these steps may give; if reasons are wanted, what
+-- threads hold after these steps is known
 pub record HasCrewRun (ran : CrewRan) (asked : Asked) (r : Recording) : Type 0 where
-  pub answered : MatchResult ran.crew (λ crew. HaveAnswered crew r.steps × IsReported ran.builder r (length r.steps)) (λ why. MayFail r.steps why)
+  pub answered : MatchResult ran.crew (λ crew. HaveAnswered crew r.steps × IsReported ran.builder r (length r.steps) × Holds (is_some ran.builder.kept) ran.holder r.steps (length r.steps)) (λ why. MayFail r.steps why)
   pub rules : ran.builder.rules ≡ asked.rules
   pub explain : is_some ran.builder.kept ≡ asked.explain
   pub formed : IsWellFormed r
@@ -80,7 +83,8 @@ pub record HasCrewRun (ran : CrewRan) (asked : Asked) (r : Recording) : Type 0 w
 -- they have answered these steps behind the recording's too, which aren't in the report, or have a fault that these may give
 pub record IsCrewReady (ran : CrewRan) (asked : Asked) (r : Recording) (steps : List Step) : Type 0 where
   pub answered : MatchResult ran.crew
-      (λ crew. HaveAnswered crew (r.steps ++ steps) × IsReported ran.builder r (length r.steps) × AreItems (is_some ran.builder.kept) r.steps steps ran.items) (λ why. MayFail (r.steps ++ steps) why)
+      (λ crew. HaveAnswered crew (r.steps ++ steps) × IsReported ran.builder r (length r.steps) × AreItems (is_some ran.builder.kept) r.steps steps ran.items
+      × Holds (is_some ran.builder.kept) ran.holder r.steps (length r.steps)) (λ why. MayFail (r.steps ++ steps) why)
   pub rules : ran.builder.rules ≡ asked.rules
   pub explain : is_some ran.builder.kept ≡ asked.explain
   pub formed : IsWellFormed r

@@ -1,12 +1,12 @@
 //! Answers the steps of a batch by one machine, and adds them to a report.
-ghost use Rattle.std.specs.Prelude.{◌≡◌, ◌+◌, ◌<◌, ◌≤◌, ◌^◌, nat_lt, ℕ, List, length, is_some, IfSome, IfOk, IsFalse, IsTrue, OnOk, false, true};
+ghost use Rattle.std.specs.Prelude.{◌≡◌, ◌+◌, ◌<◌, ◌≤◌, ◌^◌, nat_lt, ℕ, List, length, option_copied, is_some, IfSome, IfOk, IsFalse, IsTrue, OnOk, false, true};
 ghost use Rattle.er_batch.specs.Inner.Answering.{Answers, HasAnswered, Lags};
 ghost use Rattle.er_batch.specs.Runs.{HasRun, recorded};
 ghost use Rattle.er_event.specs.declared.steps.Event.{Event as Events};
 ghost use Rattle.er_event.specs.declared.steps.Step.{Step as Steps};
 ghost use Rattle.er_event.specs.declared.steps.WordState.{WordState as WordStates};
+ghost use Rattle.er_explain.specs.Following.{CoversAt};
 ghost use Rattle.er_replay.specs.Standing.{found_no_room, in_full};
-ghost use Rattle.er_replay.specs.Wants.{is_access};
 ghost use Rattle.er_report.specs.Builder.{IsReported, IsStepAt, is_plain};
 ghost use Rattle.er_report.specs.Names.{HasSiteName};
 ghost use Rattle.er_text.specs.Batches.{joined};
@@ -14,7 +14,8 @@ ghost use Rattle.er_text.specs.Named.{KeepsNames};
 ghost use Rattle.er_trace.specs.Names.{NameTable};
 ghost use Rattle.er_trace.specs.Trace.{Recording};
 
-use er_event::{Event, Lockset, NoRoom, Refusal, Reply, Site, Step};
+use er_event::{Lockset, NoRoom, Refusal, Reply, Site, Step};
+use er_explain::cover_in;
 use er_journal::Stopped;
 use er_replay::{Brief, OwnMachine, no_room};
 use er_report::{ReportBuilder, view_of};
@@ -55,23 +56,19 @@ pub fn is_plain(answer: &Result<Reply, Refusal>) -> bool
     matches!(answer, Ok(Reply::Quiet | Reply::Done | Reply::Ignored))
 }
 
-// Whether the report says nothing of a step that is answered so: it needs no line, and if reasons are wanted it is an access that has not
-// changed its word.
+// Whether the report says nothing of a step that is answered so: it needs no line, and if reasons are wanted it has not changed a word.
 #[inline(always)]
-fn says_nothing(explains: bool, event: Event, answer: Result<Brief, Refusal>, changed: bool) -> bool
+fn says_nothing(explains: bool, answer: Result<Brief, Refusal>, changed: bool) -> bool
     ensures plain { IsTrue result → (states : ℕ → WordStates) (event : Events) → is_plain (in_full states event answer) ≡ true }
     ensures room { IsTrue result → IsFalse (found_no_room answer) }
-    ensures keeps { IsTrue result → explains ≡ true → (is_access event ≡ true) × (changed ≡ false) }
+    ensures keeps { IsTrue result → explains ≡ true → changed ≡ false }
 {
     let plain = matches!(answer, Ok(Brief::Quiet | Brief::Done | Brief::Ignored));
-    if explains {
-        plain && !changed && matches!(event, Event::Access(..))
-    } else {
-        plain
-    }
+    plain && !(explains && changed)
 }
 
-/// Adds `plain` steps at once that the report has no line for, and then the next step, which is only counted if it has no line either.
+/// Adds `plain` steps at once that the report has no line for, and then the next step, which is only counted if it has no line either. If
+/// reasons are wanted and the next step is an access that counts, `cover` must be the locks that cover it.
 pub(crate) fn add_behind(
     builder: &mut ReportBuilder<'_>,
     plain: u64,
@@ -81,6 +78,7 @@ pub(crate) fn add_behind(
     step: &Step,
     answer: &Result<Reply, Refusal>,
     held: &Lockset,
+    cover: Option<&Lockset>,
 ) -> Result<(), AllocError>
     requires room { builder.old.report.steps + plain + 1 < 2 ^ 64 }
     requires site { HasSiteName names.now step.now.event }
@@ -88,15 +86,16 @@ pub(crate) fn add_behind(
     ensures rules { OnOk result (builder.new.rules ≡ builder.old.rules) }
     ensures steps { OnOk result (builder.new.report.steps ≡ builder.old.report.steps + plain + 1) }
     ensures explains { OnOk result (is_some builder.new.kept ≡ is_some builder.old.kept) }
-    ensures reported { (r : Recording) (n : ℕ) → Lags builder.old r n plain → IsStepAt r n names.now line site step.now answer.now held.now → OnOk result (IsReported builder.new r (n + 1)) }
+    ensures reported { (r : Recording) (n : ℕ) → Lags builder.old r n plain → IsStepAt r n names.now line site step.now answer.now held.now
+        → (IsTrue (is_some builder.old.kept) → CoversAt r.steps n step.now (option_copied cover.entry)) → OnOk result (IsReported builder.new r (n + 1)) }
 {
     builder.add_plain(plain);
     if is_plain(answer) {
         builder.add_plain(1);
-        return builder.explain(line, step);
+        return builder.explain(line, step, cover);
     }
     builder.add(names, line, site, step, view_of(answer), held)?;
-    builder.explain(line, step)
+    builder.explain(line, step, cover)
 }
 
 // Answers each step and adds it to the report, up to the first that finds no room. Steps without a line are counted, and added before the
@@ -122,7 +121,7 @@ fn answer_steps(
     for (k, step) in steps.iter().enumerate() {
         machine.look_ahead(steps, k);
         let (brief, changed) = machine.take(&(), *step);
-        if says_nothing(explains, step.event, brief, changed) {
+        if says_nothing(explains, brief, changed) {
             plain += 1;
         } else {
             let answer = machine.in_full(step, brief);
@@ -134,10 +133,11 @@ fn answer_steps(
                     cause,
                 }));
             }
-            let held = machine.held(step.thread).held();
+            let holder = machine.held(step.thread);
+            let (held, cover) = (holder.held(), cover_in(holder, step.event));
             let line = trace.lines()[k];
             let site = trace.sites()[k];
-            let added = add_behind(builder, plain, names, line, site, step, &answer, held);
+            let added = add_behind(builder, plain, names, line, site, step, &answer, held, cover);
             drop(answer);
             added?;
             plain = 0;

@@ -1,13 +1,12 @@
 //! The lockset rule by several workers, as an analyst.
-ghost use Rattle.std.specs.Prelude.{◌≡◌, ◌+◌, ◌++◌, ◌<◌, ◌≤◌, ◌^◌, ℕ, List, All, IfOk, IfErr, IsTrue, MatchOption, None, OnOk, Some, is_some, length, slice_get, true};
+ghost use Rattle.std.specs.Prelude.{◌≡◌, ◌+◌, ◌++◌, ◌<◌, ◌≤◌, ◌^◌, ℕ, List, All, IfOk, IfErr, IsTrue, MatchOption, None, OnOk, Some, is_some, length, slice_get, true, false};
 ghost use Rattle.std.specs.Thread.{IsSync};
 ghost use Rattle.er_batch.specs.Analysts.{Asked, HasCrewRun};
 ghost use Rattle.er_batch.specs.Inner.Answering.{Lags};
-ghost use Rattle.er_batch.specs.Inner.Items.{AreItems, IsNext};
+ghost use Rattle.er_batch.specs.Inner.Items.{AreItems, Holds, IsNext, is_reuse};
 ghost use Rattle.er_event.specs.declared.steps.Step.{Step as Steps};
 ghost use Rattle.er_parallel.specs.Crews.{AreNoted, AreUnusual, HaveAnswered, Rise};
 ghost use Rattle.er_parallel.specs.Faults.{MayFail};
-ghost use Rattle.er_replay.specs.Wants.{is_access};
 ghost use Rattle.er_report.specs.Builder.{IsReported};
 ghost use Rattle.er_report.specs.Names.{HasNames};
 ghost use Rattle.er_report.specs.Report.{report_of, told};
@@ -17,9 +16,11 @@ ghost use Rattle.er_trace.specs.Trace.{Recording, no_steps};
 
 use crate::answering::{add_behind, has_room};
 use crate::{Analyst, Answered, Options};
-use er_event::{Event, Lockset, Step};
+use er_event::{Event, Step};
+use er_explain::cover_in;
 use er_lines::Touch;
 use er_parallel::{Crew, OpenGate, ReplayConfig, ReplayFault, Unusual, usual_answer};
+use er_replay::OwnMachine;
 use er_report::{Report, ReportBuilder};
 use er_rules::Suppressions;
 use er_table::LocksetTable;
@@ -32,7 +33,8 @@ use std::thread::{Threads, join_mut};
 /// Answers steps by the lockset rule and several workers, up to a batch that these can't answer.
 #[derive(Drop)]
 pub struct CrewAnalyst<'t, 'r> {
-    alloc: Global,
+    // Takes what each step makes of its thread's holdings, and no word, if reasons are wanted.
+    holder: OwnMachine,
     crew: Result<Crew<'t>, ReplayFault>,
     items: Vec<Unusual>,
     builder: ReportBuilder<'r>,
@@ -43,7 +45,7 @@ impl<'t, 'r> Model for CrewAnalyst<'t, 'r> {
 
     ghost Value = { CrewRan };
 
-    ghost view = { λ a. record { crew = a.crew; items = a.items.items; builder = a.builder } };
+    ghost view = { λ a. record { holder = a.holder; crew = a.crew; items = a.items.items; builder = a.builder } };
 }
 
 impl<'t, 'r> CrewAnalyst<'t, 'r> {
@@ -60,6 +62,7 @@ impl<'t, 'r> CrewAnalyst<'t, 'r> {
         ensures stands { (asked : Asked) → asked.rules ≡ targets_of suppressions.now → asked.explain ≡ options.now.explain → IfOk result (λ analyst. HasCrewRun analyst asked no_steps) }
     {
         let Options { explain, keys, .. } = *options;
+        let holder = OwnMachine::keyed(alloc, options.max_sets, keys)?;
         let builder = ReportBuilder::explaining_keyed(alloc, suppressions, explain, keys)?;
         let config = ReplayConfig {
             shards: options.shards,
@@ -68,7 +71,7 @@ impl<'t, 'r> CrewAnalyst<'t, 'r> {
         };
         let crew = Crew::new(rt, alloc, table, config, workers);
         Ok(CrewAnalyst {
-            alloc,
+            holder,
             crew,
             items: Vec::new(alloc),
             builder,
@@ -138,7 +141,7 @@ impl<'t, 'r> Analyst for CrewAnalyst<'t, 'r> {
         let Ok(_) = &self.crew else {
             return Ok(());
         };
-        add_items(self.alloc, &mut self.builder, trace, self.items.as_slice())
+        add_items(&mut self.holder, &mut self.builder, trace, self.items.as_slice())
     }
 
     fn counts(&self) -> (u64, u64) {
@@ -173,7 +176,7 @@ fn take_beside<R: Threads + Wait + Sync, B, F: FnMut() -> B>(
 // Adds the steps of a batch to the report, with their items' answers and otherwise the usual ones. If reasons are wanted, each access that
 // changed its word must have an item.
 fn add_items(
-    alloc: Global,
+    holder: &mut OwnMachine,
     builder: &mut ReportBuilder<'_>,
     trace: &Trace,
     items: &[Unusual],
@@ -181,21 +184,22 @@ fn add_items(
     ensures rules { OnOk result (builder.new.rules ≡ builder.old.rules) }
     ensures explains { OnOk result (is_some builder.new.kept ≡ is_some builder.old.kept) }
     ensures reported { (past : List Steps) (lines sites : List ℕ) → length lines ≡ length past → length sites ≡ length past → AreItems (is_some builder.old.kept) past trace.now.steps items.now
-        → IsReported builder.old (joined past lines sites trace.now) (length past) → OnOk result (IsReported builder.new (joined past lines sites trace.now) (length past + length trace.now.steps)) }
+        → Holds (is_some builder.old.kept) holder.old (past ++ trace.now.steps) (length past) → IsReported builder.old (joined past lines sites trace.now) (length past) → OnOk result (IsReported builder.new (joined past lines sites trace.now) (length past + length trace.now.steps)) }
+    ensures holds { (past : List Steps) → Holds (is_some builder.old.kept) holder.old (past ++ trace.now.steps) (length past) → OnOk result (Holds (is_some builder.old.kept) holder.new (past ++ trace.now.steps) (length past + length trace.now.steps)) }
 {
     let steps = trace.steps();
     if !has_room(builder, steps) {
         return Err(AllocError);
     }
     let explains = builder.explains();
-    let none = Lockset::new(alloc);
     let mut next = 0;
     let mut plain = 0;
     for (k, step) in steps.iter().enumerate() {
+        pass_if(explains, holder, step)?;
         if says_nothing(explains, step, items, next, k) {
             plain += 1;
         } else {
-            next = add_next(builder, plain, trace, items, next, k, &none)?;
+            next = add_next(builder, plain, trace, items, next, k, holder)?;
             plain = 0;
         }
     }
@@ -203,17 +207,28 @@ fn add_items(
     Ok(())
 }
 
-// Whether the report says nothing of the step at position k: its answer is the usual one, and if reasons are wanted it is an access that
-// isn't noted as one that changed its word. Else the step itself isn't looked at, so that a batch that has left the cache isn't loaded again.
+// Takes what a step makes of its thread's holdings, if reasons are wanted.
+#[inline(always)]
+fn pass_if(wanted: bool, holder: &mut OwnMachine, step: &Step) -> Result<(), AllocError>
+    ensures { (steps : List Steps) (n : ℕ) → slice_get steps n ≡ Some step.now → Holds wanted holder.old steps n → OnOk result (Holds wanted holder.new steps (n + 1)) }
+{
+    if wanted {
+        return holder.pass(*step);
+    }
+    Ok(())
+}
+
+// Whether the report says nothing of the step at position k: its answer is the usual one, and if reasons are wanted it is no reuse and isn't
+// noted as an access that changed its word. Else the step itself isn't looked at, so that a batch that has left the cache isn't loaded again.
 #[inline(always)]
 fn says_nothing(explains: bool, step: &Step, items: &[Unusual], next: usize, k: usize) -> bool
     ensures place { IsTrue result → Rise items.now → IsNext items.now next k → IsNext items.now next (k + 1) }
-    ensures access { IsTrue result → explains ≡ true → is_access step.now.event ≡ true }
+    ensures still { IsTrue result → explains ≡ true → is_reuse step.now.event ≡ false }
 {
     if item_at(items, next, k).is_some() {
         return false;
     }
-    !explains || matches!(step.event, Event::Access(..))
+    !explains || !matches!(step.event, Event::Reuse(_))
 }
 
 // Adds `plain` steps at once that the report has no line for, and then the step at position k of a batch, with its item's answer or the
@@ -225,7 +240,7 @@ fn add_next(
     items: &[Unusual],
     next: usize,
     k: usize,
-    none: &Lockset,
+    holder: &OwnMachine,
 ) -> Result<usize, AllocError>
     requires room { builder.old.report.steps + plain + 1 < 2 ^ 64 }
     requires within { k < length trace.now.steps }
@@ -236,21 +251,23 @@ fn add_next(
     ensures next { IfOk result (λ after. after ≤ k + 1) }
     ensures place { Rise items.now → IsNext items.now next k → IfOk result (λ after. IsNext items.now after (k + 1)) }
     ensures reported { (past : List Steps) (lines sites : List ℕ) → length lines ≡ length past → length sites ≡ length past → AreUnusual past trace.now.steps items.now → IsNext items.now next k
-        → Lags builder.old (joined past lines sites trace.now) (length past + k) plain → OnOk result (IsReported builder.new (joined past lines sites trace.now) (length past + k + 1)) }
+        → Holds (is_some builder.old.kept) holder.now (past ++ trace.now.steps) (length past + k + 1) → Lags builder.old (joined past lines sites trace.now) (length past + k) plain → OnOk result (IsReported builder.new (joined past lines sites trace.now) (length past + k + 1)) }
 {
     let step = &trace.steps()[k];
     let line = trace.lines()[k];
     let site = trace.sites()[k];
     let names = trace.names();
+    let held = holder.held(step.thread);
+    let cover = cover_in(held, step.event);
     match item_at(items, next, k) {
         Some(item) => {
             let Unusual { answer, held, .. } = item;
-            add_behind(builder, plain, names, line, site, step, answer, held)?;
+            add_behind(builder, plain, names, line, site, step, answer, held, cover)?;
             Ok(next + 1)
         }
         None => {
             let usual = usual_answer(step);
-            add_behind(builder, plain, names, line, site, step, &usual, none)?;
+            add_behind(builder, plain, names, line, site, step, &usual, held.held(), cover)?;
             Ok(next)
         }
     }

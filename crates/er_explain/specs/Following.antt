@@ -15,6 +15,10 @@ abbrev pub cover_by : Holdings → Event → Option (List ℕ)
 cover_by h (Access kind w site) = cond (nat_lt 0 h.depth) None (Some (locks_for h kind))
 cover_by h _ = None
 
+-- these are the locks that cover the access of the step at position k, if it counts
+abbrev pub CoversAt : List Step → ℕ → Step → Option (List ℕ) → Type 0
+CoversAt steps k step cover = cover ≡ cover_by (holdings_at steps step.thread k) step.event
+
 -- what each thread holds after the first k steps
 abbrev pub AreHeldAt : List Step → List Holdings → ℕ → Type 0
 AreHeldAt steps threads k = (t : ℕ) → held_by threads t ≡ holdings_at steps t k

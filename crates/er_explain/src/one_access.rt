@@ -89,9 +89,7 @@ fn books_of(alloc: Global, steps: &[Step], end: usize) -> Made<WordBooks<u64>>
     let mut books = WordBooks::keyed(alloc, HashKeys::KNOWN);
     for (at, step) in steps[..end].iter().enumerate() {
         let cover = cover_among(alloc, &locks, step)?;
-        let followed = books.follow(cover.as_ref(), at as u64, step);
-        drop(cover);
-        followed?;
+        books.follow(cover.as_ref(), at as u64, step)?;
         locks.follow(alloc, step)?;
     }
     Ok(books)
@@ -108,18 +106,13 @@ pub fn cover_in(held: &Held, event: Event) -> Option<&Lockset>
 }
 
 /// A copy of the locks that cover a step's access, if it counts.
-pub fn cover_among(
-    alloc: Global,
-    locks: &ThreadLocks,
-    step: &Step,
-) -> Result<Option<Lockset>, AllocError>
+pub fn cover_among(alloc: Global, locks: &ThreadLocks, step: &Step) -> Made<Option<Lockset>>
     ensures { IfOk result (λ cover. cover ≡ cover_by (held_by locks.now step.now.thread) step.now.event) }
 {
-    let Step { thread, event } = *step;
-    match event {
-        Event::Access(kind, ..) if !locks.is_ignoring(thread) => {
-            Ok(Some(locks.cover_of(alloc, thread, kind)?))
+    Ok(match step.event {
+        Event::Access(kind, ..) if !locks.is_ignoring(step.thread) => {
+            Some(locks.cover_of(alloc, step.thread, kind)?)
         }
-        _ => Ok(None),
-    }
+        _ => None,
+    })
 }

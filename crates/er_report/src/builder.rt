@@ -2,11 +2,10 @@
 ghost use Rattle.std.specs.Prelude.{◌≡◌, ◌<◌, ◌≤◌, ◌+◌, ◌^◌, ◌&&◌, ℕ, [], All, List, Option, None, Some, false, is_none, is_some, length, map, option_copied, slice_get, slice_index, OnOk, OnErr, IfOk, IfSome, IsTrue};
 ghost use Rattle.std.specs.Option.{option_to_list};
 ghost use Rattle.er_trace.specs.Trace.{Recording, IsNamed, HasSiteName as IsSite};
-ghost use Rattle.er_explain.specs.Following.{cover_by};
+ghost use Rattle.er_explain.specs.Following.{CoversAt};
 ghost use Rattle.er_explain.specs.Racing.{is_race};
 ghost use Rattle.er_journal.specs.AnswerList.{shown};
 ghost use Rattle.er_journal.specs.declared.answers.Stopped.{Stopped as Stop};
-ghost use Rattle.er_model.specs.Holdings.{holdings_at};
 ghost use Rattle.er_report.specs.Builder.{ArePlain, ArePlainBy, IsBuilt, IsBuiltBy, IsExplained, IsReported, IsStepBy, KeepStates};
 ghost use Rattle.er_report.specs.Inner.Adding.{with_answer, HasRoom};
 ghost use Rattle.er_report.specs.Kept.{Follows};
@@ -172,16 +171,11 @@ impl<'r> ReportBuilder<'r> {
 
     /// Finds the reasons of the step that was added last, if reasons are wanted and it is a race that has a line. Each step is to be
     /// explained so. If its access counts, `cover` must be the locks that cover it. `AllocError`: memory was refused, and the builder is of no more use.
-    pub fn explain(
-        &mut self,
-        line: u64,
-        step: &Step,
-        cover: Option<&Lockset>,
-    ) -> Result<(), AllocError>
+    pub fn explain(&mut self, line: u64, step: &Step, cover: Option<&Lockset>) -> Made<()>
         ensures rules { OnOk result (self.new.rules ≡ self.old.rules) }
         ensures steps { OnOk result (self.new.report.steps ≡ self.old.report.steps) }
         ensures explains { OnOk result (is_some self.new.kept ≡ is_some self.old.kept) }
-        ensures explained { (r : Recording) (k : ℕ) → IsBuilt self.old r (k + 1) → IsExplained self.old r k → slice_get r.steps k ≡ Some step.now → line ≡ slice_index r.lines k → (IsTrue (is_some self.old.kept) → option_copied cover.entry ≡ cover_by (holdings_at r.steps step.now.thread k) step.now.event) → OnOk result (IsReported self.new r (k + 1)) }
+        ensures explained { (r : Recording) (k : ℕ) → IsBuilt self.old r (k + 1) → IsExplained self.old r k → slice_get r.steps k ≡ Some step.now → line ≡ slice_index r.lines k → (IsTrue (is_some self.old.kept) → CoversAt r.steps k step.now (option_copied cover.entry)) → OnOk result (IsReported self.new r (k + 1)) }
     {
         let races = self.races.as_slice().len();
         if let Some(explainer) = &mut self.explainer {

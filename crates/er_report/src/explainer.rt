@@ -1,16 +1,15 @@
 //! `Explainer`, which finds the reasons of races while steps go by.
 ghost use Rattle.std.specs.Prelude.{◌≡◌, ◌++◌, ◌+◌, ℕ, [], List, length, map, option_copied, slice_get, slice_index, IfOk, OnOk, Some};
-ghost use Rattle.er_explain.specs.Following.{cover_by};
+ghost use Rattle.er_explain.specs.Following.{CoversAt};
 ghost use Rattle.er_explain.specs.WordBooks.{book_in};
 ghost use Rattle.er_model.specs.Explanations.{word_in};
-ghost use Rattle.er_model.specs.Holdings.{holdings_at};
 ghost use Rattle.er_report.specs.Kept.{Follows, joining_reasons, told_found, word_reasons};
 ghost use Rattle.er_report.specs.Report.{is_printed};
 ghost use Rattle.er_rules.specs.Rules.{Target};
 ghost use Rattle.er_trace.specs.Trace.{Recording};
 
 use crate::{Because, Label, Made};
-use er_event::{Event, Lockset, Step, Word};
+use er_event::{Event, Lockset, Step};
 use er_explain::{Access, Joint, WordBooks};
 use er_keys::HashKeys;
 use std::alloc::Global;
@@ -61,24 +60,26 @@ impl Explainer {
         cover: Option<&Lockset>,
         printed: bool,
     ) -> Made<()>
-        ensures { (r : Recording) (rules : List Target) (k : ℕ) → Follows self.old r rules k → slice_get r.steps k ≡ Some step.now → line ≡ slice_index r.lines k → option_copied cover.entry ≡ cover_by (holdings_at r.steps step.now.thread k) step.now.event → printed ≡ is_printed r rules k → OnOk result (Follows self.new r rules (k + 1)) }
+        ensures { (r : Recording) (rules : List Target) (k : ℕ) → Follows self.old r rules k → slice_get r.steps k ≡ Some step.now → line ≡ slice_index r.lines k → CoversAt r.steps k step.now (option_copied cover.entry) → printed ≡ is_printed r rules k → OnOk result (Follows self.new r rules (k + 1)) }
     {
         self.books.follow(cover, line, step)?;
         if printed {
-            let reasons = self.reasons_for(word_in(step.event))?;
+            let reasons = self.reasons_for(step.event)?;
             self.told.push(reasons)?;
         }
         Ok(())
     }
 
-    // The reasons that the book of a word tells, if there is a word.
-    fn reasons_for(&self, racing: Option<Word>) -> Made<Vec<Because>>
-        ensures { IfOk result (λ reasons. reasons.items ≡ word_reasons (book_in self.now.books) racing) }
+    // The reasons that the book of an event's word tells, if the event is an access.
+    fn reasons_for(&self, event: Event) -> Made<Vec<Because>>
+        ensures { IfOk result (λ reasons. reasons.items ≡ word_reasons (book_in self.now.books) (word_in event)) }
     {
-        match racing.and_then(|word| self.books.joining(word)) {
-            Some(joint) => reasons_of(self.alloc, joint),
-            None => Ok(Vec::new(self.alloc)),
+        if let Event::Access(_, word, _) = event
+            && let Some(joint) = self.books.joining(word)
+        {
+            return reasons_of(self.alloc, joint);
         }
+        Ok(Vec::new(self.alloc))
     }
 
     /// The reasons of the printed races, in their order.
@@ -87,16 +88,6 @@ impl Explainer {
     {
         let Explainer { told, .. } = self;
         told
-    }
-}
-
-// The word that an event accesses, if it is an access.
-fn word_in(event: Event) -> Option<Word>
-    ensures { result ≡ word_in event }
-{
-    match event {
-        Event::Access(_, word, _) => Some(word),
-        _ => None,
     }
 }
 

@@ -1,8 +1,5 @@
 //! The report of a whole run.
-ghost use Rattle.std.specs.Prelude.{◌≡◌, ◌<◌, [], All, IsTrue, is_some, length, IfOk, IfSome, OnOk};
-ghost use Rattle.er_explain.specs.Racing.{is_race};
-ghost use Rattle.er_held.specs.ThreadLocks.{held_by};
-ghost use Rattle.er_journal.specs.AnswerList.{shown};
+ghost use Rattle.std.specs.Prelude.{◌≡◌, ◌<◌, [], All, is_some, length, IfOk, IfSome, OnOk};
 ghost use Rattle.er_model.specs.Answers.{answers};
 ghost use Rattle.er_report.specs.Builder.{IsReported};
 ghost use Rattle.er_report.specs.Names.{HasNames};
@@ -10,10 +7,10 @@ ghost use Rattle.er_report.specs.Report.{told, report_of, answered_steps, stop_l
 ghost use Rattle.er_rules.specs.Rules.{targets_of};
 
 use crate::{Made, Report, ReportBuilder};
-use er_event::{Lockset, NoRoom, ThreadId};
+use er_event::NoRoom;
 use er_explain::cover_among;
 use er_held::ThreadLocks;
-use er_journal::{Answer, Outcome, Stopped};
+use er_journal::{Outcome, Stopped};
 use er_keys::HashKeys;
 use er_rules::Suppressions;
 use er_trace::Trace;
@@ -84,30 +81,13 @@ fn add_steps(
             break;
         };
         let (names, line, site) = (trace.names(), trace.lines()[k], trace.sites()[k]);
-        let held = race_locks(alloc, locks, step.thread, answer)?;
+        let held = locks.locks_of(alloc, step.thread)?;
         let added = builder.add(names, line, site, step, answer, &held);
         drop(held);
         added?;
         let cover = cover_among(alloc, locks, step)?;
-        let explained = builder.explain(line, step, cover.as_ref());
-        drop(cover);
-        explained?;
+        builder.explain(line, step, cover.as_ref())?;
         locks.follow(alloc, step)?;
     }
     Ok(())
-}
-
-// The locks that the thread holds, if this answers a race; a report needs no others.
-fn race_locks(
-    alloc: Global,
-    locks: &ThreadLocks,
-    thread: ThreadId,
-    answer: Answer<'_>,
-) -> Made<Lockset>
-    ensures { IfOk result (λ held. IsTrue (is_race (shown answer.entry)) → held ≡ (held_by locks.now thread).held) }
-{
-    match answer {
-        Answer::Race => locks.locks_of(alloc, thread),
-        _ => Ok(Lockset::new(alloc)),
-    }
 }

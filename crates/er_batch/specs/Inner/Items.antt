@@ -1,8 +1,12 @@
 -- The unusual answers of a batch, which go into a report with the usual ones.
-use Rattle.std.specs.Prelude.{◌≡◌, ◌<◌, ◌≤◌, ℕ, Bool, List, slice_get, Some, IsTrue}
+use Rattle.std.specs.Prelude.{◌≡◌, ◌<◌, ◌≤◌, ℕ, Bool, true, false, List, slice_get, Some, IsTrue}
+use Rattle.er_event.specs.declared.steps.Event.{Event}
+use Rattle.er_event.specs.declared.steps.Event.TheVariants.{Reuse}
 use Rattle.er_event.specs.declared.steps.Step.{Step}
+use Rattle.er_model.specs.Holdings.{holdings_at}
 use Rattle.er_parallel.specs.Crews.{AreNoted, AreUnusual}
 use Rattle.er_parallel.specs.declared.worker.Unusual.{Unusual}
+use Rattle.er_replay.specs.Standing.{Replayed, holding}
 
 -- the items below index `next` are those of the positions below k
 pub record IsNext (items : List Unusual) (next k : ℕ) : Type 0 where
@@ -13,3 +17,12 @@ pub record IsNext (items : List Unusual) (next k : ℕ) : Type 0 where
 pub record AreItems (noting : Bool) (past batch : List Step) (items : List Unusual) : Type 0 where
   pub unusual : AreUnusual past batch items
   pub noted : IsTrue noting → AreNoted past batch items
+
+-- if reasons are wanted, the machine has what each thread holds after the first n steps
+abbrev pub Holds : Bool → Replayed → List Step → ℕ → Type 0
+Holds wanted machine steps n = IsTrue wanted → (t : ℕ) → holding machine t ≡ holdings_at steps t n
+
+-- the event reuses words
+abbrev pub is_reuse : Event → Bool
+is_reuse (Reuse range) = true
+is_reuse _ = false

@@ -3,6 +3,7 @@ use Rattle.std.proofs.Common.{◌≡◌, ◌<◌, ◌+◌, ◌∙◌, ◌++◌, 
 use Rattle.std.proofs.lemmas.Option.{slice_get_read, slice_get_within}
 use Rattle.er_event.proofs.Lists.{get_behind}
 use Rattle.er_event.specs.declared.steps.Step.{Step}
+use Rattle.er_explain.specs.Following.{cover_by}
 use Rattle.er_model.specs.Answers.{answer_next}
 use Rattle.er_model.specs.Holdings.{Holdings}
 use Rattle.er_replay.proofs.BriefLemmas.{brief-room, if_err, refused, show-wants, whole}
@@ -14,7 +15,7 @@ use Rattle.er_text.specs.Batches.{joined}
 use Rattle.er_trace.specs.Trace.{Recording}
 use Rattle.er_batch.proofs.LagLemmas.{come-plain, come-told, lags-end}
 use Rattle.er_batch.proofs.BatchLemmas.{number-behind, site-behind}
-use Rattle.er_batch.proofs.StepLemmas.{step-at}
+use Rattle.er_batch.proofs.StepLemmas.{covers-end, step-at}
 use Rattle.er_batch.proofs.answering.answer_steps.Goals as goal
 use Rattle.er_batch.proofs.answering.answer_steps.Goals.{then-says_nothing, else-says_nothing+in_default+in_ok-added}
 
@@ -68,8 +69,8 @@ loop-k-preserved g c =
             (in_full now step.event c.take-brief.result.0) come
             (answered room (take at r.steps) come.stands) (c.says_nothing.ensures.plain w.if-says_nothing.true now step.event)
             (λ wanted.
-            let keeps = c.says_nothing.ensures.keeps w.if-says_nothing.true (c.explains-explains.ensures ∙ sym c.loop-k.invariant.explains ∙ wanted) in
-            (keeps.0, c.take-brief.ensures.unchanged (take at r.steps) (stands (take at r.steps) come.stands) room keeps.1))));
+            c.take-brief.ensures.unchanged (take at r.steps) (stands (take at r.steps) come.stands) room
+            (c.says_nothing.ensures.keeps w.if-says_nothing.true (c.explains-explains.ensures ∙ sym c.loop-k.invariant.explains ∙ wanted)))));
       }
       | else-says_nothing+in_default+in_ok-added w ↦ record {
         steps = rw (w.builder-is, w.plain-is) (let so_far = c.loop-k.invariant.steps in let added = w.in_ok-added.ensures.steps in omega arith);
@@ -89,7 +90,8 @@ loop-k-preserved g c =
             let reported : IsReported w.add_behind-added.new.builder r (at + 1) =
             w.in_ok-added.ensures.reported r at come.lags
             (step-at r at _ _ _ step w.in_full-answer.result _ (here past) line site c.names-names.ensures (whole_answer ∙ answered room (take at r.steps) come.stands)
-            (w.held-held.ensures.locks ∙ ap (λ (h : Holdings). h.held) (w.held.ensures.past (take at r.steps ++ step ∷ []) behind))) in
+            (w.held.ensures.locks ∙ ap (λ (h : Holdings). h.held) (w.held-holder.ensures.past (take at r.steps ++ step ∷ []) behind)))
+            (λ _. w.cover_in.ensures ∙ ap (λ (h : Holdings). cover_by h step.event) (w.held-holder.ensures.past (take at r.steps ++ step ∷ []) behind) ∙ covers-end r.steps at step (here past)) in
             let one : at + 1 ≡ length past + (k + 1) = omega arith in
             rw (w.builder-is, w.plain-is)
             (subst (λ (n : ℕ). HasComeTo c.take-brief.new.self w.add_behind-added.new.builder r n 0) one

@@ -25,9 +25,9 @@ loop-at-preserved c w =
     let here : slice_get steps c.loop-at.at ≡ Some c.step-item.result =
     slice_get_read steps (length steps) c.loop-at.at c.step-item.result refl (omega arith)
     (c.step-item.is ∙ get_or-take c.args.end steps c.loop-at.at c.step-item.result small) in
-    followed-next c.args.steps.now w c.loop-at.at c.step-item.result c.loop-at.locks c.follow.new.self
-    (named_book name_of (book_in c.loop-at.books w)) (named_book name_of (book_in c.follow-followed.new.self w)) here
+    followed-next c.args.steps.now w c.loop-at.at c.step-item.result c.loop-at.locks c.follow-in-loop-at.new.self
+    (named_book name_of (book_in c.loop-at.books w)) (named_book name_of (book_in c.follow.new.self w)) here
     (c.loop-at.invariant w)
-    (ap (named_book name_of) (c.in_ok-followed.ensures (held_by c.loop-at.locks c.step-item.result.thread) (c.as_ref.ensures.value ∙ c.in_ok-cover.ensures) w)
+    (ap (named_book name_of) (c.in_ok-follow.ensures (held_by c.loop-at.locks c.step-item.result.thread) (c.as_ref.ensures.value ∙ c.in_ok-cover.ensures) w)
     ∙ named-step name_of (book_in c.loop-at.books w) w (access_of c.loop-at.at c.step-item.result) (marked (held_by c.loop-at.locks c.step-item.result.thread) c.step-item.result.thread c.step-item.result.event))
-    c.in_ok-follow.ensures.threads
+    c.in_ok-follow-2.ensures.threads

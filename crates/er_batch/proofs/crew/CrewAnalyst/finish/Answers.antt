@@ -7,7 +7,7 @@ use Rattle.er_batch.proofs.crew.CrewAnalyst.finish.Goals as goal
 
 pub returns-in-Ok-clause-report : goal.returns-in-Ok-clause-report
 returns-in-Ok-clause-report c = λ asked r ran.
-    let inside : CrewRan = record { crew = c.self.inside.crew; items = c.self.inside.items.items; builder = c.self.inside.builder } in
+    let inside : CrewRan = record { holder = c.self.inside.holder; crew = c.self.inside.crew; items = c.self.inside.items.items; builder = c.self.inside.builder } in
     let run : HasCrewRun inside asked r = subst (λ (ran : CrewRan). HasCrewRun ran asked r) (sym c.self.view_is) ran in
     c.finish_explained.ensures.report r None (rw c.in-Ok.is at run.answered).1 refl
     ∙ ap (λ (rules : List Target). report_of r rules (is_some inside.builder.kept) None) run.rules

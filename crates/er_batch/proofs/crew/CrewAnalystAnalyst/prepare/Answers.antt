@@ -10,13 +10,13 @@ use Rattle.er_batch.proofs.crew.CrewAnalystAnalyst.prepare.Goals as goal
 
 pub returns-in_default-clause-ready : goal.returns-in_default-clause-ready
 returns-in_default-clause-ready g c = λ asked r ran.
-    let inside : CrewRan = record { crew = c.self.inside.crew; items = c.self.inside.items.items; builder = c.self.inside.builder } in
+    let inside : CrewRan = record { holder = c.self.inside.holder; crew = c.self.inside.crew; items = c.self.inside.items.items; builder = c.self.inside.builder } in
     let run : HasCrewRun inside asked r = subst (λ (ran : CrewRan). HasCrewRun ran asked r) (sym c.self.view_is) ran in
     ready-stopped inside asked r c.args.steps.now run _ c.in_default.is
 
 pub returns-in-Ok-answers-clause-ready : goal.returns-in-Ok-answers-clause-ready
 returns-in-Ok-answers-clause-ready g c = λ asked r ran.
-    let inside : CrewRan = record { crew = c.self.inside.crew; items = c.self.inside.items.items; builder = c.self.inside.builder } in
+    let inside : CrewRan = record { holder = c.self.inside.holder; crew = c.self.inside.crew; items = c.self.inside.items.items; builder = c.self.inside.builder } in
     let run : HasCrewRun inside asked r = subst (λ (ran : CrewRan). HasCrewRun ran asked r) (sym c.self.view_is) ran in
     let before = answered inside asked r c.args.steps.now run _ c.in-Ok.is in
     let items : AreItems (is_some c.self.inside.builder.kept) r.steps c.args.steps.now c.in-Ok-answers.items.items = record {
@@ -28,7 +28,7 @@ returns-in-Ok-answers-clause-ready g c = λ asked r ran.
 
 pub returns-in-Err-clause-ready : goal.returns-in-Err-clause-ready
 returns-in-Err-clause-ready g c = λ asked r ran.
-    let inside : CrewRan = record { crew = c.self.inside.crew; items = c.self.inside.items.items; builder = c.self.inside.builder } in
+    let inside : CrewRan = record { holder = c.self.inside.holder; crew = c.self.inside.crew; items = c.self.inside.items.items; builder = c.self.inside.builder } in
     let run : HasCrewRun inside asked r = subst (λ (ran : CrewRan). HasCrewRun ran asked r) (sym c.self.view_is) ran in
     ready-fault inside asked r c.args.steps.now run c.in-Err.why c.self.inside.items.items
     (subst (λ (o : Result _ ReplayFault). IfErr o (λ why. MayFail (r.steps ++ c.args.steps.now) why)) c.in-Err.is

@@ -16,7 +16,7 @@ returns-in_ok-push c = λ r rules k so_far here number covers printed.
     let tells : map (λ reasons. reasons.items) c.push.new.self.items ≡ told ++ cond c.args.printed (found ∷ []) [] =
     ap (map (λ reasons. reasons.items)) c.in_ok-push.ensures.items
     ∙ map-append (λ reasons. reasons.items) c.self.inside.told.items (c.in_ok-reasons.reasons ∷ [])
-    ∙ ap (λ (reasons : List Because). told ++ reasons ∷ []) (c.in_ok-reasons.ensures ∙ ap (word_reasons (book_in c.follow.new.self)) c.word_in.ensures)
+    ∙ ap (λ (reasons : List Because). told ++ reasons ∷ []) c.in_ok-reasons.ensures
     ∙ ap (λ (b : Bool). told ++ cond b (found ∷ []) []) (sym c.if-printed.true) in
     follows-next before _ r rules k c.args.line c.args.step.now c.args.printed c.follow.new.self (subst (λ (kept : Kept). Follows kept r rules k) (sym c.self.view_is) so_far) here number printed
     (c.in_ok-follow.ensures (holdings_at r.steps c.args.step.now.thread k) covers) refl tells
