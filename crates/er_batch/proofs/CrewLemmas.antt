@@ -252,8 +252,11 @@ module _ (past : List Step) (lines sites : List ℕ) (names : NameTable) (trace 
       → IsReported added after (length past + length trace.steps) → Holds (is_some old.builder.kept) holder (past ++ trace.steps) (length past + length trace.steps)
       → HasCrewRun (record { holder = holder; crew = old.crew; items = old.items; builder = added }) asked after
   goes crew is added holder rules explains reported holds = record {
-    answered = rw is ((rw is at run.answered).0, subst (IsReported added after) (sym (length-append past trace.steps)) reported,
-        subst (λ (n : ℕ). Holds (is_some added.kept) holder (past ++ trace.steps) n) (sym (length-append past trace.steps)) (λ wanted. holds (sym explains ∙ wanted)));
+    answered = rw is (
+      (rw is at run.answered).0,
+      subst (IsReported added after) (sym (length-append past trace.steps)) reported,
+      subst (λ (n : ℕ). Holds (is_some added.kept) holder (past ++ trace.steps) n) (sym (length-append past trace.steps)) (λ wanted. holds (sym explains ∙ wanted)),
+    );
     rules = rules ∙ run.rules;
     explain = explains ∙ run.explain;
     formed = formed;

@@ -2,7 +2,7 @@
 use Rattle.std.proofs.Common.{◌≡◌, ◌+◌, ◌-◌, ◌^◌, ◌++◌, ℕ, min, List, [], length, Option, Some, None, IfSome, Ok, refl, sym, ap, ◌∙◌, arith}
 use Rattle.std.proofs.lemmas.List.{length-append}
 use Rattle.std.proofs.lemmas.List.Elements.{All-filter, filter-append}
-use Rattle.std.specs.List.{All, count_by, filter}
+use Rattle.std.specs.List.{count_by, filter}
 use Rattle.er_batch.proofs.BatchLemmas.{all-known, all-named, read-whole, read-part}
 use Rattle.er_batch.specs.Analysts.{HasCounted, IsAnswered}
 use Rattle.er_batch.specs.Inner.Passes.{HasCome, HasEnded, StandsFor}

@@ -1,5 +1,5 @@
 -- What was handed out of touches says of lines what all of them say.
-use Rattle.std.proofs.Common.{◌≡◌, ◌<◌, ◌≤◌, ◌==◌, ◌∙◌, ℕ, zero, nat_le, Bool, true, false, cond, List, [], ◌∷◌, ◌++◌, append_assoc, filter, find, length, Option, Some, None, IfSome, refl, sym, ap, subst, arith}
+use Rattle.std.proofs.Common.{◌≡◌, ◌<◌, ◌≤◌, ◌==◌, ◌∙◌, ℕ, nat_le, Bool, true, false, cond, List, [], ◌∷◌, ◌++◌, append_assoc, filter, Option, Some, None, IfSome, refl, sym, ap, subst, arith}
 use Rattle.std.proofs.lemmas.Bool.{eqb-true, le-leb, leb-true}
 use Rattle.std.proofs.lemmas.Bool.Decides.{nat_tests}
 use Rattle.std.specs.List.{All}

@@ -137,7 +137,9 @@ fn answer_steps(
             let (held, cover) = (holder.held(), cover_in(holder, step.event));
             let line = trace.lines()[k];
             let site = trace.sites()[k];
-            let added = add_behind(builder, plain, names, line, site, step, &answer, held, cover);
+            let added = add_behind(
+                builder, plain, names, line, site, step, &answer, held, cover,
+            );
             drop(answer);
             added?;
             plain = 0;

@@ -141,7 +141,12 @@ impl<'t, 'r> Analyst for CrewAnalyst<'t, 'r> {
         let Ok(_) = &self.crew else {
             return Ok(());
         };
-        add_items(&mut self.holder, &mut self.builder, trace, self.items.as_slice())
+        add_items(
+            &mut self.holder,
+            &mut self.builder,
+            trace,
+            self.items.as_slice(),
+        )
     }
 
     fn counts(&self) -> (u64, u64) {
@@ -267,7 +272,17 @@ fn add_next(
         }
         None => {
             let usual = usual_answer(step);
-            add_behind(builder, plain, names, line, site, step, &usual, held.held(), cover)?;
+            add_behind(
+                builder,
+                plain,
+                names,
+                line,
+                site,
+                step,
+                &usual,
+                held.held(),
+                cover,
+            )?;
             Ok(next)
         }
     }

@@ -20,7 +20,7 @@ use Rattle.er_batch.proofs.answering.answer_steps.Goals as goal
 use Rattle.er_batch.proofs.answering.answer_steps.Goals.{then-says_nothing, else-says_nothing+in_default+in_ok-added}
 
 pub returns-in-Some-clause-run : goal.returns-in-Some-clause-run
-returns-in-Some-clause-run g c = λ past lines sites long each before.
+returns-in-Some-clause-run c = λ past lines sites long each before.
     let r : Recording = joined past lines sites c.args.trace.now in
     let k : ℕ = c.loop-k.k in
     let step : Step = c.index-steps-k.result in
@@ -38,7 +38,7 @@ returns-in-Some-clause-run g c = λ past lines sites long each before.
     )
 
 pub loop-k-preserved : goal.loop-k-preserved
-loop-k-preserved g c =
+loop-k-preserved c =
     let k : ℕ = c.loop-k.k in
     let step : Step = c.index-steps-k.result in
     let read : slice_get c.steps-steps.result.now k ≡ Some step = slice_get_read c.steps-steps.result.now _ k step refl (omega arith) c.index-steps-k.is in
@@ -90,8 +90,8 @@ loop-k-preserved g c =
             let reported : IsReported w.add_behind-added.new.builder r (at + 1) =
             w.in_ok-added.ensures.reported r at come.lags
             (step-at r at _ _ _ step w.in_full-answer.result _ (here past) line site c.names-names.ensures (whole_answer ∙ answered room (take at r.steps) come.stands)
-            (w.held.ensures.locks ∙ ap (λ (h : Holdings). h.held) (w.held-holder.ensures.past (take at r.steps ++ step ∷ []) behind)))
-            (λ _. w.cover_in.ensures ∙ ap (λ (h : Holdings). cover_by h step.event) (w.held-holder.ensures.past (take at r.steps ++ step ∷ []) behind) ∙ covers-end r.steps at step (here past)) in
+            (w.held-held.ensures.locks ∙ ap (λ (h : Holdings). h.held) (w.held-holder.ensures.past (take at r.steps ++ step ∷ []) behind)))
+            (λ _. w.cover_in-cover.ensures ∙ ap (λ (h : Holdings). cover_by h step.event) (w.held-holder.ensures.past (take at r.steps ++ step ∷ []) behind) ∙ covers-end r.steps at step (here past)) in
             let one : at + 1 ≡ length past + (k + 1) = omega arith in
             rw (w.builder-is, w.plain-is)
             (subst (λ (n : ℕ). HasComeTo c.take-brief.new.self w.add_behind-added.new.builder r n 0) one

@@ -7,7 +7,7 @@ use Rattle.er_batch.proofs.answering.answer_steps.Given as goal
 -- behind any steps that were answered, the machine stands for these and the first k steps of the trace, and the report lags behind by the
 -- steps that are counted
 abbrev pub invariant-loop-k : goal.invariant-loop-k
-invariant-loop-k g l = record {
+invariant-loop-k l = record {
   steps : l.builder.report.steps + l.plain ≡ l.fn.builder.report.steps + l.k;
   rules : l.builder.rules ≡ l.fn.builder.rules;
   explains : is_some l.builder.kept ≡ is_some l.fn.builder.kept;

@@ -7,7 +7,6 @@ use Rattle.er_batch.specs.Runs.{recorded}
 use Rattle.er_device.specs.Device.{inner_of}
 use Rattle.er_event.specs.declared.steps.Step.{Step}
 use Rattle.er_lines.specs.Touches.{HasHanded, StaysKnown}
-use Rattle.er_lines.specs.declared.ready.Touch.{Touch}
 use Rattle.er_text.specs.Batches.{GivesBatch, HasRead}
 use Rattle.er_text.specs.Named.{Grows}
 use Rattle.er_trace.specs.Trace.{Recording, without_steps}
