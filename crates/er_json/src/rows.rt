@@ -84,7 +84,12 @@ fn put_end(out: &mut Vec<u8>, legend: &Legend, race: &Race<'_>) -> Put
 }
 
 /// Puts the accesses that make a race, each in this form.
-pub(crate) fn put_reasons(out: &mut Vec<u8>, form: ReasonForm, legend: &Legend, reasons: &[Because]) -> Put
+pub(crate) fn put_reasons(
+    out: &mut Vec<u8>,
+    form: ReasonForm,
+    legend: &Legend,
+    reasons: &[Because],
+) -> Put
     requires { All (HasReasonNames legend.now.names.now) reasons.now }
     ensures { OnOk result (out.new.items ≡ out.old.items ++ values_text (reason_in form legend.now.names.now legend.now.places.now) reasons.now) }
 {
