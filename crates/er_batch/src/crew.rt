@@ -141,12 +141,8 @@ impl<'t, 'r> Analyst for CrewAnalyst<'t, 'r> {
         let Ok(_) = &self.crew else {
             return Ok(());
         };
-        add_items(
-            &mut self.holder,
-            &mut self.builder,
-            trace,
-            self.items.as_slice(),
-        )
+        let items = self.items.as_slice();
+        add_items(&mut self.holder, &mut self.builder, trace, items)
     }
 
     fn counts(&self) -> (u64, u64) {
@@ -200,7 +196,9 @@ fn add_items(
     let mut next = 0;
     let mut plain = 0;
     for (k, step) in steps.iter().enumerate() {
-        pass_if(explains, holder, step)?;
+        if explains {
+            holder.pass(*step)?;
+        }
         if says_nothing(explains, step, items, next, k) {
             plain += 1;
         } else {
@@ -209,17 +207,6 @@ fn add_items(
         }
     }
     builder.add_plain(plain);
-    Ok(())
-}
-
-// Takes what a step makes of its thread's holdings, if reasons are wanted.
-#[inline(always)]
-fn pass_if(wanted: bool, holder: &mut OwnMachine, step: &Step) -> Result<(), AllocError>
-    ensures { (steps : List Steps) (n : ℕ) → slice_get steps n ≡ Some step.now → Holds wanted holder.old steps n → OnOk result (Holds wanted holder.new steps (n + 1)) }
-{
-    if wanted {
-        return holder.pass(*step);
-    }
     Ok(())
 }
 
@@ -262,8 +249,8 @@ fn add_next(
     let line = trace.lines()[k];
     let site = trace.sites()[k];
     let names = trace.names();
-    let held = holder.held(step.thread);
-    let cover = cover_in(held, step.event);
+    let holds = holder.held(step.thread);
+    let (held, cover) = (holds.held(), cover_in(holds, step.event));
     match item_at(items, next, k) {
         Some(item) => {
             let Unusual { answer, held, .. } = item;
@@ -272,17 +259,7 @@ fn add_next(
         }
         None => {
             let usual = usual_answer(step);
-            add_behind(
-                builder,
-                plain,
-                names,
-                line,
-                site,
-                step,
-                &usual,
-                held.held(),
-                cover,
-            )?;
+            add_behind(builder, plain, names, line, site, step, &usual, held, cover)?;
             Ok(next)
         }
     }

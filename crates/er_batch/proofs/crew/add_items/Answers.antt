@@ -7,10 +7,10 @@ use Rattle.er_batch.specs.Inner.Answering.{Lags}
 use Rattle.er_batch.specs.Inner.Items.{Holds}
 use Rattle.er_text.specs.Batches.{joined}
 use Rattle.er_trace.specs.Trace.{Recording}
-use Rattle.er_batch.proofs.CrewLemmas.{unnoted, usual-plain}
+use Rattle.er_batch.proofs.CrewLemmas.{holds-next, unnoted, usual-plain}
 use Rattle.er_batch.proofs.LagLemmas.{lags-more, lags-none}
 use Rattle.er_batch.proofs.crew.add_items.Goals as goal
-use Rattle.er_batch.proofs.crew.add_items.Goals.{then-says_nothing, else-says_nothing+in_ok-next}
+use Rattle.er_batch.proofs.crew.add_items.Goals.{then-explains+in_ok-pass, else-explains, then-says_nothing, else-says_nothing+in_ok-next}
 
 pub loop-k-preserved : goal.loop-k-preserved
 loop-k-preserved c =
@@ -22,15 +22,20 @@ loop-k-preserved c =
     let here : slice_get trace.steps k ≡ Some step = rw c.steps-steps.ensures.value at read in
     let asks : c.explains-explains.result ≡ is_some c.args.builder.now.kept = c.explains-explains.ensures in
     let holds : (past : List Step) → Holds (is_some c.args.builder.now.kept) c.args.holder.now (past ++ trace.steps) (length past)
-    → Holds (is_some c.args.builder.now.kept) c.pass_if.new.holder (past ++ trace.steps) (length past + k + 1) =
-    λ past before wanted.
-    c.in_ok-pass_if.ensures (past ++ trace.steps) (length past + k) (get_behind past trace.steps k (length past + k) refl ∙ here)
-    (λ asked. c.loop-k.invariant.holds past before (sym asks ∙ asked)) (asks ∙ wanted) in
+    → Holds (is_some c.args.builder.now.kept) c.if-explains.holder (past ++ trace.steps) (length past + k + 1) =
+    λ past before.
+    elim c.if-explains.branch [
+      | then-explains+in_ok-pass w ↦
+          rw w.holder-is
+          (holds-next _ c.loop-k.holder w.pass.new.self (past ++ trace.steps) (length past + k) step (get_behind past trace.steps k (length past + k) refl ∙ here)
+          w.in_ok-pass.ensures.holdings (c.loop-k.invariant.holds past before))
+      | else-explains w ↦ λ wanted. absurd (let clash = sym w.if-explains.false ∙ asks ∙ wanted in cc)
+    ] in
     let held : (past : List Step) → Holds (is_some c.args.builder.now.kept) c.args.holder.now (past ++ trace.steps) (length past)
-    → Holds (is_some c.args.builder.now.kept) c.pass_if.new.holder (past ++ trace.steps) (length past + (k + 1)) =
+    → Holds (is_some c.args.builder.now.kept) c.if-explains.holder (past ++ trace.steps) (length past + (k + 1)) =
     λ past before.
     let one : length past + k + 1 ≡ length past + (k + 1) = omega arith in
-    subst (λ (n : ℕ). Holds (is_some c.args.builder.now.kept) c.pass_if.new.holder (past ++ trace.steps) n) one (holds past before) in
+    subst (λ (n : ℕ). Holds (is_some c.args.builder.now.kept) c.if-explains.holder (past ++ trace.steps) n) one (holds past before) in
     elim c.if-says_nothing.branch [
       | then-says_nothing w ↦ record {
         steps = rw (w.builder-is, w.plain-is) (let so_far = c.loop-k.invariant.steps in omega arith);

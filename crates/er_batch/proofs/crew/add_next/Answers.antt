@@ -25,7 +25,7 @@ returns-in_ok-add_behind-in-Some-clause-reported c = λ past lines sites long ea
     let found = c.in-Some.ensures unusual.rise next in
     let at = with-item past trace.steps r.lines r.sites trace.names c.args.items.now unusual k _ _ step here line site c.args.next c.in-Some.item.now found.0 found.1 in
     c.in_ok-add_behind-in-Some.ensures.reported r (length past + k) lags (rw c.names-names.ensures at)
-    (λ wanted. c.cover_in-cover.ensures ∙ ap (λ (h : Holdings). cover_by h step.event) (c.held-held.ensures.own ∙ holds wanted step.thread) ∙ covers-next r.steps (length past + k) step at.here)
+    (λ wanted. c.cover_in-cover.ensures ∙ ap (λ (h : Holdings). cover_by h step.event) (c.held-holds.ensures.own ∙ holds wanted step.thread) ∙ covers-next r.steps (length past + k) step at.here)
 
 pub returns-in_ok-add_behind-in-None-clause-reported : goal.returns-in_ok-add_behind-in-None-clause-reported
 returns-in_ok-add_behind-in-None-clause-reported c = λ past lines sites long each unusual next holds lags.
@@ -38,6 +38,6 @@ returns-in_ok-add_behind-in-None-clause-reported c = λ past lines sites long ea
     let line = ap (λ (numbers : List ℕ). slice_index numbers k) c.lines.ensures.value ∙ number-behind lines trace.lines (length past) k long in
     let inside : k < length c.sites.result.now = rw (c.sites.ensures.value, c.sites.ensures.one_per_step) c.requires.within in
     let site = site-behind c.sites.result.now sites trace.sites (length past) k c.index-sites-k.result c.sites.ensures.value each inside c.index-sites-k.is in
-    let at = as-usual past trace.steps r.lines r.sites trace.names c.args.items.now unusual k _ _ step here line site c.args.next next (c.in-None.ensures unusual.rise next) c.held.result.now in
+    let at = as-usual past trace.steps r.lines r.sites trace.names c.args.items.now unusual k _ _ step here line site c.args.next next (c.in-None.ensures unusual.rise next) c.held-held.result.now in
     c.in_ok-add_behind-in-None.ensures.reported r (length past + k) lags (rw (c.names-names.ensures, c.usual_answer-usual.ensures) at)
-    (λ wanted. c.cover_in-cover.ensures ∙ ap (λ (h : Holdings). cover_by h step.event) (c.held-held.ensures.own ∙ holds wanted step.thread) ∙ covers-next r.steps (length past + k) step at.here)
+    (λ wanted. c.cover_in-cover.ensures ∙ ap (λ (h : Holdings). cover_by h step.event) (c.held-holds.ensures.own ∙ holds wanted step.thread) ∙ covers-next r.steps (length past + k) step at.here)

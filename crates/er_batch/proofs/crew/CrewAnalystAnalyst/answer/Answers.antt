@@ -26,7 +26,7 @@ returns g c = record {
       let run : IsCrewReady inside asked (recorded past lines sites names) trace.steps = subst (λ (ran : CrewRan). IsCrewReady ran asked (recorded past lines sites names) trace.steps) (sym c.self.view_is) ran in
       let holding = holds past lines sites names trace kept fits inside asked run _ c.in-Ok.is in
       on-done _ _ c.add_items.result _ _ _ _ _ c.add_items.ensures.rules c.add_items.ensures.explains
-      ((rw c.as_slice.ensures.value at c.add_items.ensures.reported) past lines sites run.formed.long run.formed.one_each
+      ((rw c.as_slice-items.ensures.value at c.add_items.ensures.reported) past lines sites run.formed.long run.formed.one_each
       (items-of past lines sites names trace kept fits inside asked run _ c.in-Ok.is) holding (reported past lines sites names trace kept fits inside asked run _ c.in-Ok.is))
       (c.add_items.ensures.holds past holding)
       (λ rules explains added held. goes past lines sites names trace kept fits inside asked run _ c.in-Ok.is c.add_items.new.builder c.add_items.new.holder rules explains added held);
