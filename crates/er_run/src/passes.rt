@@ -34,11 +34,12 @@ use std::thread::Threads;
 /// What answers the steps of a request: each rule that is asked for, and what looks for damage.
 type Analysts<'r> = Pair<Pair<Option<LocksetAnalyst<'r>>, Option<OrderAnalyst<'r>>>, Inspection>;
 
-/// The report by the lockset rule of a replay by several workers, which share their sets of locks by a table. A quarter of them answer while the others
-/// read, since of several that answer each goes over all steps.
+/// The report by the lockset rule of a replay by several workers, over this table. A quarter of them answer while the others read, since of several that
+/// answer each goes over all steps.
 pub(crate) fn report_by_crew<R: Threads + Wait + Sync, D: Read, S: Shortcut<D>, V: Watch>(
     rt: &R,
     alloc: Global,
+    table: &LocksetTable,
     reader: &mut Device<D>,
     shortcut: &S,
     suppressions: &Suppressions,
@@ -51,8 +52,7 @@ pub(crate) fn report_by_crew<R: Threads + Wait + Sync, D: Read, S: Shortcut<D>, 
 {
     let answering = (options.workers / 4).max(1);
     let readers = (options.workers - answering).max(1);
-    let table = LocksetTable::keyed(alloc, options.max_sets, options.keys)?;
-    let crew = CrewAnalyst::new(rt, alloc, &table, suppressions, options, answering)?;
+    let crew = CrewAnalyst::new(rt, alloc, table, suppressions, options, answering)?;
     let inspection = Inspection::new(alloc, looks_for_damage(options));
     let all = Pair {
         first: crew,
@@ -147,16 +147,8 @@ fn analysts_of<'r>(
     ensures stands { (asked : Asked) → asked.analysis ≡ analysis → asked.rules ≡ targets_of suppressions.now → asked.explain ≡ options.now.explain → asked.strict ≡ looks_for_damage options.now
         → IfOk result (λ all. AllStand all.first.first all.first.second all.second.inspector asked no_steps) }
 {
-    let lockset = if analysis.asks_locks() {
-        Some(LocksetAnalyst::new(alloc, suppressions, options)?)
-    } else {
-        None
-    };
-    let ordering = if analysis.asks_order() {
-        Some(OrderAnalyst::new(alloc, suppressions, options.explain, options.keys)?)
-    } else {
-        None
-    };
+    let lockset = lockset_if(alloc, suppressions, options, analysis)?;
+    let ordering = ordering_if(alloc, suppressions, options, analysis)?;
     Ok(Pair {
         first: Pair {
             first: lockset,
@@ -164,6 +156,40 @@ fn analysts_of<'r>(
         },
         second: Inspection::new(alloc, looks_for_damage(options)),
     })
+}
+
+// The lockset rule, if it is asked for.
+fn lockset_if<'r>(
+    alloc: Global,
+    suppressions: &'r Suppressions,
+    options: &Options,
+    analysis: Analysis,
+) -> Result<Option<LocksetAnalyst<'r>>, AllocError>
+    ensures stands { (asked : Asked) → asked.analysis ≡ analysis → asked.rules ≡ targets_of suppressions.now → asked.explain ≡ options.now.explain
+        → IfOk result (λ lockset. StandsIf (λ (one : Ran). HasRunFor one asked no_steps) (asks_locks asked.analysis) lockset) }
+{
+    if !analysis.asks_locks() {
+        return Ok(None);
+    }
+    let lockset = LocksetAnalyst::new(alloc, suppressions, options)?;
+    Ok(Some(lockset))
+}
+
+// Happens-before, if it is asked for.
+fn ordering_if<'r>(
+    alloc: Global,
+    suppressions: &'r Suppressions,
+    options: &Options,
+    analysis: Analysis,
+) -> Result<Option<OrderAnalyst<'r>>, AllocError>
+    ensures stands { (asked : Asked) → asked.analysis ≡ analysis → asked.rules ≡ targets_of suppressions.now → asked.explain ≡ options.now.explain
+        → IfOk result (λ ordering. StandsIf (λ (one : OrderRan). HasOrdered one asked no_steps) (asks_order asked.analysis) ordering) }
+{
+    if !analysis.asks_order() {
+        return Ok(None);
+    }
+    let ordering = OrderAnalyst::new(alloc, suppressions, options.explain, options.keys)?;
+    Ok(Some(ordering))
 }
 
 // The reports of the text that was read, or its damage, if the replay is strict and there is any, or why an analysis has stopped.

@@ -22,6 +22,7 @@ use er_lines::{ByText, Shortcut};
 use er_print::write_report;
 use er_report::{Analysis, Report, Reports};
 use er_rules::Suppressions;
+use er_table::LocksetTable;
 use std::alloc::Global;
 use std::io::{Read, Write};
 use std::sync::Wait;
@@ -143,14 +144,23 @@ where
     ensures alone { options.now.workers ≡ 1 → options.now.part ≡ None → analysis ≡ Lockset → IfErr result IsOfReading }
     ensures one { options.now.workers ≡ 1 → analysis ≡ Lockset → IfErr result IsOfOneWorker }
 {
-    let rules = suppressions;
+    let table = LocksetTable::keyed(alloc, options.max_sets, options.keys)?;
     let found = if options.workers > 1 && !analysis.asks_order() {
-        report_by_crew(rt, alloc, reader, shortcut, rules, options, watcher)
+        let rules = suppressions;
+        report_by_crew(rt, alloc, &table, reader, shortcut, rules, options, watcher)
     } else {
         reports_by_one(
-            rt, alloc, reader, shortcut, rules, options, analysis, watcher,
+            rt,
+            alloc,
+            reader,
+            shortcut,
+            suppressions,
+            options,
+            analysis,
+            watcher,
         )
     };
+    drop(table);
     watcher.end();
     found
 }
