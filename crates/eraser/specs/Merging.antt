@@ -21,14 +21,13 @@ WritesMerged texts old new (Ok status) =
 WritesMerged texts old new (Err (Merging fault)) = Merges texts (Err fault)
 WritesMerged texts old new (Err fault) = Unit {0}
 
--- nothing of the request has changed but its part and the counts
-abbrev pub IsButForPages : Replay → Replay → Type 0
-IsButForPages old new =
-    (new.hints ≡ old.hints) × (new.until_fault ≡ old.until_fault) × (new.suppressions ≡ old.suppressions) × (new.write_rules ≡ old.write_rules)
-    × (new.unused_rules ≡ old.unused_rules) × (new.max_races ≡ old.max_races) × (new.trace ≡ old.trace) × (new.reports ≡ old.reports)
-    × (new.analysis ≡ old.analysis) × (new.form ≡ old.form) × (new.source ≡ old.source) × (new.explain ≡ old.explain) × (new.strict ≡ old.strict)
-    × (new.progress ≡ old.progress) × (new.shards ≡ old.shards) × (new.workers ≡ old.workers) × (new.byte_limit ≡ old.byte_limit)
-    × (new.binary_limit ≡ old.binary_limit)
+-- nothing that was asked for has changed but the part of the trace, and what its report counts
+abbrev pub Stays : Replay → Replay → Type 0
+Stays old new =
+    (new.suppressions ≡ old.suppressions) × (new.write_rules ≡ old.write_rules) × (new.unused_rules ≡ old.unused_rules) × (new.max_races ≡ old.max_races)
+    × (new.trace ≡ old.trace) × (new.reports ≡ old.reports) × (new.analysis ≡ old.analysis) × (new.form ≡ old.form) × (new.source ≡ old.source)
+    × (new.explain ≡ old.explain) × (new.strict ≡ old.strict) × (new.until_fault ≡ old.until_fault) × (new.progress ≡ old.progress) × (new.hints ≡ old.hints)
+    × (new.shards ≡ old.shards) × (new.workers ≡ old.workers) × (new.byte_limit ≡ old.byte_limit) × (new.binary_limit ≡ old.binary_limit)
 
 -- some texts make one report, the pages of its lines are replayed, and these are its counts. That these are the texts of the reports' files isn't shown
 abbrev pub IsMergedFor : Replay → Type 0

@@ -11,7 +11,6 @@ ghost use Rattle.er_exit.specs.Writes.{GetsLine, LeavesOutput};
 ghost use Rattle.er_request.specs.Words.{IsUsual, names_hints, names_progress, names_until_fault, prints_input, replays_input};
 ghost use Rattle.er_rules.specs.Rules.{targets_of};
 ghost use Rattle.er_triage.specs.Notes.{AreNotes};
-ghost use Rattle.eraser.specs.Merging.{IsButForPages};
 ghost use Rattle.eraser.specs.Notes.{AddsNotesOn, GetsNotes, GetsTextNotes};
 ghost use Rattle.eraser.specs.Printing.{PrintsTo};
 ghost use Rattle.eraser.specs.Replays.{AreOptionsOf, ComesTo, EndsAs, EndsUsually, FailsAs, IsEndOf, OfTrace, OfTraceFile, UnderRules, headed_part, limit_of};
@@ -134,8 +133,7 @@ where
     P: Write,
     requires input { has_failed input.old ≡ false }
     requires output { has_failed output.old ≡ false }
-    ensures same { IsButForPages replay.old replay.new }
-    ensures none { replay.old.reports.items ≡ [] → replay.new ≡ replay.old }
+    ensures same { (replay.new.hints ≡ replay.old.hints) × (replay.new.until_fault ≡ replay.old.until_fault) }
     ensures end { IfOk result (IsEndOf replay.new) }
     ensures ends { IfOk result (λ ended. UnderRules replay.new (λ rules. OfTrace R.File.remaining replay.new (I.remaining (inner_of input.old)) (S.touches (inner_of input.old)) (λ text touches limit. EndsAs R.File.remaining replay.new text touches limit rules (O.contents (inner_of output.old)) (O.contents (inner_of output.new)) ended))) }
     ensures usual { IsUsual replay.old → IfSome (I.remaining (inner_of input.old)) (λ text. EndsUsually text (has_failed input.new) (has_failed output.new) (O.contents (inner_of output.old)) (O.contents (inner_of output.new)) result) }

@@ -3,7 +3,7 @@ ghost use Rattle.std.specs.Prelude.{◌≡◌, ◌≤◌, ◌⊎◌, ℕ, List, 
 ghost use Rattle.er_device.specs.Device.{inner_of, has_failed};
 ghost use Rattle.er_exit.specs.Writes.{LeavesOutput};
 ghost use Rattle.er_merge.specs.Merging.{Merges};
-ghost use Rattle.eraser.specs.Merging.{IsButForPages, IsMergedFor, MergedIsWhole, WritesMerged};
+ghost use Rattle.eraser.specs.Merging.{IsMergedFor, MergedIsWhole, Stays, WritesMerged};
 ghost use Rattle.eraser.specs.Stories.{FailsOutput};
 
 use crate::traces::print_text;
@@ -72,7 +72,7 @@ pub(crate) fn merge_for<R: Files + AllocGlobal>(
     replay: &mut Replay<'_>,
 ) -> Result<(), Fault>
     ensures none { replay.old.reports.items ≡ [] → IsOk result × (replay.new ≡ replay.old) }
-    ensures same { IsButForPages replay.old replay.new }
+    ensures same { Stays replay.old replay.new }
     ensures merged { IfOk result (λ done. (replay.old.reports.items ≡ []) ⊎ IsMergedFor replay.new) }
     ensures nothing { IfErr result (λ why. (output : Option (List ℕ)) → LeavesOutput output output why) }
 {
@@ -82,7 +82,8 @@ pub(crate) fn merge_for<R: Files + AllocGlobal>(
     let texts = texts_of(rt, &replay.reports)?;
     let made = merged_of(rt, replay, &texts);
     drop(texts);
-    take_merged(replay, made?);
+    let merged = made?;
+    take_merged(replay, merged);
     Ok(())
 }
 
@@ -94,10 +95,15 @@ pub(crate) fn merged_pages_report_the_whole<R: Files>()
 
 // Has the replay keep the pages of the merged lines, and count what the reports count together.
 fn take_merged(replay: &mut Replay<'_>, merged: Merged)
-    ensures same { IsButForPages replay.old replay.new }
+    ensures same { Stays replay.old replay.new }
     ensures made { (replay.new.part ≡ Some merged.pages) × (replay.new.counts ≡ Some merged.counts) }
 {
-    let Merged { counts, pages, .. } = merged;
+    let Merged {
+        text,
+        counts,
+        pages,
+    } = merged;
+    drop(text);
     replay.part = Some(pages);
     replay.counts = Some(counts);
 }
