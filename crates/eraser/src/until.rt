@@ -134,7 +134,6 @@ where
         drop(source);
         return Err(cut_by(rt.alloc(), Fault::Read));
     };
-    // A stream that is kept in memory has the limit of a text.
     let has_own_limit = source.inner().is_binary() && !is_kept;
     let options = options_of(replay, has_own_limit, job.options.keys);
     let job = Job {
