@@ -100,6 +100,7 @@ impl LineReader {
         ensures failed { Failing (has_failed reader.old) (has_failed reader.new) result }
         ensures taken { taken_of reader.new + taken_by self.old ≤ taken_of reader.old + taken_by self.new }
         ensures most { taken_by self.new ≤ self.new.limit + bytes_past_limit }
+        ensures names { KeepsNames (S.names_of (inner_of reader.old)) (S.names_of (inner_of reader.new)) }
         ensures touches { StaysKnown (S.touches (inner_of reader.old)) (S.touches (inner_of reader.new)) }
     {
         let most = (self.limit + 1025 - self.start) as usize;
@@ -148,6 +149,7 @@ impl LineReader {
         ensures failed { HasFailedBy (has_failed reader.new) result }
         ensures taken { taken_of reader.new + taken_by self.old ≤ taken_of reader.old + taken_by self.new }
         ensures most { taken_by self.new ≤ self.new.limit + bytes_past_limit }
+        ensures names { KeepsNames (S.names_of (inner_of reader.old)) (S.names_of (inner_of reader.new)) }
         ensures touches { StaysKnown (S.touches (inner_of reader.old)) (S.touches (inner_of reader.new)) }
     {
         let most = (self.limit + 1025 - self.start) as usize;

@@ -72,6 +72,7 @@ pub trait Shortcut<R: Read> {
     fn read(&self, reader: &mut R, buffer: &mut [u8]) -> io::Result<usize>
         ensures bound { ReadsAtMost result buffer.new }
         ensures bytes { ReadConsumes (R.remaining reader.old) (R.remaining reader.new) result buffer.new }
+        ensures names { KeepsNames (names_of reader.old) (names_of reader.new) }
         ensures touches { StaysKnown (touches reader.old) (touches reader.new) };
 
     /// Whether most lines are ready, so that one thread that takes them is faster than several that read text. It changes nothing of what they are.

@@ -2,6 +2,7 @@
 ghost use Rattle.std.specs.Prelude.{◌≡◌, ◌≢◌, ◌+◌, ◌-◌, ◌^◌, ◌<◌, ◌≤◌, ℕ, List, Option, length, take, drop, slice_index, All, IfOk, OnErr, OnOk, max, vec_len, ◌++◌};
 ghost use Rattle.std.specs.Io.KnownBytes.{Keeps, Consumes, IsAtEnd, prepend_known};
 ghost use Rattle.er_device.specs.Device.{inner_of, has_failed, taken_of, Failing};
+ghost use Rattle.er_lines.specs.Ready.{KeepsNames};
 ghost use Rattle.er_lines.specs.Touches.{StaysKnown};
 
 use crate::bytes::line_len;
@@ -97,6 +98,7 @@ impl Window {
         ensures taken { IfOk result (λ n. taken_of reader.new ≤ taken_of reader.old + n) }
         ensures taken_err { OnErr result (taken_of reader.new ≡ taken_of reader.old) }
         ensures kept { OnErr result (items self.new ≡ items self.old) }
+        ensures names { KeepsNames (S.names_of (inner_of reader.old)) (S.names_of (inner_of reader.new)) }
         ensures touches { StaysKnown (S.touches (inner_of reader.old)) (S.touches (inner_of reader.new)) }
     {
         let end = self.end;
@@ -121,6 +123,7 @@ impl Window {
         ensures most { length (items self.new) ≤ most }
         ensures failed { Failing (has_failed reader.old) (has_failed reader.new) result }
         ensures taken { taken_of reader.new + length (items self.old) ≤ taken_of reader.old + length (items self.new) }
+        ensures names { KeepsNames (S.names_of (inner_of reader.old)) (S.names_of (inner_of reader.new)) }
         ensures touches { StaysKnown (S.touches (inner_of reader.old)) (S.touches (inner_of reader.new)) }
     {
         self.move_to_front();
@@ -149,6 +152,7 @@ impl Window {
         ensures most { length (items self.new) ≤ most }
         ensures failed { Failing (has_failed reader.old) (has_failed reader.new) result }
         ensures taken { taken_of reader.new + length (items self.old) ≤ taken_of reader.old + length (items self.new) }
+        ensures names { KeepsNames (S.names_of (inner_of reader.old)) (S.names_of (inner_of reader.new)) }
         ensures touches { StaysKnown (S.touches (inner_of reader.old)) (S.touches (inner_of reader.new)) }
     {
         loop {

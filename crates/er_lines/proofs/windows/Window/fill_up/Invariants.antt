@@ -2,6 +2,7 @@ use Rattle.std.proofs.Common.{◌≡◌, ◌+◌, ◌-◌, ◌≤◌, length, ve
 use Rattle.std.specs.Io.KnownBytes.{Keeps, prepend_known}
 use Rattle.er_device.specs.Device.{inner_of, has_failed, taken_of}
 use Rattle.er_lines.specs.Inner.Windows.{items}
+use Rattle.er_lines.specs.Ready.{KeepsNames}
 use Rattle.er_lines.specs.Touches.{StaysKnown}
 use Rattle.er_lines.proofs.windows.Window.fill_up.Given as goal
 
@@ -14,6 +15,7 @@ invariant-loop-self g l = record {
   most : l.stop ≤ l.most;
   failed : has_failed l.reader ≡ has_failed l.fn.reader;
   taken : taken_of l.reader + length (items l.fn.self) ≤ taken_of l.fn.reader + length (items l.self);
+  names : KeepsNames (g.S.Shortcut.names_of (inner_of l.fn.reader)) (g.S.Shortcut.names_of (inner_of l.reader));
   touches : StaysKnown (g.S.Shortcut.touches (inner_of l.fn.reader)) (g.S.Shortcut.touches (inner_of l.reader));
 }
 
