@@ -190,3 +190,7 @@ kept_all old new threads locks places names.Site n = ap (λ (t : List (List ℕ)
 
 pub kept_on : (a b c : NameKind → ℕ → List ℕ) → KeepsNames a b → KeepsNames b c → KeepsNames a c
 kept_on a b c first next = λ kind n some. next kind n (ap has_bytes (first kind n some) ∙ some) ∙ first kind n some
+
+-- the same state has the same names
+pub kept_alike : (old new : State) → new ≡ old → KeepsNames (names_in old) (names_in new)
+kept_alike old new same = λ kind n some. ap (λ (s : State). names_in s kind n) same

@@ -163,6 +163,7 @@ impl<R: Read> Decoded<R> {
         ensures bound { ReadsAtMost result buffer.new }
         ensures bytes { ReadConsumes (option_map (to_come self.old) (R.remaining (source_of self.old))) (option_map (to_come self.new) (R.remaining (source_of self.new))) result buffer.new }
         ensures noting { is_noting self.new ≡ is_noting self.old }
+        ensures names { KeepsNames (names_of self.old) (names_of self.new) }
         ensures touches { is_noting self.old ≡ true → StaysKnown (option_map (to_touch self.old) (R.remaining (source_of self.old))) (option_map (to_touch self.new) (R.remaining (source_of self.new))) }
     {
         self.begin()?;
@@ -177,6 +178,7 @@ impl<R: Read> Decoded<R> {
         ensures known { OnOk result (self.new.form ≢ form.Unknown) }
         ensures same { Keeps (option_map (to_come self.old) (R.remaining (source_of self.old))) (option_map (to_come self.new) (R.remaining (source_of self.new))) }
         ensures noting { is_noting self.new ≡ is_noting self.old }
+        ensures names { KeepsNames (names_of self.old) (names_of self.new) }
         ensures touches { is_noting self.old ≡ true → StaysKnown (option_map (to_touch self.old) (R.remaining (source_of self.old))) (option_map (to_touch self.new) (R.remaining (source_of self.new))) }
     {
         match self.form {
@@ -192,6 +194,7 @@ impl<R: Read> Decoded<R> {
         ensures known { OnOk result (self.new.form ≢ form.Unknown) }
         ensures same { Keeps (option_map (to_come self.old) (R.remaining (source_of self.old))) (option_map (to_come self.new) (R.remaining (source_of self.new))) }
         ensures noting { is_noting self.new ≡ is_noting self.old }
+        ensures names { KeepsNames (names_of self.old) (names_of self.new) }
         ensures touches { is_noting self.old ≡ true → StaysKnown (option_map (to_touch self.old) (R.remaining (source_of self.old))) (option_map (to_touch self.new) (R.remaining (source_of self.new))) }
     {
         self.given = 0;
@@ -210,6 +213,7 @@ impl<R: Read> Decoded<R> {
         ensures bound { ReadsAtMost result buffer.new }
         ensures bytes { ReadConsumes (option_map (to_come self.old) (R.remaining (source_of self.old))) (option_map (to_come self.new) (R.remaining (source_of self.new))) result buffer.new }
         ensures noting { is_noting self.new ≡ is_noting self.old }
+        ensures names { KeepsNames (names_of self.old) (names_of self.new) }
         ensures touches { is_noting self.old ≡ true → StaysKnown (option_map (to_touch self.old) (R.remaining (source_of self.old))) (option_map (to_touch self.new) (R.remaining (source_of self.new))) }
     {
         if self.given == self.held {

@@ -140,6 +140,7 @@ impl Decoder {
     ) -> io::Result<usize>
         ensures bound { ReadsAtMost result buffer.new }
         ensures bytes { ReadConsumes (option_map (still self.old) (R.remaining reader.old)) (option_map (still self.new) (R.remaining reader.new)) result buffer.new }
+        ensures kept { KeepsNames (names_in self.old.state) (names_in self.new.state) }
         ensures on { self.new.notes.is_on ≡ self.old.notes.is_on }
         ensures noted { self.old.notes.is_on ≡ true → StaysKnown (option_map (to_note self.old) (R.remaining reader.old)) (option_map (to_note self.new) (R.remaining reader.new)) }
     {
@@ -255,6 +256,7 @@ impl Decoder {
         ensures gives { IfOk result (λ n. (rest : List ℕ) → still self.old rest ≡ take n buffer.new ++ still self.new rest) }
         ensures given { IfOk result (λ n. n ≡ 0 → 0 < length buffer.new → IsGiven self.new) }
         ensures err { OnErr result ((rest : List ℕ) → still self.old rest ≡ still self.new rest) }
+        ensures kept { KeepsNames (names_in self.old.state) (names_in self.new.state) }
         ensures noted { NotesOn self.old self.new }
     {
         self.put_rest()?;
@@ -272,6 +274,7 @@ impl Decoder {
     fn put_rest(&mut self) -> io::Result<()>
         ensures same { (rest : List ℕ) → still self.old rest ≡ still self.new rest }
         ensures taken { OnOk result (AreTaken self.new.words) }
+        ensures state { self.new.state ≡ self.old.state }
         ensures noted { NotesOn self.old self.new }
     {
         if self.words.end <= self.words.at / 4 {
@@ -292,6 +295,7 @@ impl Decoder {
         ensures bound { result ≤ length buffer.new }
         ensures gives { (rest : List ℕ) → still self.old rest ≡ take result buffer.new ++ still self.new rest }
         ensures given { result < length buffer.new → HasGiven self.new }
+        ensures state { self.new.state ≡ self.old.state }
         ensures words { self.new.words ≡ self.old.words }
         ensures phase { self.new.phase ≡ self.old.phase }
         ensures bytes { self.new.bytes ≡ self.old.bytes }
@@ -364,6 +368,7 @@ impl Decoder {
         requires phase { self.old.phase ≡ phase.Header }
         requires given { IsGiven self.old }
         ensures same { Keeps (option_map (still self.old) (R.remaining reader.old)) (option_map (still self.new) (R.remaining reader.new)) }
+        ensures kept { KeepsNames (names_in self.old.state) (names_in self.new.state) }
         ensures on { self.new.notes.is_on ≡ self.old.notes.is_on }
         ensures noted { self.old.notes.is_on ≡ true → StaysKnown (option_map (to_note self.old) (R.remaining reader.old)) (option_map (to_note self.new) (R.remaining reader.new)) }
     {
@@ -401,6 +406,7 @@ impl Decoder {
         requires phase { self.old.phase ≡ phase.Content }
         requires given { IsGiven self.old }
         ensures same { Keeps (option_map (still self.old) (R.remaining reader.old)) (option_map (still self.new) (R.remaining reader.new)) }
+        ensures kept { KeepsNames (names_in self.old.state) (names_in self.new.state) }
         ensures on { self.new.notes.is_on ≡ self.old.notes.is_on }
         ensures noted { self.old.notes.is_on ≡ true → StaysKnown (option_map (to_note self.old) (R.remaining reader.old)) (option_map (to_note self.new) (R.remaining reader.new)) }
     {

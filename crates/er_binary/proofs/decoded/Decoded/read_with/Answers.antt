@@ -5,6 +5,7 @@ use Rattle.er_binary.specs.Inner.Decoders.{still, to_note}
 use Rattle.er_binary.proofs.DecodedLaws.{binary_is, read_as, read_kept, binary_noting, binary_touch, stays_as}
 use Rattle.er_binary.proofs.decoded.Decoded.read_with.Goals as goal
 use Rattle.er_binary.proofs.NotesLaws.{stays_trans}
+use Rattle.er_binary.proofs.WordsLaws.{kept_on}
 
 pub returns-in-Binary-clause-bytes : goal.returns-in-Binary-clause-bytes
 returns-in-Binary-clause-bytes g c =
@@ -19,6 +20,7 @@ returns-in_default g c = record {
   bound = c.read_text.ensures.bound;
   bytes = read_kept _ _ _ _ _ c.begin.ensures.same c.read_text.ensures.bytes;
   noting = c.read_text.ensures.noting ∙ c.begin.ensures.noting;
+  names = kept_on _ _ _ c.begin.ensures.names c.read_text.ensures.names;
   touches = λ on. stays_trans _ _ _ (c.begin.ensures.touches on) (c.read_text.ensures.touches (c.begin.ensures.noting ∙ on));
 }
 

@@ -5,6 +5,7 @@ use Rattle.er_binary.specs.Inner.Decoders.{still}
 use Rattle.er_binary.proofs.FillLemmas.{filled}
 use Rattle.er_binary.proofs.decoder.Decoder.give_all.Goals as goal
 use Rattle.er_binary.proofs.NotesLaws.{notes_trans}
+use Rattle.er_binary.proofs.WordsLaws.{kept_alike, kept_on}
 
 pub loop-count-preserved : goal.loop-count-preserved
 loop-count-preserved g c =
@@ -22,6 +23,7 @@ loop-count-preserved g c =
           ∙ ap (λ (t : List ℕ). t ++ still c.give.new.self rest) (sym (filled buffer buf tail count n c.loop-count.invariant.within c.give.ensures.bound));
       taken = search rules;
       given = λ less. c.give.ensures.given (omega arith);
+      kept = kept_on _ _ _ c.loop-count.invariant.kept (kept_on _ _ _ c.next_record.ensures.kept (kept_alike _ _ c.give.ensures.state));
       noted = notes_trans _ _ _ c.loop-count.invariant.noted (notes_trans _ _ _ c.next_record.ensures.noted c.give.ensures.noted);
     }
 
@@ -31,5 +33,6 @@ loop-count-init g c = record {
   gives = λ rest. c.put_rest.ensures.same rest ∙ c.give-count.ensures.gives rest;
   given = λ less. c.give-count.ensures.given less;
   taken = search rules;
+  kept = kept_alike _ _ (c.give-count.ensures.state ∙ c.put_rest.ensures.state);
   noted = notes_trans _ _ _ c.put_rest.ensures.noted c.give-count.ensures.noted;
 }

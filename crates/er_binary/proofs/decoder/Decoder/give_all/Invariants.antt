@@ -2,6 +2,8 @@
 use Rattle.std.proofs.Common.{◌≡◌, ◌<◌, ◌≤◌, ◌++◌, ℕ, List, length, take}
 use Rattle.er_binary.specs.Inner.Decoders.{HasGiven, NotesOn, left, still}
 use Rattle.er_binary.specs.Inner.Words.{AreTaken}
+use Rattle.er_binary.specs.States.{names_in}
+use Rattle.er_lines.specs.Ready.{KeepsNames}
 use Rattle.er_binary.proofs.decoder.Decoder.give_all.Given as goal
 
 abbrev pub invariant-loop-count : goal.invariant-loop-count
@@ -10,6 +12,7 @@ invariant-loop-count g l = record {
   gives : (rest : List ℕ) → still l.fn.self rest ≡ take l.count l.buffer ++ still l.self rest;
   given : l.count < length l.buffer → HasGiven l.self;
   taken : AreTaken l.self.words;
+  kept : KeepsNames (names_in l.fn.self.state) (names_in l.self.state);
   noted : NotesOn l.fn.self l.self;
 }
 
