@@ -1,6 +1,7 @@
 -- Numbers of names keep being right while names are added, and lines add what their numbers say.
-use Rattle.std.proofs.Common.{◌≡◌, ℕ, ◌+◌, ◌/◌, ◌<◌, ◌≤◌, ◌^◌, Bool, true, false, List, [], ◌∷◌, length, Option, Some, None, IfSome, unwrap_or, if◌then◌else◌, slice_set, refl, sym, ap, ◌∙◌, arith}
+use Rattle.std.proofs.Common.{◌≡◌, ℕ, suc, ◌+◌, ◌/◌, ◌<◌, ◌≤◌, ◌^◌, Bool, true, false, not, cond, ◌||◌, List, [], ◌∷◌, length, Option, Some, None, IfSome, unwrap_or, if◌then◌else◌, slice_set, refl, sym, ap, ◌∙◌, arith}
 use Rattle.std.specs.List.{All, list_all}
+use Rattle.std.specs.Str.{bytes_eq}
 use Rattle.std.proofs.lemmas.List.Elements.{All-set, All-weaker}
 use Rattle.er_lines.specs.Lines.{has_bytes}
 use Rattle.er_lines.specs.Naming.{is_name, is_site_byte}
@@ -14,9 +15,10 @@ use Rattle.er_lines.proofs.ByteLemmas.{name_printed}
 use Rattle.er_lines.proofs.ReadyLaws.{ready_parts}
 use Rattle.er_trace.specs.Names.{NameTable}
 use Rattle.er_trace.specs.Trace.{HasNames, Recording, with_lock_name, with_step, with_thread_name}
-use Rattle.er_trace.specs.Names.{number_of}
+use Rattle.er_trace.specs.Names.{is_known, number_of}
 use Rattle.er_trace.proofs.NumberLemmas.{again, given, kept, still}
 use Rattle.er_text.specs.Events.{Accesses, with_line, with_operation}
+use Rattle.er_text.specs.Named.{KeepsNumbers, KeepsNames as KeepsTable}
 use Rattle.er_text.specs.Inner.Numbers.{AreRight, IsNumber, is_known_as, number_as, with_name_of}
 use Rattle.er_text.specs.Inner.Ready.{access_kind, hold_event, is_access, ready_event, site_if}
 use Rattle.er_text.specs.declared.numbers.KnownNumbers.{KnownNumbers}
@@ -109,6 +111,34 @@ right_kept old new table known keeps right =
       is = was.is ∙ ap (number_as slot.kind table) (sym same);
       small = was.small;
     }) known.slots.items right
+
+-- names that keep their places have the numbers that they had
+first_on : (hit before after : Bool) (m n : ℕ) → (hit || before) ≡ true → (before ≡ true → (after ≡ true) × (n ≡ m)) → ((hit || after) ≡ true) × (cond (not hit) (1 + n) 0 ≡ cond (not hit) (1 + m) 0)
+first_on true before after m n known rest = (refl, refl)
+first_on false before after m n known rest = let found = rest known in (found.0, ap (λ (i : ℕ). 1 + i) found.1)
+
+list_on : (old new : List (List ℕ)) (name : List ℕ) → KeepsNumbers old new → is_known old name ≡ true → (is_known new name ≡ true) × (number_of new name ≡ number_of old name)
+list_on [] new name keeps known = absurd (cc known)
+list_on (a ∷ old) [] name keeps known = let none : None ≡ Some a = keeps 0 a refl in absurd (cc none)
+list_on (a ∷ old) (b ∷ new) name keeps known =
+    let first : Some b ≡ Some a = keeps 0 a refl in
+    let here : b ≡ a = cc first in
+    rw here (first_on (bytes_eq name a) (is_known old name) (is_known new name) (number_of old name) (number_of new name) known (list_on old new name (λ n x is. keeps (suc n) x is)))
+
+number_on : (k : NameKind) (old new : NameTable) (name : List ℕ) → KeepsTable old new → is_known_as k old name ≡ true → (is_known_as k new name ≡ true) × (number_as k new name ≡ number_as k old name)
+number_on names.Thread old new name keeps known = list_on old.threads new.threads name keeps.threads known
+number_on names.Lock old new name keeps known = list_on old.locks new.locks name keeps.locks known
+number_on names.Site old new name keeps known = let on = list_on old.sites new.sites name keeps.sites known in (on.0, ap (λ (n : ℕ). n + 1) on.1)
+
+-- while the trace keeps its names
+pub right_on : (of : NameKind → ℕ → List ℕ) (old new : NameTable) (known : KnownNumbers) → KeepsTable old new → AreRight of old known → AreRight of new known
+right_on of old new known keeps right =
+    let P : Slot → Type 0 = λ slot. slot.turn ≡ known.turn → IsNumber of old slot.kind slot.name slot.number in
+    let Q : Slot → Type 0 = λ slot. slot.turn ≡ known.turn → IsNumber of new slot.kind slot.name slot.number in
+    All-weaker P Q (λ slot is now.
+    let was = is now in
+    let on = number_on slot.kind old new (of slot.kind slot.name) keeps was.known in
+    record { some = was.some; known = on.0; is = was.is ∙ sym on.1; small = was.small }) known.slots.items right
 
 -- what a line's verb says of its name
 name_some : (w : List ℕ) → is_name w ≡ true → has_bytes w ≡ true

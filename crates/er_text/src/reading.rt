@@ -269,7 +269,6 @@ impl TraceReader {
         let line = self.lines.number();
         let is_asked = self.header.stage == Stage::Events(Version::Three);
         let Some(ready) = self.lines.take(reader, shortcut, is_asked) else {
-            numbers.forget();
             let Some(front) = self.lines.find(reader, shortcut)? else {
                 return Ok(false);
             };

@@ -17,7 +17,7 @@ use Rattle.er_text.specs.Inner.Endings.{KeepsTail}
 use Rattle.er_text.specs.Inner.Idle.{last_actor}
 use Rattle.er_text.specs.Inner.Traces.{at_line, plain_at, progress, read_content}
 use Rattle.er_text.proofs.GrowthLemmas.{grows_not, line_grows}
-use Rattle.er_text.proofs.KnownLemmas.{right_kept}
+use Rattle.er_text.proofs.KnownLemmas.{right_kept, right_on}
 use Rattle.er_text.proofs.PlaceLemmas.{kept_first, trace_fails, trace_on, trace_tail}
 use Rattle.er_text.proofs.ReadyLemmas.{ready_read, ready_tail}
 use Rattle.er_text.proofs.TailLemmas.{tail_on}
@@ -136,8 +136,17 @@ add_ready-requires g c =
 pub returns-clause-right : goal.returns-clause-right
 returns-clause-right g c = rw c.inner.ensures at c.in_ok-add_ready.ensures.right
 
-pub returns-in_default-clause-right : goal.returns-in_default-clause-right
-returns-in_default-clause-right g c = c.forget.ensures _ _
-
 pub returns-in_default-2-clause-right : goal.returns-in_default-2-clause-right
-returns-in_default-2-clause-right g c = c.forget.ensures _ _
+returns-in_default-2-clause-right g c =
+    let of = g.S.Shortcut.names_of in
+    let taken = right_kept (of (inner_of c.args.reader.now)) (of (inner_of c.take.new.reader)) c.args.trace.now.names c.args.numbers.now c.in_default.ensures.kept c.requires.right in
+    right_kept (of (inner_of c.take.new.reader)) (of (inner_of c.find.new.reader)) c.args.trace.now.names c.args.numbers.now c.in_ok-front.ensures.names taken
+
+pub returns-in_default-clause-right : goal.returns-in_default-clause-right
+returns-in_default-clause-right g c =
+    let of = g.S.Shortcut.names_of in
+    let taken = right_kept (of (inner_of c.args.reader.now)) (of (inner_of c.take.new.reader)) c.args.trace.now.names c.args.numbers.now c.in_default.ensures.kept c.requires.right in
+    let found = right_kept (of (inner_of c.take.new.reader)) (of (inner_of c.find.new.reader)) c.args.trace.now.names c.args.numbers.now c.in_ok-front.ensures.names taken in
+    let grows = line_grows c.number-line.result c.bytes-bytes.result.now (at_line c.number-line.result c.self.inside.header.stage c.self.inside.header.idle c.args.trace.now)
+    (at_line (c.number-line.result + 1) c.read_plain.new.self.stage c.read_plain.new.self.idle c.read_plain.new.trace) c.in_ok-read_plain.ensures.read in
+    right_on (of (inner_of c.find.new.reader)) c.args.trace.now.names c.read_plain.new.trace.names c.args.numbers.now grows.names found
