@@ -14,7 +14,8 @@ use std::alloc::{AllocError, Global};
 use std::marker::Model;
 use std::simd::prelude::*;
 
-/// The books of words that lie side by side. Only a word that was accessed since its last reuse has a book. So a block takes little memory if few of its words are used.
+/// The books of words that lie side by side. Only a word that was accessed since its last reuse has a book. So a block takes little memory if few of
+/// its words are used.
 #[derive(Drop)]
 pub(crate) struct Block<A> {
     // In no order.

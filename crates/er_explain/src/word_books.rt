@@ -17,8 +17,8 @@ use indexmap::IndexMap;
 use std::alloc::{AllocError, Global};
 use std::marker::Model;
 
-/// A book for each word, as steps go by. Contracts see the books by `book_in`. The books of 32 words that lie side by side are kept in one block, which is made at the first access of one of them. A step takes one look
-/// at them, and a reuse one look for each block of its range.
+/// A book for each word, as steps go by. Contracts see the books by `book_in`. The books of 32 words that lie side by side are kept in one block,
+/// which is made at the first access of one of them. A step takes one look at them, and a reuse one look for each block of its range.
 #[derive(Drop)]
 pub struct WordBooks<A> {
     blocks: IndexMap<u64, Block<A>, NumberHasher>,

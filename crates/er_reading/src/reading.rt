@@ -31,8 +31,9 @@ const LINE_WINDOW_BYTES: usize = 65_536;
 /// How many lines the first batch has, before those that are cut into pieces. The header is mostly among them.
 const FIRST_LINES: u32 = 64;
 
-/// How many lines a batch has if one thread reads and answers.
+/// How many lines a batch has if one thread reads and answers. Of ready lines it has more, since each batch looks up its names anew.
 const LINES_OF_ONE: u32 = 1_024;
+const READY_LINES_OF_ONE: u32 = 4_096;
 
 /// How many lines a batch has if there are several threads and the lines aren't read in pieces.
 const BATCH_LINES: u32 = 16_384;
@@ -133,11 +134,12 @@ impl PieceReader {
         ensures most { taken_by self.new.place ≤ self.new.place.limit + bytes_past_limit }
         ensures touches { StaysKnown (S.touches (inner_of reader.old)) (S.touches (inner_of reader.new)) }
     {
-        if self.pieces.len() == 1 || shortcut.takes_most(reader.inner()) {
-            let most_lines = if self.is_alone {
-                LINES_OF_ONE
-            } else {
-                BATCH_LINES
+        let are_ready = shortcut.takes_most(reader.inner());
+        if self.pieces.len() == 1 || are_ready {
+            let most_lines = match (self.is_alone, are_ready) {
+                (true, false) => LINES_OF_ONE,
+                (true, true) => READY_LINES_OF_ONE,
+                (false, _) => BATCH_LINES,
             };
             return self.lines.next_batch(reader, shortcut, trace, most_lines);
         }

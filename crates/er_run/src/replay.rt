@@ -107,7 +107,8 @@ fn write_found<W: Write>(
 ///
 /// By the lockset rule alone a quarter of several workers, but at least one, answer a batch while the others read the next one; by another
 /// analysis all of them read, and one answers. The shortcut may have lines ready: if it has most of them ready, one thread takes them. Happens-before goes
-/// by the bytes that the shortcut says accesses touch. The watcher is told behind each batch how far the replay has come, and called once more at the end. What it does changes nothing of what is returned.
+/// by the bytes that the shortcut says accesses touch. The watcher is told behind each batch how far the replay has come, and called once more at the
+/// end. What it does changes nothing of what is returned.
 ///
 /// # Errors
 /// `Read`: the text has a fault, a read failed, or memory was refused to the reader or to a step. `Replay`: the table of locksets is full, or
