@@ -33,6 +33,7 @@ const FIRST_LINES: u32 = 64;
 
 /// How many lines a batch has if one thread reads and answers. Of ready lines it has more, since each batch looks up its names anew.
 const LINES_OF_ONE: u32 = 1_024;
+
 const READY_LINES_OF_ONE: u32 = 4_096;
 
 /// How many lines a batch has if there are several threads and the lines aren't read in pieces.
