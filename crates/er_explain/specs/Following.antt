@@ -1,4 +1,4 @@
--- How far a pass over a list of steps has come.
+-- The locks that cover an access, and how far a pass over a list of steps has come.
 use Rattle.std.specs.Prelude.{◌≡◌, ℕ, nat_lt, cond, List, Option, Some, None}
 use Rattle.er_event.specs.declared.steps.Event.{Event}
 use Rattle.er_event.specs.declared.steps.Event.TheVariants.{Access}
