@@ -41,34 +41,34 @@ module _ (t : ℕ) (kind : Kind) (w : ℕ) (cover : List ℕ) where
   cover-by true counted = cc
   cover-by false counted = refl
 
-module _ (threads : List Holdings) (t : ℕ) (kind : Kind) (w : ℕ) where
+module _ (h : Holdings) (t : ℕ) (kind : Kind) (w : ℕ) where
   abbrev ignoring : Bool
-  ignoring = nat_lt 0 (held_by threads t).depth
+  ignoring = nat_lt 0 h.depth
 
   abbrev cover : List ℕ
-  cover = locks_for (held_by threads t) kind
+  cover = locks_for h kind
 
-  pub accessed-counts : not ignoring ≡ counts (accessed threads t kind w) w
+  pub accessed-counts : not ignoring ≡ counts (accessed h t kind w) w
   unfolding accessed
   accessed-counts = counts-by t kind w cover ignoring
 
-  pub accessed-thread : counts (accessed threads t kind w) w ≡ true → thread_of (accessed threads t kind w) ≡ t
+  pub accessed-thread : counts (accessed h t kind w) w ≡ true → thread_of (accessed h t kind w) ≡ t
   unfolding accessed
   accessed-thread counted = thread-by t kind w cover ignoring counted
 
-  pub accessed-writes : counts (accessed threads t kind w) w ≡ true → writes (accessed threads t kind w) ≡ is_writing kind
+  pub accessed-writes : counts (accessed h t kind w) w ≡ true → writes (accessed h t kind w) ≡ is_writing kind
   unfolding accessed
   accessed-writes counted = writes-by t kind w cover ignoring counted
 
-  pub accessed-cover : counts (accessed threads t kind w) w ≡ true → cover_of (accessed threads t kind w) ≡ cover
+  pub accessed-cover : counts (accessed h t kind w) w ≡ true → cover_of (accessed h t kind w) ≡ cover
   unfolding accessed
   accessed-cover counted = cover-by t kind w cover ignoring counted
 
 -- a step that accesses the word
-pub accessed-marked : (threads : List Holdings) (t : ℕ) (kind : Kind) (w word site : ℕ) (e : Event) → e ≡ Access kind word site → word ≡ w →
-    marked (held_by threads t) t e ≡ accessed threads t kind w
+pub accessed-marked : (h : Holdings) (t : ℕ) (kind : Kind) (w word site : ℕ) (e : Event) → e ≡ Access kind word site → word ≡ w →
+    marked h t e ≡ accessed h t kind w
 unfolding accessed
-accessed-marked threads t kind w word site e is same = rw (is, same) refl
+accessed-marked h t kind w word site e is same = rw (is, same) refl
 
 -- what the threads hold before each step
 pub held-start : (steps : List Step) (t : ℕ) → held_by [] t ≡ holdings_at steps t 0

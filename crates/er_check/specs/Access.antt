@@ -3,6 +3,6 @@ use Rattle.er_model.specs.Words.{Mark}
 use Rattle.er_check.specs.Claims.{accessed}
 use Rattle.er_check.specs.declared.checking.Access.{Access}
 
--- what the access is to the words, by what the threads hold then
+-- what the access is to the words, by what its thread holds then
 abbrev pub access_mark : Access → Mark
-access_mark a = accessed a.locks.now a.thread a.kind a.word
+access_mark a = accessed a.held.now a.thread a.kind a.word

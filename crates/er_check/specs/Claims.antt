@@ -7,7 +7,6 @@ use Rattle.er_event.specs.declared.steps.Kind.{Kind}
 use Rattle.er_event.specs.declared.steps.Step.{Step}
 use Rattle.er_event.specs.Lockset.{has}
 use Rattle.er_model.specs.Words.{Mark, counts, is_within, thread_of, writes, cover_of}
-use Rattle.er_held.specs.ThreadLocks.{held_by}
 use Rattle.er_model.specs.Holdings.{Holdings}
 use Rattle.er_model.specs.Following.{marked}
 use Rattle.er_model.specs.Explanations.{Explanation, times_listed, word_of}
@@ -45,9 +44,9 @@ pub record NamesAccesses (steps : List Step) (w start k : ℕ) (e : Explanation)
   pub write : IsAccess steps w e.join k e.write
   pub uncovers : All (λ pair. IsAccess steps w (suc e.join) k pair.1) e.uncovered
 
--- what an access of the word is to the words, where the threads hold this
-unfoldable pub accessed : List Holdings → ℕ → Kind → ℕ → Mark
-accessed threads t kind w = marked (held_by threads t) t (Access kind w 0)
+-- what an access of the word is to the words, by a thread that holds this
+unfoldable pub accessed : Holdings → ℕ → Kind → ℕ → Mark
+accessed h t kind w = marked h t (Access kind w 0)
 
 -- the event is a reuse of the word
 abbrev pub reused_by : Event → ℕ → Bool

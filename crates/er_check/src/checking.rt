@@ -2,7 +2,6 @@
 ghost use Rattle.std.specs.Prelude.{◌≡◌, ◌<◌, ◌≤◌, ◌↔◌, ℕ, suc, All, length, slice_get, Some, IfOk, IsTrue, ◌==◌, ◌&&◌, not};
 ghost use Rattle.er_model.specs.Answers.{reading_of};
 ghost use Rattle.er_model.specs.Explanations.{Explains, word_in, word_of, times_listed};
-ghost use Rattle.er_held.specs.ThreadLocks.{held_by};
 ghost use Rattle.er_model.specs.Following.{marked};
 ghost use Rattle.er_model.specs.Words.{era, counts, cover_of, thread_of, writes};
 ghost use Rattle.er_check.specs.Claims.{Agrees, IsAccess, NamesAccesses, reused_by, FitsPair, IsLeast, ListsOnce};
@@ -10,7 +9,7 @@ ghost use Rattle.er_check.specs.Access.{access_mark};
 ghost use Rattle.er_event.specs.Lockset.{has};
 
 use er_event::{Event, Kind, LockId, Lockset, Step, ThreadId, Word};
-use er_held::ThreadLocks;
+use er_held::{Held, ThreadLocks};
 use er_journal::Explanation;
 use std::alloc::{AllocError, Global};
 
@@ -113,7 +112,7 @@ fn all_agree(alloc: Global, steps: &[Step], k: u64, word: Word, claims: &Claims)
     let mut locks = ThreadLocks::new(alloc);
     for at in 0..k + 1 {
         let step = &steps[at as usize];
-        if !step_agrees(alloc, at, step, word, &locks, claims)? {
+        if !step_agrees(at, step, word, locks.get(step.thread), claims) {
             return Ok(false);
         }
         locks.follow(alloc, step)?;
@@ -121,33 +120,23 @@ fn all_agree(alloc: Global, steps: &[Step], k: u64, word: Word, claims: &Claims)
     Ok(true)
 }
 
-// Whether a step agrees with each claim, if it is an access of the word's era.
-fn step_agrees(
-    alloc: Global,
-    at: u64,
-    step: &Step,
-    word: Word,
-    locks: &ThreadLocks,
-    claims: &Claims,
-) -> Made<bool>
-    ensures { IfOk result (λ yes. IsTrue yes ↔ (claims.now.start ≤ at → word_in step.now.event ≡ Some word
-        → Agrees word claims.now.start claims.now.first_thread claims.now.explanation.now at (marked (held_by locks.now step.now.thread) step.now.thread step.now.event))) }
+// Whether a step by a thread that holds this agrees with each claim, if it is an access of the word's era.
+fn step_agrees(at: u64, step: &Step, word: Word, held: &Held, claims: &Claims) -> bool
+    ensures { IsTrue result ↔ (claims.now.start ≤ at → word_in step.now.event ≡ Some word
+        → Agrees word claims.now.start claims.now.first_thread claims.now.explanation.now at (marked held.now step.now.thread step.now.event)) }
 {
     if at < claims.start {
-        return Ok(true);
+        return true;
     }
     match step.event {
-        Event::Access(kind, accessed, _) if accessed == word => {
-            let access = Access {
-                at,
-                thread: step.thread,
-                kind,
-                word,
-                locks,
-            };
-            claims.agree(alloc, &access)
-        }
-        _ => Ok(true),
+        Event::Access(kind, accessed, _) if accessed == word => claims.agree(&Access {
+            at,
+            thread: step.thread,
+            kind,
+            word,
+            held,
+        }),
+        _ => true,
     }
 }
 
@@ -161,10 +150,10 @@ pub(crate) struct Claims<'a> {
 
 impl Claims<'_> {
     /// Whether an access of the word's era agrees with each claim.
-    pub(crate) fn agree(&self, alloc: Global, access: &Access<'_>) -> Made<bool>
+    pub(crate) fn agree(&self, access: &Access<'_>) -> bool
         requires { self.now.start ≤ access.now.at }
-        ensures { IfOk result (λ yes. IsTrue yes
-            ↔ Agrees access.now.word self.now.start self.now.first_thread self.now.explanation.now access.now.at (access_mark access.now)) }
+        ensures { IsTrue result
+            ↔ Agrees access.now.word self.now.start self.now.first_thread self.now.explanation.now access.now.at (access_mark access.now) }
     {
         let explanation = self.explanation;
         let by_another = access.counts_by_another(self.first_thread);
@@ -173,13 +162,12 @@ impl Claims<'_> {
             || !is_least(self.start, explanation.join, access.at, by_another)
             || !is_least(explanation.join, explanation.write, access.at, writes)
         {
-            return Ok(false);
+            return false;
         }
         if access.at == explanation.join {
-            let cover = access.cover(alloc)?;
-            return Ok(list_once(explanation, &cover));
+            return list_once(explanation, access.cover());
         }
-        Ok(pairs_fit(explanation, access))
+        pairs_fit(explanation, access)
     }
 }
 
@@ -228,14 +216,14 @@ fn times_listed(explanation: &Explanation, lock: LockId) -> usize
     pairs.filter(|pair| pair.lock == lock).count()
 }
 
-/// An access of a word, with what the threads hold when it is made.
+/// An access of a word, with what its thread holds when it is made.
 #[derive(Drop)]
 pub(crate) struct Access<'a> {
     pub(crate) at: u64,
     pub(crate) thread: ThreadId,
     pub(crate) kind: Kind,
     pub(crate) word: Word,
-    pub(crate) locks: &'a ThreadLocks,
+    pub(crate) held: &'a Held,
 }
 
 impl Access<'_> {
@@ -245,7 +233,7 @@ impl Access<'_> {
     pub(crate) fn counts(&self) -> bool
         ensures { result ≡ counts (access_mark self.now) self.now.word }
     {
-        !self.locks.is_ignoring(self.thread)
+        !self.held.ignoring()
     }
 
     /// Whether it counts and another thread makes it.
@@ -265,13 +253,13 @@ impl Access<'_> {
     pub(crate) fn counts_without(&self, lock: LockId) -> bool
         ensures { result ≡ (counts (access_mark self.now) self.now.word && not (has (cover_of (access_mark self.now)) lock)) }
     {
-        self.counts() && !self.locks.covers(self.thread, self.kind, lock)
+        self.counts() && !self.cover().contains(lock)
     }
 
     /// The locks that cover it, if it counts.
-    pub(crate) fn cover(&self, alloc: Global) -> Made<Lockset>
-        ensures { IfOk result (λ locks. IsTrue (counts (access_mark self.now) self.now.word) → locks ≡ cover_of (access_mark self.now)) }
+    pub(crate) fn cover(&self) -> &Lockset
+        ensures { IsTrue (counts (access_mark self.now) self.now.word) → result.now ≡ cover_of (access_mark self.now) }
     {
-        self.locks.cover_of(alloc, self.thread, self.kind)
+        self.held.cover(self.kind)
     }
 }

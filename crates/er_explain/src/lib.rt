@@ -27,7 +27,7 @@
 pub use book::{Access, Joint, Pair};
 pub use er_journal::{Explanation, Uncovered};
 pub use laws::{a_kept_state_keeps_the_book, an_explanation_explains};
-pub use one_access::{cover_among, cover_in, explain};
+pub use one_access::{cover_in, explain};
 use std::alloc::AllocError;
 pub use word_books::WordBooks;
 

@@ -7,7 +7,6 @@ ghost use Rattle.er_explain.specs.Explaining.{explanation_at};
 ghost use Rattle.er_explain.specs.Following.{cover_by};
 ghost use Rattle.er_explain.specs.Naming.{named_book, named_joining};
 ghost use Rattle.er_explain.specs.WordBooks.{book_in};
-ghost use Rattle.er_held.specs.ThreadLocks.{held_by};
 ghost use Rattle.er_model.specs.Answers.{answer, reading_of};
 ghost use Rattle.er_model.specs.Explanations.{Explanation as Explained, Explains, locks_listed, word_of};
 
@@ -88,8 +87,8 @@ fn books_of(alloc: Global, steps: &[Step], end: usize) -> Made<WordBooks<u64>>
     let mut locks = ThreadLocks::new(alloc);
     let mut books = WordBooks::keyed(alloc, HashKeys::KNOWN);
     for (at, step) in steps[..end].iter().enumerate() {
-        let cover = cover_among(alloc, &locks, step)?;
-        books.follow(cover.as_ref(), at as u64, step)?;
+        let cover = cover_in(locks.get(step.thread), step.event);
+        books.follow(cover, at as u64, step)?;
         locks.follow(alloc, step)?;
     }
     Ok(books)
@@ -103,16 +102,4 @@ pub fn cover_in(held: &Held, event: Event) -> Option<&Lockset>
         Event::Access(kind, ..) if !held.ignoring() => Some(held.cover(kind)),
         _ => None,
     }
-}
-
-/// A copy of the locks that cover a step's access, if it counts.
-pub fn cover_among(alloc: Global, locks: &ThreadLocks, step: &Step) -> Made<Option<Lockset>>
-    ensures { IfOk result (λ cover. cover ≡ cover_by (held_by locks.now step.now.thread) step.now.event) }
-{
-    Ok(match step.event {
-        Event::Access(kind, ..) if !locks.is_ignoring(step.thread) => {
-            Some(locks.cover_of(alloc, step.thread, kind)?)
-        }
-        _ => None,
-    })
 }

@@ -1,13 +1,11 @@
 //! `ThreadLocks`, what each thread holds as steps go by. A refused step changes nothing, so what a thread holds follows from its
 //! steps alone.
-ghost use Rattle.std.specs.Prelude.{◌≡◌, ◌<◌, ℕ, nat_lt, [], length, is_some, OnOk, IfOk};
-ghost use Rattle.er_event.specs.Lockset.{has};
+ghost use Rattle.std.specs.Prelude.{◌≡◌, ◌<◌, ℕ, [], length, is_some, OnOk, IfOk};
 ghost use Rattle.er_held.specs.ThreadLocks.{held_by, changes_holdings};
-ghost use Rattle.er_model.specs.Following.{locks_for};
 ghost use Rattle.er_model.specs.Holdings.{after_step, refused_by};
 
 use crate::Held;
-use er_event::{Event, Kind, LockId, Lockset, Step, ThreadId};
+use er_event::{Event, Step, ThreadId};
 use std::alloc::{AllocError, Global};
 use std::marker::Model;
 
@@ -17,15 +15,19 @@ use std::marker::Model;
 #[derive(Drop)]
 pub struct ThreadLocks {
     by_thread: Vec<Held>,
+    nothing: Held,
 }
 
 impl Model for ThreadLocks {
-    ghost use Rattle.std.specs.Prelude.{List};
+    ghost use Rattle.std.specs.Prelude.{◌≡◌, List};
+    ghost use Rattle.er_held.specs.Held.{nothing_held};
     ghost use Rattle.er_model.specs.Holdings.{Holdings};
 
     ghost Value = { List Holdings };
 
     ghost view = { λ h. h.by_thread.items };
+
+    ghost invariant = { λ h. h.nothing ≡ nothing_held };
 }
 
 impl ThreadLocks {
@@ -35,53 +37,16 @@ impl ThreadLocks {
     {
         ThreadLocks {
             by_thread: Vec::new(alloc),
+            nothing: Held::new(alloc),
         }
     }
 
-    /// The locks that the thread holds, in any mode.
-    pub fn locks_of(&self, alloc: Global, thread: ThreadId) -> Result<Lockset, AllocError>
-        ensures { IfOk result (λ locks. locks ≡ (held_by self.now thread).held) }
+    /// What the thread holds. One that has taken nothing yet holds nothing.
+    pub fn get(&self, thread: ThreadId) -> &Held
+        ensures { result.now ≡ held_by self.now thread }
     {
-        match self.by_thread.get(thread.number() as usize) {
-            Some(held) => held.held().copy(),
-            None => Ok(Lockset::new(alloc)),
-        }
-    }
-
-    /// The locks that cover an access of this kind by the thread: those that it holds in any mode for a read, and those that it
-    /// holds in write mode for a write.
-    pub fn cover_of(
-        &self,
-        alloc: Global,
-        thread: ThreadId,
-        kind: Kind,
-    ) -> Result<Lockset, AllocError>
-        ensures { IfOk result (λ locks. locks ≡ locks_for (held_by self.now thread) kind) }
-    {
-        match self.by_thread.get(thread.number() as usize) {
-            Some(held) => held.cover(kind).copy(),
-            None => Ok(Lockset::new(alloc)),
-        }
-    }
-
-    /// Whether the lock covers an access of this kind by the thread.
-    pub fn covers(&self, thread: ThreadId, kind: Kind, lock: LockId) -> bool
-        ensures { result ≡ has (locks_for (held_by self.now thread) kind) lock }
-    {
-        match self.by_thread.get(thread.number() as usize) {
-            Some(held) => held.cover(kind).contains(lock),
-            None => false,
-        }
-    }
-
-    /// Whether the thread has an ignore bracket open.
-    pub fn is_ignoring(&self, thread: ThreadId) -> bool
-        ensures { result ≡ nat_lt 0 (held_by self.now thread).depth }
-    {
-        match self.by_thread.get(thread.number() as usize) {
-            Some(held) => held.ignoring(),
-            None => false,
-        }
+        let held = self.by_thread.get(thread.number() as usize);
+        held.unwrap_or(&self.nothing)
     }
 
     /// Makes the change of one step, unless it is refused, and says whether it is.

@@ -80,7 +80,8 @@ impl Follower {
     {
         if let Event::Access(kind, _, site) = step.event {
             if wanted.contains(&line) && !self.places.contains_key(&line) {
-                let place = Place::of(self.alloc, &self.threads, line, step.thread, kind, site)?;
+                let held = self.threads.get(step.thread);
+                let place = Place::of(self.alloc, held, line, step.thread, kind, site)?;
                 drop(self.places.insert(line, place)?);
             }
             return Ok(());

@@ -4,14 +4,13 @@ ghost use Rattle.er_places.specs.Inner.Following.{AreNamed};
 ghost use Rattle.er_places.specs.Facts.{table_of, way_on};
 ghost use Rattle.er_places.specs.Names.{birth_of, block_of, call_function, function_of, has_word, start_of, variable_of, way_of};
 ghost use Rattle.er_places.specs.Places.{HasPlaceNames, call_name, calls_of, no_names, place_at, stood_at};
-ghost use Rattle.er_held.specs.ThreadLocks.{held_by};
 ghost use Rattle.er_report.specs.Names.{HasLockName};
 ghost use Rattle.er_places.specs.Reasons.{access_place, race_place, reason_place};
 
 use crate::facts::{Birth, Block, Facts, Start, Variable};
 use crate::follower::PlaceMap;
 use er_event::{Kind, LockId, Lockset, Site, ThreadId, Word};
-use er_held::ThreadLocks;
+use er_held::Held;
 use er_keys::{HashKeys, NumberHasher};
 use er_report::{Because, Deed, Race};
 use er_trace::{Names, Trace};
@@ -37,24 +36,24 @@ pub struct Place {
 }
 
 impl Place {
-    /// Where an access on a line of the text stood, if these are the locks that each thread holds before it.
+    /// Where an access on a line of the text stood, by a thread that holds this.
     pub fn of(
         alloc: Global,
-        locks: &ThreadLocks,
+        held: &Held,
         line: u64,
         thread: ThreadId,
         kind: Kind,
         site: Site,
     ) -> Result<Place, AllocError>
-        ensures { IfOk result (λ place. place ≡ stood_at (held_by locks.now thread) line thread kind site) }
+        ensures { IfOk result (λ place. place ≡ stood_at held.now line thread kind site) }
     {
         Ok(Place {
             line,
             thread,
             kind,
             site,
-            held: locks.locks_of(alloc, thread)?,
-            write_held: locks.cover_of(alloc, thread, Kind::Write)?,
+            held: held.held().copy()?,
+            write_held: held.write_held().copy()?,
         })
     }
 }

@@ -8,7 +8,7 @@ ghost use Rattle.er_rules.specs.Rules.{targets_of};
 
 use crate::{Made, Report, ReportBuilder};
 use er_event::NoRoom;
-use er_explain::cover_among;
+use er_explain::cover_in;
 use er_held::ThreadLocks;
 use er_journal::{Outcome, Stopped};
 use er_keys::HashKeys;
@@ -81,12 +81,9 @@ fn add_steps(
             break;
         };
         let (names, line, site) = (trace.names(), trace.lines()[k], trace.sites()[k]);
-        let held = locks.locks_of(alloc, step.thread)?;
-        let added = builder.add(names, line, site, step, answer, &held);
-        drop(held);
-        added?;
-        let cover = cover_among(alloc, locks, step)?;
-        builder.explain(line, step, cover.as_ref())?;
+        let held = locks.get(step.thread);
+        builder.add(names, line, site, step, answer, held.held())?;
+        builder.explain(line, step, cover_in(held, step.event))?;
         locks.follow(alloc, step)?;
     }
     Ok(())

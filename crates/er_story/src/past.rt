@@ -1,6 +1,5 @@
 //! `Past`, what one pass over the steps keeps of a word.
 ghost use Rattle.std.specs.Prelude.{◌≡◌, ◌+◌, ◌<◌, ◌≤◌, ◌^◌, length, IfOk, OnOk};
-ghost use Rattle.er_held.specs.ThreadLocks.{held_by};
 ghost use Rattle.er_story.specs.Inner.Past.{fresh, accessed, past_after, past_at};
 ghost use Rattle.er_story.specs.Story.{empties, same_state, has_none_left};
 ghost use Rattle.er_model.specs.Table.{advanced, is_racy, reports, shared_by};
@@ -8,7 +7,7 @@ ghost use Rattle.er_model.specs.Table.{advanced, is_racy, reports, shared_by};
 use crate::Made;
 use crate::story::{Turn, WordStory};
 use er_event::{Event, Kind, Lockset, Site, Step, ThreadId, Word, WordState};
-use er_held::ThreadLocks;
+use er_held::{Held, ThreadLocks};
 use er_places::Place;
 use er_trace::Trace;
 use std::alloc::Global;
@@ -105,22 +104,14 @@ impl Past {
         }
     }
 
-    // Goes on by a step on this line, if these are the locks that each thread holds before it.
-    fn follow(
-        &mut self,
-        alloc: Global,
-        locks: &ThreadLocks,
-        word: Word,
-        line: u64,
-        step: &Step,
-    ) -> Made<()>
+    // Goes on by a step on this line, by a thread that holds this.
+    fn follow(&mut self, alloc: Global, held: &Held, word: Word, line: u64, step: &Step) -> Made<()>
         requires { self.old.accesses < 2 ^ 63 }
-        ensures { OnOk result (self.new ≡ past_after self.old word line (held_by locks.now step.now.thread) step.now.thread step.now.event) }
+        ensures { OnOk result (self.new ≡ past_after self.old word line held.now step.now.thread step.now.event) }
     {
         match step.event {
-            Event::Access(kind, accessed, site)
-                if accessed == word && !locks.is_ignoring(step.thread) => {
-                self.access(alloc, locks, line, step.thread, kind, site)?;
+            Event::Access(kind, accessed, site) if accessed == word && !held.ignoring() => {
+                self.access(alloc, held, line, step.thread, kind, site)?;
             }
             Event::Reuse(range) if range.contains(word) => *self = Past::new(alloc),
             _ => {}
@@ -132,22 +123,21 @@ impl Past {
     fn access(
         &mut self,
         alloc: Global,
-        locks: &ThreadLocks,
+        held: &Held,
         line: u64,
         thread: ThreadId,
         kind: Kind,
         site: Site,
     ) -> Made<()>
         requires { self.old.accesses < 2 ^ 63 }
-        ensures { OnOk result (self.new ≡ accessed self.old (held_by locks.now thread) line thread kind site) }
+        ensures { OnOk result (self.new ≡ accessed self.old held.now line thread kind site) }
     {
-        let cover = locks.cover_of(alloc, thread, kind)?;
-        let after = advance(&self.state, thread, kind, &cover)?;
+        let after = advance(&self.state, thread, kind, held.cover(kind))?;
         self.accesses += 1;
         if !same_state(&self.state, &after) {
             let turn = Turn {
                 number: self.accesses,
-                place: Place::of(alloc, locks, line, thread, kind, site)?,
+                place: Place::of(alloc, held, line, thread, kind, site)?,
                 state: after.copy()?,
                 emptied: empties(&self.state, &after),
             };
@@ -183,7 +173,7 @@ pub(crate) fn past_of(alloc: Global, trace: &Trace, word: Word, end: usize) -> M
     let mut past = Past::new(alloc);
     for at in 0..end {
         let step = &steps[at];
-        past.follow(alloc, &locks, word, lines[at], step)?;
+        past.follow(alloc, locks.get(step.thread), word, lines[at], step)?;
         locks.follow(alloc, step)?;
     }
     Ok(past)

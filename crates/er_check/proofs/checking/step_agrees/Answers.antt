@@ -1,15 +1,12 @@
 use Rattle.std.proofs.Common.{◌≡◌, ap, rules, Some}
-use Rattle.std.proofs.lemmas.Result.{IfOk-weaker}
 use Rattle.er_check.proofs.AccessLemmas.{accessed-marked}
 use Rattle.er_check.proofs.checking.step_agrees.Goals as goal
 
 pub returns-in-Access : goal.returns-in-Access
 returns-in-Access c =
     let s = c.args.step.now in
-    let threads = c.args.locks.now in
     let word : c.in-Access.accessed ≡ c.args.word = search rules in
-    let same = accessed-marked threads s.thread c.in-Access.kind c.args.word _ _ s.event c.in-Access.is word in
-    IfOk-weaker c.agree.result _ _ (λ yes agrees. (
-      (λ is low access. rw same (agrees.0 is)),
-      (λ holds. agrees.1 (rw same at (holds c.if-at-claims.false (rw c.in-Access.is (ap Some word))))),
-    )) c.agree.ensures
+    let same = accessed-marked c.args.held.now s.thread c.in-Access.kind c.args.word _ _ s.event c.in-Access.is word in (
+      (λ is low access. rw same (c.agree.ensures.0 is)),
+      (λ holds. c.agree.ensures.1 (rw same at (holds c.if-at-claims.false (rw c.in-Access.is (ap Some word))))),
+    )

@@ -28,6 +28,6 @@ loop-at-preserved c w =
     followed-next c.args.steps.now w c.loop-at.at c.step-item.result c.loop-at.locks c.follow-in-loop-at.new.self
     (named_book name_of (book_in c.loop-at.books w)) (named_book name_of (book_in c.follow.new.self w)) here
     (c.loop-at.invariant w)
-    (ap (named_book name_of) (c.in_ok-follow.ensures (held_by c.loop-at.locks c.step-item.result.thread) (c.as_ref.ensures.value ∙ c.in_ok-cover.ensures) w)
+    (ap (named_book name_of) (c.in_ok-follow.ensures (held_by c.loop-at.locks c.step-item.result.thread) (rw c.get.ensures at c.cover_in-cover.ensures) w)
     ∙ named-step name_of (book_in c.loop-at.books w) w (access_of c.loop-at.at c.step-item.result) (marked (held_by c.loop-at.locks c.step-item.result.thread) c.step-item.result.thread c.step-item.result.event))
     c.in_ok-follow-2.ensures.threads

@@ -26,9 +26,9 @@ loop-k-init c = record {
   within = omega arith;
 }
 
-pub add-added-requires : goal.add-added-requires
+pub add-requires : goal.add-requires
 unfolding IsBuilt
-add-added-requires c =
+add-requires c =
     let steps : List Step = c.steps-step-items.result.now in
     let here : slice_get steps c.loop-k.k ≡ Some c.step-item.result = slice_get_read steps _ c.loop-k.k c.step-item.result refl (omega arith) c.step-item.is in
     let count : c.loop-k.builder.report.steps ≡ c.loop-k.k = built-steps _ c.loop-k.builder c.args.trace.now c.loop-k.k c.loop-k.invariant.built.built in
@@ -59,15 +59,15 @@ loop-k-preserved c =
     let site : c.index-sites-k.result ≡ slice_index r.sites k =
     get_or_read c.sites.result.now k c.index-sites-k.result (omega arith) c.index-sites-k.is 0 ∙ ap (λ (sites : List ℕ). slice_index sites k) c.sites.ensures.value in
     let below : k < length c.args.outcome.now.answers = slice_get_within c.args.outcome.now.answers k (shown c.in-Some.answer) c.in-Some.ensures in
-    let at = step-answered r stop k _ _ _ step (shown c.in-Some.answer) c.in_ok-held.held _ c.args.outcome.now.answers c.requires.answers c.in-Some.ensures here
-    (ap (λ (numbers : List ℕ). slice_index numbers k) c.lines.ensures.value) site c.names-names.ensures (λ _. c.in_ok-held.ensures) (c.loop-k.invariant.held step.thread) in
+    let at = step-answered r stop k _ _ _ step (shown c.in-Some.answer) c.held.result.now _ c.args.outcome.now.answers c.requires.answers c.in-Some.ensures here
+    (ap (λ (numbers : List ℕ). slice_index numbers k) c.lines.ensures.value) site c.names-names.ensures (λ _. c.held.ensures.locks ∙ ap (λ (h : Holdings). h.held) c.get-held.ensures) (c.loop-k.invariant.held step.thread) in
     record {
       built =
-          c.in_ok-explain.ensures.explained r k (c.in_ok-added.ensures.built_by (answer r.steps) r k c.loop-k.invariant.built.built at)
-          (still-explained c.loop-k.builder c.add-added.new.self r k c.in_ok-added.ensures.rules c.in_ok-added.ensures.kept c.loop-k.invariant.built.explained) at.here at.line
-          (λ _. c.as_ref.ensures.value ∙ c.in_ok-cover.ensures ∙ ap (λ (h : Holdings). cover_by h step.event) (c.loop-k.invariant.held step.thread));
-      explains = c.in_ok-explain.ensures.explains ∙ ap (λ (kept : Option Kept). is_some kept) c.in_ok-added.ensures.kept ∙ c.loop-k.invariant.explains;
-      rules = c.in_ok-explain.ensures.rules ∙ c.in_ok-added.ensures.rules ∙ c.loop-k.invariant.rules;
+          c.in_ok-explain.ensures.explained r k (c.in_ok-add.ensures.built_by (answer r.steps) r k c.loop-k.invariant.built.built at)
+          (still-explained c.loop-k.builder c.add.new.self r k c.in_ok-add.ensures.rules c.in_ok-add.ensures.kept c.loop-k.invariant.built.explained) at.here at.line
+          (λ _. c.cover_in.ensures ∙ ap (λ (h : Holdings). cover_by h step.event) (c.get-held.ensures ∙ c.loop-k.invariant.held step.thread));
+      explains = c.in_ok-explain.ensures.explains ∙ ap (λ (kept : Option Kept). is_some kept) c.in_ok-add.ensures.kept ∙ c.loop-k.invariant.explains;
+      rules = c.in_ok-explain.ensures.rules ∙ c.in_ok-add.ensures.rules ∙ c.loop-k.invariant.rules;
       held = held-next r.steps k step c.loop-k.locks c.follow.new.self here c.loop-k.invariant.held c.in_ok-follow.ensures.threads;
       within = omega (arith, many, below);
     }

@@ -31,7 +31,7 @@ loop-at-preserved c =
     slice_get_read c.args.trace.now.steps (length c.args.trace.now.steps) c.loop-at.at step refl (omega arith) read in
     let follows : c.follow.new.self ≡ past_after c.loop-at.past c.args.word (slice_index c.args.trace.now.lines c.loop-at.at) (held_by c.loop-at.locks step.thread) step.thread step.event =
     subst (λ (all : List ℕ). c.follow.new.self ≡ past_after c.loop-at.past c.args.word (slice_index all c.loop-at.at) (held_by c.loop-at.locks step.thread) step.thread step.event)
-    c.lines-lines.ensures.value c.in_ok-follow.ensures in (
+    c.lines-lines.ensures.value (rw c.get.ensures at c.in_ok-follow.ensures) in (
       held-next c.args.trace.now.steps c.loop-at.at step c.loop-at.locks c.follow-in-loop-at.new.self here c.loop-at.invariant.0 c.in_ok-follow-2.ensures.threads,
       past-next c.args.trace.now c.args.word c.loop-at.at step c.loop-at.locks c.loop-at.past c.follow.new.self here c.loop-at.invariant.0 c.loop-at.invariant.1 follows,
     )

@@ -8,10 +8,10 @@ pub returns-in-Write : goal.returns-in-Write
 returns-in-Write c =
     let a = c.args.self.now in
     let counted : counts (access_mark a) a.word ≡ true = sym c.counts.ensures ∙ c.if-counts.true in
-    rw (counted, accessed-writes a.locks.now a.thread a.kind a.word counted, c.in-Write.is) refl
+    rw (counted, accessed-writes a.held.now a.thread a.kind a.word counted, c.in-Write.is) refl
 
 pub returns-in_default : goal.returns-in_default
 returns-in_default c =
     let a = c.args.self.now in
     let counted : counts (access_mark a) a.word ≡ true = sym c.counts.ensures ∙ c.if-counts.true in
-    rw (counted, accessed-writes a.locks.now a.thread a.kind a.word counted, c.in_default.is) refl
+    rw (counted, accessed-writes a.held.now a.thread a.kind a.word counted, c.in_default.is) refl

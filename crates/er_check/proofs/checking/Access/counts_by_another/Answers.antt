@@ -8,4 +8,4 @@ pub returns-then-counts : goal.returns-then-counts
 returns-then-counts c =
     let a = c.args.self.now in
     let counted : counts (access_mark a) a.word ≡ true = sym c.counts.ensures ∙ c.if-counts.true in
-    rw (counted, accessed-thread a.locks.now a.thread a.kind a.word counted) c.ne.ensures
+    rw (counted, accessed-thread a.held.now a.thread a.kind a.word counted) c.ne.ensures
