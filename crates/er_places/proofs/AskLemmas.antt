@@ -6,14 +6,15 @@ use Rattle.std.proofs.lemmas.List.Folds.{list_any-append}
 use Rattle.std.proofs.lemmas.Option.{slice_get_read}
 use Rattle.er_event.specs.declared.steps.Kind.{Kind}
 use Rattle.er_places.specs.Wanted.{asked_below, asks_of, asks_unless, is_race_at, name_line}
+use Rattle.er_report.specs.Lines.{reasons_in}
 use Rattle.er_report.specs.declared.report.Line.{Line}
 use Rattle.er_report.specs.declared.report.Line.TheVariants.{Race, Reused, Refused, Shown}
 
 -- sites that agree ask alike
 same-asks : (one other : ℕ → Kind → Bool) (number : ℕ) (line : Line) → ((s : ℕ) (k : Kind) → one s k ≡ other s k) → asks_unless one number line ≡ asks_unless other number line
-same-asks one other number (Race n thread kind word site held explained) same = ap (λ (b : Bool). not b && (nat_eq n number || name_line explained.items number)) (same site kind)
-same-asks one other number (Reused n thread range site held explained) same = refl
-same-asks one other number (Refused n step refusal) same = refl
+same-asks one other number (Race kind thread site n word details) same = ap (λ (b : Bool). not b && (nat_eq n number || name_line (reasons_in details) number)) (same site kind)
+same-asks one other number (Reused thread site n range details) same = refl
+same-asks one other number (Refused refusal step n) same = refl
 same-asks one other number (Shown n word state) same = refl
 
 or-false : (b : Bool) → (b || false) ≡ b

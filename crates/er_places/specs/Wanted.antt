@@ -3,6 +3,7 @@ use Rattle.std.specs.Prelude.{ℕ, zero, suc, nat_eq, ◌&&◌, ◌||◌, not, B
 use Rattle.std.specs.List.{list_any}
 use Rattle.er_event.specs.declared.steps.Kind.{Kind}
 use Rattle.er_event.specs.declared.steps.Kind.TheVariants as kind
+use Rattle.er_report.specs.Lines.{reasons_in}
 use Rattle.er_report.specs.declared.report.Because.{Because}
 use Rattle.er_report.specs.declared.report.Line.{Line}
 use Rattle.er_report.specs.declared.report.Line.TheVariants.{Race, Reused, Refused, Shown}
@@ -22,9 +23,9 @@ same_kind kind.Write kind.Read = false
 
 -- the line is a race of this kind at this site
 abbrev pub is_race_at : ℕ → Kind → Line → Bool
-is_race_at s k (Race number thread kind word site held explained) = nat_eq site s && same_kind kind k
-is_race_at s k (Reused number thread range site held explained) = false
-is_race_at s k (Refused number step refusal) = false
+is_race_at s k (Race kind thread site number word details) = nat_eq site s && same_kind kind k
+is_race_at s k (Reused thread site number range details) = false
+is_race_at s k (Refused refusal step number) = false
 is_race_at s k (Shown number word state) = false
 
 -- one of these reasons names this line of the trace
@@ -34,9 +35,9 @@ name_line reasons line = list_any (λ (because : Because). nat_eq because.line l
 -- a race asks about its own line and those that its reasons name, unless one of its site and kind is known; a reuse asks about the lines that its
 -- reasons name
 abbrev pub asks_unless : (ℕ → Kind → Bool) → ℕ → Line → Bool
-asks_unless known line (Race number thread kind word site held explained) = not (known site kind) && (nat_eq number line || name_line explained.items line)
-asks_unless known line (Reused number thread range site held explained) = name_line explained.items line
-asks_unless known line (Refused number step refusal) = false
+asks_unless known line (Race kind thread site number word details) = not (known site kind) && (nat_eq number line || name_line (reasons_in details) line)
+asks_unless known line (Reused thread site number range details) = name_line (reasons_in details) line
+asks_unless known line (Refused refusal step number) = false
 asks_unless known line (Shown number word state) = false
 
 -- behind these lines the first race of each site and kind asks

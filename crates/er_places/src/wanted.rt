@@ -7,7 +7,7 @@ ghost use Rattle.er_places.specs.Wanted.{are_asked, asked_in, asks_unless, is_ra
 
 use er_event::{Kind, Site};
 use er_keys::{HashKeys, NumberHasher};
-use er_report::{Because, Line, Report, Reports};
+use er_report::{Because, Line, Report, Reports, reasons_in};
 use std::alloc::{AllocError, Global};
 use std::collections::HashSet;
 
@@ -69,21 +69,21 @@ impl Wanted {
     {
         match line {
             Line::Race {
-                line,
-                site,
                 kind,
+                site,
+                line,
                 word,
-                explained,
+                details,
                 ..
             } => {
                 if sites.insert(site_key(*site, *kind))? {
                     self.words.insert(word.number())?;
                     self.lines.insert(*line)?;
-                    return self.add_lines(explained);
+                    return self.add_lines(reasons_in(details));
                 }
                 Ok(())
             }
-            Line::Reused { explained, .. } => self.add_lines(explained),
+            Line::Reused { details, .. } => self.add_lines(reasons_in(details)),
             _ => Ok(()),
         }
     }

@@ -6,6 +6,7 @@ use Rattle.er_event.specs.declared.steps.WordState.{WordState}
 use Rattle.er_report.specs.declared.report.Because.{Because}
 use Rattle.er_report.specs.declared.report.Deed.{Deed}
 use Rattle.er_report.specs.declared.report.Deed.TheVariants as deed
+use Rattle.er_report.specs.declared.report.Details.{Details}
 use Rattle.er_report.specs.declared.report.Line.{Line}
 use Rattle.er_report.specs.declared.report.Line.TheVariants.{Race, Reused, Refused, Shown}
 
@@ -25,16 +26,26 @@ pub data LineView : Type 0 where
   ShownView : (number : ℕ) → (word : ℕ) → (state : WordState) → LineView
 
 -- the locks of a race, which keeps none if they are none
-abbrev pub locks_in : {Z : Type 0} → Option (Box (List ℕ) Z) → List ℕ
+abbrev pub locks_kept : {Z : Type 0} → Option (Box (List ℕ) Z) → List ℕ
+locks_kept None = []
+locks_kept (Some locks) = locks.value
+
+-- the locks among a race's details
+abbrev pub locks_in : {Z : Type 0} → Option (Box Details Z) → List ℕ
 locks_in None = []
-locks_in (Some locks) = locks.value
+locks_in (Some details) = locks_kept details.value.held
+
+-- the reasons among them
+abbrev pub reasons_in : {Z : Type 0} → Option (Box Details Z) → List Because
+reasons_in None = []
+reasons_in (Some details) = details.value.explained.items
 
 -- what a line says
 abbrev pub line_view : Line → LineView
-line_view (Race number thread kind word site held explained) = RacedView (record { line = number; thread = thread; deed = deed.Access kind word; site = site; held = locks_in held; explained = explained.items })
-line_view (Reused number thread range site held explained) = RacedView (record { line = number; thread = thread; deed = deed.Reuse range.value; site = site; held = locks_in held; explained = explained.items })
-line_view (Refused number step refusal) = RefusedView number step refusal
-line_view (Shown number word state) = ShownView number word state
+line_view (Race kind thread site number word details) = RacedView (record { line = number; thread = thread; deed = deed.Access kind word; site = site; held = locks_in details; explained = reasons_in details })
+line_view (Reused thread site number range details) = RacedView (record { line = number; thread = thread; deed = deed.Reuse range.value; site = site; held = locks_in details; explained = reasons_in details })
+line_view (Refused refusal step number) = RefusedView number step refusal
+line_view (Shown number word state) = ShownView number word state.value
 
 -- the race of a line, if it is one
 abbrev pub race_of : LineView → Option RaceView

@@ -9,7 +9,7 @@ ghost use Rattle.er_journal.specs.declared.answers.Stopped.{Stopped as Stop};
 ghost use Rattle.er_report.specs.Builder.{ArePlain, ArePlainBy, IsBuilt, IsBuiltBy, IsExplained, IsReported, IsStepBy, KeepStates};
 ghost use Rattle.er_report.specs.Inner.Adding.{with_answer, HasRoom};
 ghost use Rattle.er_report.specs.Kept.{Follows};
-ghost use Rattle.er_report.specs.Lines.{line_view, locks_in};
+ghost use Rattle.er_report.specs.Lines.{line_view, locks_in, reasons_in};
 ghost use Rattle.er_report.specs.Names.{HasNames, HasReasonNames, HasSiteName, HaveStateNames};
 ghost use Rattle.er_report.specs.declared.report.Because.{Because as Reason};
 ghost use Rattle.er_report.specs.Report.{Answering, RacesHaveLines, told, answer_line, answered_steps, no_reasons, report_by, report_of, stop_line};
@@ -18,7 +18,7 @@ ghost use Rattle.er_rules.specs.Rules.{Target, targets_of};
 use crate::explainer::Explainer;
 use crate::reasons::give_reasons;
 use crate::rules::first_rule;
-use crate::{Because, Line, Made, Report};
+use crate::{Details, Line, Made, Report};
 use er_event::{Event, Lockset, NoRoom, Refusal, Reply, Site, Step};
 use er_journal::Answer;
 use er_keys::HashKeys;
@@ -214,11 +214,11 @@ impl<'r> ReportBuilder<'r> {
         report
     }
 
-    /// The report with these reasons, one list for each race that has a line, in their order. An access and a reuse are the only steps that
-    /// are races.
-    pub fn finish_with(self, reasons: Vec<Vec<Because>>) -> Report
-        ensures report_by { (a : Answering) (why : ℕ → List Reason) (r : Recording) → RacesHaveLines a r.steps → IsBuiltBy a self.entry r (length (answered_steps r.steps None)) → map (λ told. told.items) reasons.items ≡ map why self.entry.races → told result ≡ report_by a why r self.entry.rules None }
-        ensures named_by { (a : Answering) (why : ℕ → List Reason) (r : Recording) (n : ℕ) → RacesHaveLines a r.steps → IsBuiltBy a self.entry r n → map (λ told. told.items) reasons.items ≡ map why self.entry.races
+    /// The report with these reasons, one list for each race that has a line, in their order. Each comes in a box that its line can keep, so
+    /// that no memory is needed here; locks in it are passed over. An access and a reuse are the only steps that are races.
+    pub fn finish_with(self, reasons: Vec<Box<Details>>) -> Report
+        ensures report_by { (a : Answering) (why : ℕ → List Reason) (r : Recording) → RacesHaveLines a r.steps → IsBuiltBy a self.entry r (length (answered_steps r.steps None)) → map (λ told. told.value.explained.items) reasons.items ≡ map why self.entry.races → told result ≡ report_by a why r self.entry.rules None }
+        ensures named_by { (a : Answering) (why : ℕ → List Reason) (r : Recording) (n : ℕ) → RacesHaveLines a r.steps → IsBuiltBy a self.entry r n → map (λ told. told.value.explained.items) reasons.items ≡ map why self.entry.races
             → All (IsNamed r.names) r.steps → All (IsSite r.names) r.sites → HaveStateNames r.names a → ((k : ℕ) → All (HasReasonNames r.names) (why k)) → All (HasNames r.names) result.lines.items }
     {
         let ReportBuilder { mut report, .. } = self;
@@ -298,42 +298,43 @@ fn line_of(
 {
     Ok(match (answer, step.event) {
         (Answer::Race, Event::Access(kind, word, own)) => Some(Line::Race {
-            line: number,
-            thread: step.thread,
             kind,
-            word,
+            thread: step.thread,
             site: own,
-            held: kept_locks(alloc, held)?,
-            explained: Vec::new(alloc),
+            line: number,
+            word,
+            details: kept_locks(alloc, held)?,
         }),
         (Answer::Race, Event::Reuse(range)) => Some(Line::Reused {
-            line: number,
             thread: step.thread,
-            range: Box::new(alloc, range)?,
             site,
-            held: kept_locks(alloc, held)?,
-            explained: Vec::new(alloc),
+            line: number,
+            range: Box::new(alloc, range)?,
+            details: kept_locks(alloc, held)?,
         }),
         (Answer::State(state), Event::Show(word)) => Some(Line::Shown {
             line: number,
             word,
-            state: state.copy()?,
+            state: Box::new(alloc, state.copy()?)?,
         }),
         (Answer::Refused(refusal), _) => Some(Line::Refused {
-            line: number,
-            step: *step,
             refusal,
+            step: *step,
+            line: number,
         }),
         _ => None,
     })
 }
 
-// A copy of the locks, if there are any.
-fn kept_locks(alloc: Global, held: &Lockset) -> Made<Option<Box<Lockset>>>
-    ensures { IfOk result (λ kept. locks_in kept ≡ held.now) }
+// A copy of the locks, if there are any. Of reasons none are given yet.
+fn kept_locks(alloc: Global, held: &Lockset) -> Made<Option<Box<Details>>>
+    ensures locks { IfOk result (λ kept. locks_in kept ≡ held.now) }
+    ensures reasons { IfOk result (λ kept. reasons_in kept ≡ []) }
 {
     if held.is_empty() {
         return Ok(None);
     }
-    Ok(Some(Box::new(alloc, held.copy()?)?))
+    let held = Some(Box::new(alloc, held.copy()?)?);
+    let explained = Vec::new(alloc);
+    Ok(Some(Box::new(alloc, Details { held, explained })?))
 }

@@ -8,7 +8,7 @@ ghost use Rattle.er_report.specs.Report.{is_printed};
 ghost use Rattle.er_rules.specs.Rules.{Target};
 ghost use Rattle.er_trace.specs.Trace.{Recording};
 
-use crate::{Because, Label, Made};
+use crate::{Because, Details, Label, Made};
 use er_event::{Event, Lockset, Step};
 use er_explain::{Access, Joint, WordBooks};
 use er_keys::HashKeys;
@@ -20,7 +20,8 @@ use std::marker::Model;
 pub(crate) struct Explainer {
     // An access is named by its line.
     books: WordBooks<u64>,
-    told: Vec<Vec<Because>>,
+    // Each in the box that its line is to keep.
+    told: Vec<Box<Details>>,
     alloc: Global,
 }
 
@@ -30,7 +31,7 @@ impl Model for Explainer {
 
     ghost Value = { Kept };
 
-    ghost view = { λ e. record { books = e.books; told = map (λ reasons. reasons.items) e.told.items } };
+    ghost view = { λ e. record { books = e.books; told = map (λ reasons. reasons.value.explained.items) e.told.items } };
 }
 
 impl Explainer {
@@ -64,7 +65,8 @@ impl Explainer {
     {
         self.books.follow(cover, line, step)?;
         if printed {
-            let reasons = self.reasons_for(step.event)?;
+            let (held, explained) = (None, self.reasons_for(step.event)?);
+            let reasons = Box::new(self.alloc, Details { held, explained })?;
             self.told.push(reasons)?;
         }
         Ok(())
@@ -83,8 +85,8 @@ impl Explainer {
     }
 
     /// The reasons of the printed races, in their order.
-    pub(crate) fn into_told(self) -> Vec<Vec<Because>>
-        ensures { map (λ reasons. reasons.items) result.items ≡ self.told }
+    pub(crate) fn into_told(self) -> Vec<Box<Details>>
+        ensures { map (λ reasons. reasons.value.explained.items) result.items ≡ self.told }
     {
         let Explainer { told, .. } = self;
         told

@@ -24,8 +24,8 @@
 //! // The trace is `t1 write 0x1000` and `t2 write 0x1000`, on lines 2 and 3.
 //! let report = summarise(alloc, &trace, &outcome, &Suppressions::new(alloc), false)?;
 //! assert_eq!(report.races, 1);
-//! if let [Line::Race { line, held, .. }] = report.lines.as_slice() {
-//!     // Here `line` is 3, and `held` is None: the thread held no lock.
+//! if let [Line::Race { line, details, .. }] = report.lines.as_slice() {
+//!     // Here `line` is 3, and `details` is None: the thread held no lock, and no reasons were asked for.
 //! }
 //! ```
 #![tactic(auto)]
@@ -34,7 +34,7 @@ pub use builder::{ReportBuilder, view_of};
 pub use er_check::check_explanation;
 pub use er_explain::{Explanation, Uncovered, an_explanation_explains, explain};
 pub use laws::{a_report_goes_on, each_reason_is_told, the_counts_add_up};
-pub use report::{Because, Deed, Label, Line, Race, Report};
+pub use report::{Because, Deed, Details, Label, Line, Race, Report, reasons_in};
 pub use reports::{Analysis, Form, Reports};
 pub use rules::name_of;
 use std::alloc::AllocError;

@@ -2,14 +2,14 @@
 ghost use Rattle.std.specs.Prelude.{◌≡◌, drop, map};
 ghost use Rattle.std.specs.Vec.Iter.{into_iter_items};
 ghost use Rattle.er_report.specs.Inner.Explained.{line_told, next_told, told_left, with_told};
-ghost use Rattle.er_report.specs.Lines.{line_view};
+ghost use Rattle.er_report.specs.Lines.{line_view, locks_in, reasons_in};
 
-use crate::{Because, Line};
+use crate::{Details, Line};
 use std::vec::IntoIter;
 
 /// Gives each line of a race its reasons, one after another.
-pub(crate) fn give_reasons(told: Vec<Vec<Because>>, lines: &mut [Line])
-    ensures { map line_view lines.new ≡ with_told (map (λ reasons. reasons.items) told.items) (map line_view lines.old) }
+pub(crate) fn give_reasons(told: Vec<Box<Details>>, lines: &mut [Line])
+    ensures { map line_view lines.new ≡ with_told (map (λ reasons. reasons.value.explained.items) told.items) (map line_view lines.old) }
 {
     let mut to_come = told.into_iter();
     for i in 0..lines.len() {
@@ -18,23 +18,28 @@ pub(crate) fn give_reasons(told: Vec<Vec<Because>>, lines: &mut [Line])
 }
 
 // Gives the line of a race the next reasons.
-fn explain_line(to_come: &mut IntoIter<Vec<Because>>, line: &mut Line)
-    ensures line { line_view line.new ≡ line_told (map (λ reasons. reasons.items) (into_iter_items to_come.old)) (line_view line.old) }
-    ensures left { map (λ reasons. reasons.items) (into_iter_items to_come.new) ≡ told_left (map (λ reasons. reasons.items) (into_iter_items to_come.old)) (line_view line.old) }
+fn explain_line(to_come: &mut IntoIter<Box<Details>>, line: &mut Line)
+    ensures line { line_view line.new ≡ line_told (map (λ reasons. reasons.value.explained.items) (into_iter_items to_come.old)) (line_view line.old) }
+    ensures left { map (λ reasons. reasons.value.explained.items) (into_iter_items to_come.new) ≡ told_left (map (λ reasons. reasons.value.explained.items) (into_iter_items to_come.old)) (line_view line.old) }
 {
     match line {
-        Line::Race { explained, .. } => take_next(to_come, explained),
-        Line::Reused { explained, .. } => take_next(to_come, explained),
+        Line::Race { details, .. } => take_next(to_come, details),
+        Line::Reused { details, .. } => take_next(to_come, details),
         _ => {}
     }
 }
 
-// Takes the next reasons, where some are left.
-fn take_next(to_come: &mut IntoIter<Vec<Because>>, explained: &mut Vec<Because>)
-    ensures given { explained.new.items ≡ next_told (map (λ reasons. reasons.items) (into_iter_items to_come.old)) explained.old.items }
-    ensures left { map (λ reasons. reasons.items) (into_iter_items to_come.new) ≡ drop 1 (map (λ reasons. reasons.items) (into_iter_items to_come.old)) }
+// Takes the next reasons, where some are left, and keeps the locks.
+fn take_next(to_come: &mut IntoIter<Box<Details>>, details: &mut Option<Box<Details>>)
+    ensures given { reasons_in details.new ≡ next_told (map (λ reasons. reasons.value.explained.items) (into_iter_items to_come.old)) (reasons_in details.old) }
+    ensures locks { locks_in details.new ≡ locks_in details.old }
+    ensures left { map (λ reasons. reasons.value.explained.items) (into_iter_items to_come.new) ≡ drop 1 (map (λ reasons. reasons.value.explained.items) (into_iter_items to_come.old)) }
 {
-    if let Some(reasons) = to_come.next() {
-        *explained = reasons;
+    if let Some(mut reasons) = to_come.next() {
+        reasons.held = match details {
+            Some(kept) => kept.held.take(),
+            None => None,
+        };
+        *details = Some(reasons);
     }
 }

@@ -1,6 +1,6 @@
 //! A report, as plain data.
 ghost use Rattle.std.specs.Prelude.{◌≡◌, IfSome};
-ghost use Rattle.er_report.specs.Lines.{RacedView, line_view, locks_in, race_of};
+ghost use Rattle.er_report.specs.Lines.{RacedView, line_view, locks_in, race_of, reasons_in};
 
 use er_event::{
     Kind, LockId, Lockset, NoRoom, PageRange, Refusal, Site, Step, ThreadId, Word, WordState,
@@ -8,50 +8,46 @@ use er_event::{
 use std::marker::Model;
 
 /// One line of a report. Each names the line of the text that its step came from. A report may have millions of them, so what only few of
-/// them have stands apart.
+/// them have stands apart, and the fields are in the order in which they take least room.
 #[derive(Debug, PartialEq, Eq, Drop)]
 pub enum Line {
     /// An access that was answered with a race.
     Race {
-        /// The line of the text, from 1.
-        line: u64,
-        /// Who made the access.
-        thread: ThreadId,
         /// Whether it read or wrote.
         kind: Kind,
-        /// The word that it touched.
-        word: Word,
+        /// Who made the access.
+        thread: ThreadId,
         /// Where in the program it stands.
         site: Site,
-        /// The locks that the thread held then, in any mode. None if it held none, as at most races.
-        held: Option<Box<Lockset>>,
-        /// The accesses that make it a race: the first, the joining, a write, and one for each lock of the joining. Empty in a
-        /// report without explanations.
-        explained: Vec<Because>,
+        /// The line of the text, from 1.
+        line: u64,
+        /// The word that it touched.
+        word: Word,
+        /// The locks that the thread held then, and the accesses that make it a race: the first, the joining, a write, and one for each
+        /// lock of the joining. None if it held no lock and no reasons were given, as at most races.
+        details: Option<Box<Details>>,
     },
     /// A reuse that was answered with a race: its memory was given back while another thread still used it.
     Reused {
-        /// The line of the text, from 1.
-        line: u64,
         /// Who gave the memory back.
         thread: ThreadId,
-        /// The words that were given back.
-        range: Box<PageRange>,
         /// Where in the program it stands.
         site: Site,
-        /// The locks that the thread held then, in any mode. None if it held none.
-        held: Option<Box<Lockset>>,
-        /// The access that it is unordered with. Empty in a report without explanations.
-        explained: Vec<Because>,
+        /// The line of the text, from 1.
+        line: u64,
+        /// The words that were given back.
+        range: Box<PageRange>,
+        /// The locks that the thread held then, and the access that it is unordered with. None if there is neither.
+        details: Option<Box<Details>>,
     },
     /// A step that was refused.
     Refused {
-        /// The line of the text, from 1.
-        line: u64,
-        /// What was refused, and to whom.
-        step: Step,
         /// Why.
         refusal: Refusal,
+        /// What was refused, and to whom.
+        step: Step,
+        /// The line of the text, from 1.
+        line: u64,
     },
     /// A word that was shown.
     Shown {
@@ -60,8 +56,19 @@ pub enum Line {
         /// The word.
         word: Word,
         /// What was known of it then.
-        state: WordState,
+        state: Box<WordState>,
     },
+}
+
+const _: () = prove!(size_of::<Line>() == 48);
+
+/// What few races have.
+#[derive(Debug, PartialEq, Eq, Drop)]
+pub struct Details {
+    /// The locks that the thread held, in any mode. None if it held none.
+    pub held: Option<Box<Lockset>>,
+    /// The accesses that make it a race. Empty in a report without explanations.
+    pub explained: Vec<Because>,
 }
 
 impl Line {
@@ -70,54 +77,57 @@ impl Line {
         ensures value { result ≡ race_of (line_view self.now) }
         ensures is { IfSome result (λ race. line_view self.now ≡ RacedView race) }
     {
-        match self {
+        let (line, thread, deed, site, details) = match self {
             Line::Race {
-                line,
-                thread,
                 kind,
-                word,
-                site,
-                held,
-                explained,
-            } => Some(Race {
-                line: *line,
-                thread: *thread,
-                deed: Deed::Access(*kind, *word),
-                site: *site,
-                held: locks_in(held),
-                explained,
-            }),
-            Line::Reused {
-                line,
                 thread,
-                range,
                 site,
-                held,
-                explained,
-            } => Some(Race {
-                line: *line,
-                thread: *thread,
-                deed: Deed::Reuse(**range),
-                site: *site,
-                held: locks_in(held),
-                explained,
-            }),
-            Line::Refused { .. } | Line::Shown { .. } => None,
-        }
+                line,
+                word,
+                details,
+            } => (line, thread, Deed::Access(*kind, *word), site, details),
+            Line::Reused {
+                thread,
+                site,
+                line,
+                range,
+                details,
+            } => (line, thread, Deed::Reuse(**range), site, details),
+            Line::Refused { .. } | Line::Shown { .. } => return None,
+        };
+        Some(Race {
+            line: *line,
+            thread: *thread,
+            deed,
+            site: *site,
+            held: locks_in(details),
+            explained: reasons_in(details),
+        })
     }
 }
 
-// The locks of a race that keeps none if they are none.
-fn locks_in(held: &Option<Box<Lockset>>) -> &[LockId]
-    ensures { result.now ≡ locks_in held.now }
+// The locks among a race's details.
+fn locks_in(details: &Option<Box<Details>>) -> &[LockId]
+    ensures { result.now ≡ locks_in details.now }
 {
-    match held {
-        Some(locks) => locks.as_slice(),
+    match details {
+        Some(details) => match &details.held {
+            Some(locks) => locks.as_slice(),
+            None => &[],
+        },
         None => &[],
     }
 }
 
-const _: () = prove!(size_of::<Line>() == 80);
+/// The reasons among a race's details.
+pub fn reasons_in(details: &Option<Box<Details>>) -> &[Because]
+    ensures { result.now ≡ reasons_in details.now }
+{
+    match details {
+        Some(details) => &details.explained,
+        None => &[],
+    }
+}
 
 /// What a thread did that was answered with a race.
 #[derive(Clone, Copy, Debug, PartialEq, Eq, Drop)]

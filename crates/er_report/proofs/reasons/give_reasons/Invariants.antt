@@ -7,5 +7,5 @@ use Rattle.er_report.proofs.reasons.give_reasons.Given as goal
 -- the first lines have their reasons, and the others get those that are to come
 abbrev pub invariant-loop-i : goal.invariant-loop-i
 invariant-loop-i l =
-    with_told (map (λ reasons. reasons.items) (into_iter_items l.initial.to_come)) (map line_view l.initial.lines)
-    ≡ take l.i (map line_view l.lines) ++ with_told (map (λ reasons. reasons.items) (into_iter_items l.to_come)) (drop l.i (map line_view l.lines))
+    with_told (map (λ reasons. reasons.value.explained.items) (into_iter_items l.initial.to_come)) (map line_view l.initial.lines)
+    ≡ take l.i (map line_view l.lines) ++ with_told (map (λ reasons. reasons.value.explained.items) (into_iter_items l.to_come)) (drop l.i (map line_view l.lines))

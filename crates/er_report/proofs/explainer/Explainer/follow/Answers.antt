@@ -10,20 +10,20 @@ use Rattle.er_report.proofs.explainer.Explainer.follow.Goals as goal
 
 pub returns-in_ok-push : goal.returns-in_ok-push
 returns-in_ok-push c = λ r rules k so_far here number covers printed.
-    let told : List (List Because) = map (λ reasons. reasons.items) c.self.inside.told.items in
+    let told : List (List Because) = map (λ reasons. reasons.value.explained.items) c.self.inside.told.items in
     let before : Kept = record { books = c.self.inside.books; told = told } in
     let found : List Because = word_reasons (book_in c.follow.new.self) (word_in c.args.step.now.event) in
-    let tells : map (λ reasons. reasons.items) c.push.new.self.items ≡ told ++ cond c.args.printed (found ∷ []) [] =
-    ap (map (λ reasons. reasons.items)) c.in_ok-push.ensures.items
-    ∙ map-append (λ reasons. reasons.items) c.self.inside.told.items (c.in_ok-reasons.reasons ∷ [])
-    ∙ ap (λ (reasons : List Because). told ++ reasons ∷ []) c.in_ok-reasons.ensures
+    let tells : map (λ reasons. reasons.value.explained.items) c.push.new.self.items ≡ told ++ cond c.args.printed (found ∷ []) [] =
+    ap (map (λ reasons. reasons.value.explained.items)) c.in_ok-push.ensures.items
+    ∙ map-append (λ reasons. reasons.value.explained.items) c.self.inside.told.items (c.in_ok-reasons.reasons ∷ [])
+    ∙ ap (λ (reasons : List Because). told ++ reasons ∷ []) (ap (λ details. details.explained.items) c.in_ok-reasons.ensures.ok ∙ c.in_ok-explained.ensures)
     ∙ ap (λ (b : Bool). told ++ cond b (found ∷ []) []) (sym c.if-printed.true) in
     follows-next before _ r rules k c.args.line c.args.step.now c.args.printed c.follow.new.self (subst (λ (kept : Kept). Follows kept r rules k) (sym c.self.view_is) so_far) here number printed
     (c.in_ok-follow.ensures (holdings_at r.steps c.args.step.now.thread k) covers) refl tells
 
 pub returns-else-printed : goal.returns-else-printed
 returns-else-printed c = λ r rules k so_far here number covers printed.
-    let told : List (List Because) = map (λ reasons. reasons.items) c.self.inside.told.items in
+    let told : List (List Because) = map (λ reasons. reasons.value.explained.items) c.self.inside.told.items in
     let before : Kept = record { books = c.self.inside.books; told = told } in
     let found : List Because = word_reasons (book_in c.follow.new.self) (word_in c.args.step.now.event) in
     follows-next before _ r rules k c.args.line c.args.step.now c.args.printed c.follow.new.self (subst (λ (kept : Kept). Follows kept r rules k) (sym c.self.view_is) so_far) here number printed
