@@ -12,10 +12,10 @@ use Rattle.er_sites.specs.Table.{is_at, races_at, reads_at, reuses_at, writes_at
 
 -- a race is a read, a write or a reuse at its site
 one_race : (s : ℕ) (line : Line) → cond (reads_at s line) 1 0 + cond (writes_at s line) 1 0 + cond (reuses_at s line) 1 0 ≡ cond (is_at s line) 1 0
-one_race s (Race number thread kind.Read word site held explained) = omega arith
-one_race s (Race number thread kind.Write word site held explained) = omega arith
-one_race s (Reused number thread range site held explained) = omega arith
-one_race s (Refused number step refusal) = refl
+one_race s (Race kind.Read thread site number word details) = omega arith
+one_race s (Race kind.Write thread site number word details) = omega arith
+one_race s (Reused thread site number range details) = omega arith
+one_race s (Refused refusal step number) = refl
 one_race s (Shown number word state) = refl
 
 counted : {X : Type 0} (p : X → Bool) (x : X) (xs : List X) → count_by p (x ∷ xs) ≡ cond (p x) 1 0 + count_by p xs

@@ -59,9 +59,9 @@ race_named of names table race placed named =
     (λ k d h. access_named of names table (get_or race.explained k d).line (get_or race.explained k d).thread (get_or race.explained k d).kind placed (named.explained k d h).0))
 
 line_named : (of : Mention) (names : NameTable) (table : PlaceTable) (line : Line) → ArePlaced table → HasNames names line → All (HasMentionName of names table) (line_mentions of table line)
-line_named of names table (Race number thread kind word site held explained) placed named = race_named of names table _ placed named
-line_named of names table (Reused number thread range site held explained) placed named = race_named of names table _ placed named
-line_named of names table (Refused number step refusal) placed named = All-nil (HasMentionName of names table)
+line_named of names table (Race kind thread site number word details) placed named = race_named of names table _ placed named
+line_named of names table (Reused thread site number range details) placed named = race_named of names table _ placed named
+line_named of names table (Refused refusal step number) placed named = All-nil (HasMentionName of names table)
 line_named of names table (Shown number word state) placed named = All-nil (HasMentionName of names table)
 
 lone_named : (of : Mention) (names : NameTable) (table : PlaceTable) (race : RaceView) (site : ℕ) (did : Deed) → ArePlaced table → HasRaceNames names race
@@ -73,9 +73,9 @@ lone_named of names table race (suc site) (deed.Access kind word) placed named =
 
 reuse_named : (of : Mention) (names : NameTable) (table : PlaceTable) (line : Line) → ArePlaced table → HasNames names line
     → All (HasMentionName of names table) (reuse_mentions of table (race_of (line_view line)))
-reuse_named of names table (Race number thread kind word site held explained) placed named = lone_named of names table _ site (deed.Access kind word) placed named
-reuse_named of names table (Reused number thread range site held explained) placed named = lone_named of names table _ site (deed.Reuse range.value) placed named
-reuse_named of names table (Refused number step refusal) placed named = All-nil (HasMentionName of names table)
+reuse_named of names table (Race kind thread site number word details) placed named = lone_named of names table _ site (deed.Access kind word) placed named
+reuse_named of names table (Reused thread site number range details) placed named = lone_named of names table _ site (deed.Reuse range.value) placed named
+reuse_named of names table (Refused refusal step number) placed named = All-nil (HasMentionName of names table)
 reuse_named of names table (Shown number word state) placed named = All-nil (HasMentionName of names table)
 
 row_named : (of : Mention) (names : NameTable) (table : PlaceTable) (lines : List Line) (place : ℕ) → ArePlaced table → All (HasNames names) lines

@@ -24,9 +24,9 @@ pub record HasRoom (counts : Counts) : Type 0 where
 
 -- how many races of its site and kind were counted
 abbrev pub count_like : Counts → Line → ℕ
-count_like counts (Race number thread kind.Read word site held explained) = slice_index counts.reads.items site
-count_like counts (Race number thread kind.Write word site held explained) = slice_index counts.writes.items site
-count_like counts (Reused number thread range zero held explained) = 0
-count_like counts (Reused number thread range (suc site) held explained) = slice_index counts.reuses.items (suc site)
-count_like counts (Refused number step refusal) = 0
+count_like counts (Race kind.Read thread site number word details) = slice_index counts.reads.items site
+count_like counts (Race kind.Write thread site number word details) = slice_index counts.writes.items site
+count_like counts (Reused thread zero number range details) = 0
+count_like counts (Reused thread (suc site) number range details) = slice_index counts.reuses.items (suc site)
+count_like counts (Refused refusal step number) = 0
 count_like counts (Shown number word state) = 0

@@ -23,30 +23,30 @@ is_write kind.Write = true
 
 -- the line is a race of a read at this site
 abbrev pub reads_at : ℕ → Line → Bool
-reads_at s (Race number thread kind word site held explained) = is_read kind && s == site
-reads_at s (Reused number thread range site held explained) = false
-reads_at s (Refused number step refusal) = false
+reads_at s (Race kind thread site number word details) = is_read kind && s == site
+reads_at s (Reused thread site number range details) = false
+reads_at s (Refused refusal step number) = false
 reads_at s (Shown number word state) = false
 
 -- the line is a race of a write at this site
 abbrev pub writes_at : ℕ → Line → Bool
-writes_at s (Race number thread kind word site held explained) = is_write kind && s == site
-writes_at s (Reused number thread range site held explained) = false
-writes_at s (Refused number step refusal) = false
+writes_at s (Race kind thread site number word details) = is_write kind && s == site
+writes_at s (Reused thread site number range details) = false
+writes_at s (Refused refusal step number) = false
 writes_at s (Shown number word state) = false
 
 -- the line is a race of a reuse at this site; one without a site is at none
 abbrev pub reuses_at : ℕ → Line → Bool
-reuses_at s (Race number thread kind word site held explained) = false
-reuses_at s (Reused number thread range site held explained) = not (site == 0) && s == site
-reuses_at s (Refused number step refusal) = false
+reuses_at s (Race kind thread site number word details) = false
+reuses_at s (Reused thread site number range details) = not (site == 0) && s == site
+reuses_at s (Refused refusal step number) = false
 reuses_at s (Shown number word state) = false
 
 -- the line is a race at this site
 abbrev pub is_at : ℕ → Line → Bool
-is_at s (Race number thread kind word site held explained) = s == site
-is_at s (Reused number thread range site held explained) = not (site == 0) && s == site
-is_at s (Refused number step refusal) = false
+is_at s (Race kind thread site number word details) = s == site
+is_at s (Reused thread site number range details) = not (site == 0) && s == site
+is_at s (Refused refusal step number) = false
 is_at s (Shown number word state) = false
 
 -- how many races there are at a site

@@ -286,9 +286,9 @@ reuse_story names table (Some race) = lone_text names table race race.site race.
 
 -- the line tells of a reuse that races
 abbrev pub is_reused : Line → Bool
-is_reused (Race number thread kind word site held explained) = false
-is_reused (Reused number thread range site held explained) = true
-is_reused (Refused number step refusal) = false
+is_reused (Race kind thread site number word details) = false
+is_reused (Reused thread site number range details) = true
+is_reused (Refused refusal step number) = false
 is_reused (Shown number word state) = false
 
 -- the example of a row, among the lines of the report
@@ -311,9 +311,9 @@ refusal_text (ShownView number word state) = []
 
 -- the line tells of a refused step
 abbrev pub is_refused : Line → Bool
-is_refused (Race number thread kind word site held explained) = false
-is_refused (Reused number thread range site held explained) = false
-is_refused (Refused number step refusal) = true
+is_refused (Race kind thread site number word details) = false
+is_refused (Reused thread site number range details) = false
+is_refused (Refused refusal step number) = true
 is_refused (Shown number word state) = false
 
 -- the line of the first refused step of a report, if there is one
