@@ -237,9 +237,9 @@ races_in None = 1
 races_in (Some race) = race.races
 
 alone : (line : Line) → races_in (race_of line) ≡ 1
-alone (Race number thread kind word site held explained) = refl
-alone (Reused number thread range site held explained) = refl
-alone (Refused number step refusal) = refl
+alone (Race kind thread site number word details) = refl
+alone (Reused thread site number range details) = refl
+alone (Refused refusal step number) = refl
 alone (Shown number word state) = refl
 
 -- a race more is counted at its rule, and the counts of the others stay
