@@ -16,11 +16,11 @@ use Rattle.er_trace.specs.Names.{NameTable}
 
 -- counts by site are those of the races like a line
 pub like : (counts : Counts) (lines : List Line) → AreCounts lines counts → (line : Line) → count_like counts line ≡ races_like lines line
-like counts lines known (Race number thread kind.Read word site held explained) = known.reads site
-like counts lines known (Race number thread kind.Write word site held explained) = known.writes site
-like counts lines known (Reused number thread range zero held explained) = refl
-like counts lines known (Reused number thread range (suc site) held explained) = known.reuses (suc site)
-like counts lines known (Refused number step refusal) = refl
+like counts lines known (Race kind.Read thread site number word details) = known.reads site
+like counts lines known (Race kind.Write thread site number word details) = known.writes site
+like counts lines known (Reused thread zero number range details) = refl
+like counts lines known (Reused thread (suc site) number range details) = known.reuses (suc site)
+like counts lines known (Refused refusal step number) = refl
 like counts lines known (Shown number word state) = refl
 
 pub results_next : (of : ReportKind) (names : NameTable) (table : PlaceTable) (lines : List Line) (k : ℕ) (line : Line) (before count : ℕ) → slice_get lines k ≡ Some line → before ≡ races_like (take k lines) line
@@ -34,9 +34,9 @@ one_more false row rows = simp append-nil
 
 results_more : (of : ReportKind) (names : NameTable) (table : PlaceTable) (before count : ℕ) (line : Line) (rows : List (List ℕ))
     → rows_text (rows ++ results_of of names table before count line) ≡ rows_text rows ++ next_text (has_none rows) (results_of of names table before count line)
-results_more of names table before count (Race number thread kind word site held explained) rows = one_more (before == 0) _ rows
-results_more of names table before count (Reused number thread range site held explained) rows = one_more (before == 0) _ rows
-results_more of names table before count (Refused number step refusal) rows = simp append-nil
+results_more of names table before count (Race kind thread site number word details) rows = one_more (before == 0) _ rows
+results_more of names table before count (Reused thread site number range details) rows = one_more (before == 0) _ rows
+results_more of names table before count (Refused refusal step number) rows = simp append-nil
 results_more of names table before count (Shown number word state) rows = simp append-nil
 
 -- and their text

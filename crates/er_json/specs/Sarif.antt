@@ -177,11 +177,11 @@ result_text of names table race count =
 
 -- how many of the lines are races of the line's site and kind; a reuse without a site is like none
 abbrev pub races_like : List Line → Line → ℕ
-races_like lines (Race number thread kind.Read word site held explained) = count_by (reads_at site) lines
-races_like lines (Race number thread kind.Write word site held explained) = count_by (writes_at site) lines
-races_like lines (Reused number thread range zero held explained) = 0
-races_like lines (Reused number thread range (suc site) held explained) = count_by (reuses_at (suc site)) lines
-races_like lines (Refused number step refusal) = 0
+races_like lines (Race kind.Read thread site number word details) = count_by (reads_at site) lines
+races_like lines (Race kind.Write thread site number word details) = count_by (writes_at site) lines
+races_like lines (Reused thread zero number range details) = 0
+races_like lines (Reused thread (suc site) number range details) = count_by (reuses_at (suc site)) lines
+races_like lines (Refused refusal step number) = 0
 races_like lines (Shown number word state) = 0
 
 -- a race has a result if none like it came before, and there are so many like it in all; one that is like none counts as one
