@@ -1,5 +1,5 @@
 //! What the machine keeps of each access for the reasons of later races, and the reasons so far.
-ghost use Rattle.std.specs.Prelude.{◌≡◌, ◌++◌, ◌∷◌, [], ℕ, List, Option, Some, map, IfOk, OnOk};
+ghost use Rattle.std.specs.Prelude.{◌≡◌, ◌++◌, ◌∷◌, [], ℕ, List, Option, Some, map, OnOk};
 ghost use Rattle.std.specs.Option.{option_to_list};
 ghost use Rattle.er_event.specs.declared.steps.Step.{Step as Steps};
 ghost use Rattle.er_explain.specs.Book.{event_kind};
@@ -7,7 +7,7 @@ ghost use Rattle.er_report.specs.declared.report.Because.{Because as Reason};
 ghost use Rattle.er_unordered.specs.Tags.{line_reason};
 
 use er_event::{Event, Kind, Step};
-use er_report::{Because, Label};
+use er_report::{Because, Details, Label};
 use std::alloc::{AllocError, Global};
 use std::marker::Model;
 
@@ -67,10 +67,10 @@ impl Tag for Because {
     }
 }
 
-/// The reasons of the races that have lines so far, a list for each, if they are wanted.
+/// The reasons of the races that have lines so far, a list for each, if they are wanted, in the box that its line is to keep.
 #[derive(Drop)]
 pub(crate) struct Told {
-    reasons: Vec<Vec<Because>>,
+    reasons: Vec<Box<Details>>,
     alloc: Global,
 }
 
@@ -80,7 +80,7 @@ impl Model for Told {
 
     ghost Value = { List (List Reason) };
 
-    ghost view = { λ t. map (λ reasons. reasons.items) t.reasons.items };
+    ghost view = { λ t. map (λ reasons. reasons.value.explained.items) t.reasons.items };
 }
 
 impl Told {
@@ -95,8 +95,8 @@ impl Told {
     }
 
     /// The reasons, in the races' order.
-    pub(crate) fn into_reasons(self) -> Vec<Vec<Because>>
-        ensures { map (λ reasons. reasons.items) result.items ≡ self }
+    pub(crate) fn into_reasons(self) -> Vec<Box<Details>>
+        ensures { map (λ reasons. reasons.value.explained.items) result.items ≡ self }
     {
         let Told { reasons, .. } = self;
         reasons
@@ -106,22 +106,12 @@ impl Told {
     fn put(&mut self, found: Option<Because>) -> Result<(), AllocError>
         ensures { OnOk result (self.new ≡ self.old ++ option_to_list found ∷ []) }
     {
-        self.reasons.push(list_of(self.alloc, found)?)?;
+        let (held, mut explained) = (None, Vec::new(self.alloc));
+        explained.extend_from_slice(found.as_slice())?;
+        let reasons = Box::new(self.alloc, Details { held, explained })?;
+        self.reasons.push(reasons)?;
         Ok(())
     }
-}
-
-// A list of what was found.
-fn list_of(alloc: Global, found: Option<Because>) -> Result<Vec<Because>, AllocError>
-    ensures { IfOk result (λ list. list.items ≡ option_to_list found) }
-{
-    let mut list = Vec::new(alloc);
-    if let Some(reason) = found {
-        // The prover wants to see the label by itself.
-        let label = reason.label;
-        list.push(Because { label, ..reason })?;
-    }
-    Ok(list)
 }
 
 // The kind of an access. Another event is never a reason.
