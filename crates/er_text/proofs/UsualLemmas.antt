@@ -8,12 +8,15 @@ use Rattle.std.proofs.lemmas.Bool.Decides.{nat_tests}
 use Rattle.er_event.specs.declared.steps.Kind.{Kind}
 use Rattle.er_event.specs.declared.steps.Event.TheVariants.{Access}
 use Rattle.er_lines.specs.Lines.{has_bytes}
-use Rattle.er_lines.specs.Naming.{is_name_byte, is_name, is_lock_name}
+use Rattle.er_lines.specs.Naming.{is_name_byte, is_name, is_lock_name, is_site_byte, is_site_name}
 use Rattle.er_trace.specs.Trace.{Recording, with_step, with_thread_name, with_lock_name, with_site_name}
 use Rattle.er_text.specs.declared.verbs.Version.{Version}
+use Rattle.er_text.specs.declared.verbs.Version.TheVariants.{One, Two, Three}
 use Rattle.er_text.specs.declared.stages.Stage.{Stage}
 use Rattle.er_text.specs.declared.stages.Stage.TheVariants.{Events}
-use Rattle.er_trace.specs.Names.{is_known, number_of, with_name, is_plain_byte, is_plain_name, IsPlain}
+use Rattle.er_trace.specs.Names.{is_known, number_of, with_name, is_plain_byte, is_plain_name, is_shown_name, is_allowed_name, IsPlain}
+use Rattle.er_text.specs.Naming.{is_site_word}
+use Rattle.er_text.specs.Verbs.{is_third}
 use Rattle.er_text.specs.Events.{Operation, Accesses, EventLine, site_number, with_site_of, with_operation, with_line}
 use Rattle.er_text.specs.Inner.Idle.{last_actor, without_idle}
 use Rattle.er_text.specs.Inner.Traces.{at_line, plain_at}
@@ -110,11 +113,26 @@ some_plain (byte ∷ bytes) plain =
     let all : list_all is_name_byte name ≡ true = p.1 in
     rw (few, all) refl
 
--- the same of a name among plain ones
+some_shown : (word : List ℕ) → is_shown_name word ≡ true → is_site_name word ≡ true
+some_shown [] shown = absurd (cc)
+some_shown (byte ∷ bytes) shown =
+    let name = byte ∷ bytes in
+    let p = and_parts (not (nat_le (length name) 0) && nat_le (length name) 128) (list_all is_site_byte name) shown in
+    let few = (and_parts (not (nat_le (length name) 0)) (nat_le (length name) 128) p.0).1 in
+    let all : list_all is_site_byte name ≡ true = p.1 in
+    rw (few, all) refl
+
+-- the version says what a site may be
+allowed_word : (v : Version) (word : List ℕ) → is_allowed_name (is_third v) word ≡ true → is_site_word v word ≡ true
+allowed_word One word plain = some_plain word plain
+allowed_word Two word plain = some_plain word plain
+allowed_word Three word shown = some_shown word shown
+
+-- the same of a name among those that are allowed
 pub site_again : (v : Version) (r : Recording) (rest word : List ℕ) (site : ℕ) → rest ≡ 32 ∷ word → site ≡ number_of r.names.sites word + 1 → is_known r.names.sites word ≡ true
-    → is_plain_name word ≡ true → bytes_eq word (codes "-") ≡ false → (s : Option (List ℕ)) × IsSiteBehind v rest s × (site ≡ site_number r s) × (r ≡ with_site_of r s)
-site_again v r rest word site behind is known plain other =
-    (Some word, Named word behind (name_word v word (some_plain word plain), rw other refl), is, sym (site_kept r word known))
+    → is_allowed_name (is_third v) word ≡ true → bytes_eq word (codes "-") ≡ false → (s : Option (List ℕ)) × IsSiteBehind v rest s × (site ≡ site_number r s) × (r ≡ with_site_of r s)
+site_again v r rest word site behind is known allowed other =
+    (Some word, Named word behind (allowed_word v word allowed, rw other refl), is, sym (site_kept r word known))
 
 site_below : (r : Recording) (s : Option (List ℕ)) → site_number r s ≤ length (with_site_of r s).names.sites
 site_below r None = omega arith

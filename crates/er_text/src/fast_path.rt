@@ -187,7 +187,7 @@ fn site_behind(
     if let Some(site) = trace.names().last_site(whole, word.len()) {
         return Ok(Some(site));
     }
-    if let Some(site) = trace.names().plain_site(word) {
+    if let Some(site) = trace.names().allowed_site(word, version.is_third()) {
         return Ok(Some(site));
     }
     if !is_site_word(version, word) {

@@ -8,7 +8,7 @@ use Rattle.er_trace.specs.declared.recent.Leading.{Leading}
 use Rattle.er_trace.specs.declared.recent.ShortName.{ShortName}
 use Rattle.er_trace.specs.declared.recent.Slot.{Slot}
 use Rattle.er_trace.specs.declared.recent.RecentNames.{RecentNames}
-use Rattle.er_trace.specs.Names.{number_of, with_name, most_names, is_plain_byte, is_plain_name, is_known, IsPlain}
+use Rattle.er_trace.specs.Names.{number_of, with_name, most_names, is_plain_byte, is_known, IsPlain}
 use Rattle.er_trace.specs.Inner.Recent.{bytes_of, Knows, IsRight, AreRight, LeadsRight}
 use Rattle.er_trace.proofs.DigitLemmas.{bytes_size}
 use Rattle.er_trace.proofs.LeadingLemmas.{still_leads}
@@ -55,13 +55,13 @@ pub small_found : (names : List (List ℕ)) (name : ShortName) (found : Option �
 small_found names name None right = tt
 small_found names name (Some number) right = right.knows.small
 
--- a name among plain ones is plain
-plain_among : (names : List (List ℕ)) (name : List ℕ) (b : Bool) → is_plain_name name ≡ b → is_known names name ≡ true → list_all is_plain_name names ≡ true → b ≡ true
-plain_among names name true is known all = refl
-plain_among names name false is known all =
+-- what all names are, a name among them is
+one_among : (such : List ℕ → Bool) (names : List (List ℕ)) (name : List ℕ) (b : Bool) → such name ≡ b → is_known names name ≡ true → list_all such names ≡ true → b ≡ true
+one_among such names name true is known all = refl
+one_among such names name false is known all =
     let below = within names name known in
-    let at : is_plain_name (get_or names (number_of names name) []) ≡ false = ap is_plain_name (sym (named names name below)) ∙ is in
-    absurd (true≢false (sym all ∙ list_all_at is_plain_name names (number_of names name) [] below at))
+    let at : such (get_or names (number_of names name) []) ≡ false = ap such (sym (named names name below)) ∙ is in
+    absurd (true≢false (sym all ∙ list_all_at such names (number_of names name) [] below at))
 
-pub plain_known : (names : List (List ℕ)) (name : List ℕ) (number : ℕ) → Knows names name number → list_all is_plain_name names ≡ true → is_plain_name name ≡ true
-plain_known names name number knows all = plain_among names name (is_plain_name name) refl knows.known all
+pub known_one : (such : List ℕ → Bool) (names : List (List ℕ)) (name : List ℕ) (number : ℕ) → Knows names name number → list_all such names ≡ true → such name ≡ true
+known_one such names name number knows all = one_among such names name (such name) refl knows.known all

@@ -1,10 +1,10 @@
 //! Names of one sort and their numbers.
 ghost use Rattle.std.specs.Prelude.{◌≡◌, ◌<◌, ◌≤◌, [], length, Some, slice_get, IsTrue, IsOk, IsErr, IfOk, IfSome, IfNone, OnOk, OnErr, true, false};
 ghost use Rattle.er_trace.specs.Inner.Recent.{Knows};
-ghost use Rattle.er_trace.specs.Names.{is_known, number_of, with_name, most_names, is_plain_name};
+ghost use Rattle.er_trace.specs.Names.{is_known, number_of, with_name, most_names, is_allowed_name};
 
 use crate::NameKeys;
-use crate::recent::is_plain_name;
+use crate::recent::{is_plain_name, is_shown_name};
 use er_keys::KeyedHasher;
 use indexmap::IndexSet;
 use std::alloc::{AllocError, Global};
@@ -15,19 +15,20 @@ use std::marker::Model;
 pub(crate) struct NameList {
     names: IndexSet<String, KeyedHasher>,
     are_plain: bool,
+    are_shown: bool,
 }
 
 impl Model for NameList {
     ghost use Rattle.std.specs.Prelude.{ℕ, ◌≤◌, List, length, map};
     ghost use Rattle.std.specs.String.{string_bytes};
-    ghost use Rattle.er_trace.specs.Names.{most_names};
-    ghost use Rattle.er_trace.specs.Inner.Recent.{ArePlain};
+    ghost use Rattle.er_trace.specs.Names.{most_names, is_plain_name, is_shown_name};
+    ghost use Rattle.er_trace.specs.Inner.Recent.{AreAll};
 
     ghost Value = { List (List ℕ) };
 
     ghost view = { λ n. map string_bytes n.names.keys };
 
-    ghost invariant = { λ n. (length (map string_bytes n.names.keys) ≤ most_names) × ArePlain n.are_plain (map string_bytes n.names.keys) };
+    ghost invariant = { λ n. (length (map string_bytes n.names.keys) ≤ most_names) × AreAll is_plain_name n.are_plain (map string_bytes n.names.keys) × AreAll is_shown_name n.are_shown (map string_bytes n.names.keys) };
 }
 
 impl NameList {
@@ -40,6 +41,7 @@ impl NameList {
         NameList {
             names: IndexSet::with_hasher(alloc, KeyedHasher::new(keys)),
             are_plain: true,
+            are_shown: true,
         }
     }
 
@@ -59,6 +61,7 @@ impl NameList {
             return Err(AllocError);
         }
         self.are_plain = self.are_plain && is_plain_name(name.as_bytes());
+        self.are_shown = self.are_shown && is_shown_name(name.as_bytes());
         let name = String::from_str(*self.names.allocator(), name)?;
         let (number, _) = self.names.insert_full(name)?;
         Ok(number)
@@ -74,11 +77,12 @@ impl NameList {
         }
     }
 
-    /// The same, if all names are plain.
-    pub(crate) fn is_plain_at(&self, number: usize, name: &[u8]) -> bool
-        ensures { IsTrue result → Knows self.now name.now number × (is_plain_name name.now ≡ true) }
+    /// The same, if all names are plain, or if they may be others, of bytes from `!` to `~`.
+    pub(crate) fn is_allowed_at(&self, number: usize, name: &[u8], may_be_other: bool) -> bool
+        ensures { IsTrue result → Knows self.now name.now number × (is_allowed_name may_be_other name.now ≡ true) }
     {
-        self.are_plain && self.is_at(number, name)
+        let are_allowed = if may_be_other { self.are_shown } else { self.are_plain };
+        are_allowed && self.is_at(number, name)
     }
 
     pub(crate) fn allocator(&self) -> &Global {

@@ -3,7 +3,7 @@ ghost use Rattle.std.specs.Prelude.{◌≡◌, ◌+◌, ◌-◌, ◌<◌, ◌≤
 ghost use Rattle.er_trace.specs.Appended.{AreNumbers, HasAll, with_names, with_table};
 ghost use Rattle.er_trace.specs.Inner.Recent.{Knows, IsLed, bytes_of};
 ghost use Rattle.er_trace.specs.Inner.Renumbering.{HasMore};
-ghost use Rattle.er_trace.specs.Names.{is_known, number_of, with_name, no_names, most_names, is_plain_name, IsPlain};
+ghost use Rattle.er_trace.specs.Names.{is_known, number_of, with_name, no_names, most_names, is_allowed_name, IsPlain};
 
 use crate::NameKeys;
 use crate::appending::{NewNumbers, NewTable};
@@ -89,13 +89,13 @@ impl CachedNames {
         self.recent.find(name)
     }
 
-    /// The number of a name that was found lately by its last bytes, if all names are plain.
+    /// The number of a name that was found lately by its last bytes, if all names are allowed: see `is_allowed_at`.
     #[inline(always)]
-    fn plain_again(&self, name: &[u8]) -> Option<u32>
-        ensures { IfSome result (λ number. Knows self.now name.now number × (is_plain_name name.now ≡ true)) }
+    fn allowed_again(&self, name: &[u8], may_be_other: bool) -> Option<u32>
+        ensures { IfSome result (λ number. Knows self.now name.now number × (is_allowed_name may_be_other name.now ≡ true)) }
     {
         let hint = self.hints.hint(ending_of(name));
-        if !self.list.is_plain_at(hint, name) {
+        if !self.list.is_allowed_at(hint, name, may_be_other) {
             return None;
         }
         Some(hint as u32)
@@ -270,14 +270,14 @@ impl Names {
         Some(Site::new(number + 1))
     }
 
-    /// The site of this name, if it was found lately and all names of sites are plain.
+    /// The site of this name, if it was found lately and all names of sites are plain, or if they may be others, of bytes from `!` to `~`.
     #[inline(always)]
-    pub fn plain_site(&self, name: &[u8]) -> Option<Site>
+    pub fn allowed_site(&self, name: &[u8], may_be_other: bool) -> Option<Site>
         ensures number { IfSome result (λ site. site ≡ number_of self.now.sites name.now + 1) }
         ensures known { IfSome result (λ site. is_known self.now.sites name.now ≡ true) }
-        ensures plain { IfSome result (λ site. is_plain_name name.now ≡ true) }
+        ensures allowed { IfSome result (λ site. is_allowed_name may_be_other name.now ≡ true) }
     {
-        let number = self.sites.plain_again(name)?;
+        let number = self.sites.allowed_again(name, may_be_other)?;
         Some(Site::new(number + 1))
     }
 

@@ -6,7 +6,7 @@ use Rattle.er_trace.specs.declared.recent.Leading.{Leading}
 use Rattle.er_trace.specs.declared.recent.ShortName.{ShortName}
 use Rattle.er_trace.specs.declared.recent.Slot.{Slot}
 use Rattle.er_trace.specs.declared.recent.RecentNames.{RecentNames}
-use Rattle.er_trace.specs.Names.{is_known, number_of, most_names, is_plain_byte, is_plain_name, IsPlain}
+use Rattle.er_trace.specs.Names.{is_known, number_of, most_names, is_plain_byte, IsPlain}
 
 -- so many digits of a number to the base 256, the lowest first
 abbrev pub unpacked : ℕ → ℕ → List ℕ
@@ -27,9 +27,9 @@ pub record IsRight (names : List (List ℕ)) (name : List ℕ) (number : ℕ) : 
   pub knows : Knows names name number
   pub plain : list_all is_plain_byte name ≡ true
 
--- all names are plain, if this is said of them
-abbrev pub ArePlain : Bool → List (List ℕ) → Type 0
-ArePlain said names = said ≡ true → list_all is_plain_name names ≡ true
+-- all names are such, if this is said of them
+abbrev pub AreAll : (List ℕ → Bool) → Bool → List (List ℕ) → Type 0
+AreAll is said names = said ≡ true → list_all is names ≡ true
 
 -- this holds of each name in a slot and the number beside it
 abbrev pub AreRight : List (List ℕ) → RecentNames → Type 0

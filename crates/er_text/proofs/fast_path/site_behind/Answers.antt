@@ -27,16 +27,16 @@ returns-in-Some c =
     let other : bytes_eq word (codes "-") ≡ false = search rules in
     site_at_end c.args.version c.args.trace.now c.args.whole.now c.args.rest.now word c.in-Some.site c.requires led c.in-Some.ensures.some (search rules) other
 
-pub returns-in-Some-plain_site : goal.returns-in-Some-plain_site
-returns-in-Some-plain_site c =
+pub returns-in-Some-allowed_site : goal.returns-in-Some-allowed_site
+returns-in-Some-allowed_site c =
     let rest = c.args.rest.now in
     let word = take (length rest - 1) (drop 1 rest) in
     let led = space_front rest c.in-32.len_at_least (search rules) in
     let other : bytes_eq word (codes "-") ≡ false = search rules in
-    let found = c.in-Some-plain_site in
+    let found = c.in-Some-allowed_site in
     let P : NameTable → Type 0 = λ names. (found.site ≡ number_of names.sites word + 1) × (is_known names.sites word ≡ true) in
     let known = subst P c.names-2.ensures (found.ensures.number, found.ensures.known) in
-    site_again c.args.version c.args.trace.now rest word found.site led known.0 known.1 found.ensures.plain other
+    site_again c.args.version c.args.trace.now rest word found.site led known.0 known.1 (rw c.is_third.ensures at found.ensures.allowed) other
 
 pub site_text-requires : goal.site_text-requires
 site_text-requires c =
