@@ -1,7 +1,7 @@
 -- A line that was never made as text: what its text is made of, how long it is, and that it is the next line.
 use Rattle.std.proofs.Common.{◌≡◌, ℕ, zero, suc, ◌+◌, ◌*◌, ◌/◌, ◌%◌, ◌^◌, ◌==◌, ◌<◌, ◌≤◌, Bool, true, false, not, ◌&&◌, ◌||◌, cond, List, [], ◌∷◌, ◌++◌, length, nat_lt, nat_le, nat_eq, codes, Option, Some, None, refl, sym, ap, ◌∙◌, subst, append_assoc, arith}
 use Rattle.std.specs.Char.{digit_char, digit_value, is_digit}
-use Rattle.std.specs.Io.KnownBytes.{Consumes}
+use Rattle.std.specs.Io.KnownBytes.{Consumes, Keeps}
 use Rattle.std.specs.List.{list_all}
 use Rattle.std.specs.Str.{bytes_eq}
 use Rattle.std.specs.Str.Parse.{digits_value}
@@ -18,8 +18,8 @@ use Rattle.er_lines.specs.Lines.{Line, has_bytes, is_end, lines_of, onto_line, p
 use Rattle.er_lines.specs.Naming.{is_name, is_name_byte, is_lock_name, is_site_name, is_site_byte}
 use Rattle.er_lines.specs.Number.{hex_digits}
 use Rattle.er_lines.specs.Places.{Place}
-use Rattle.er_lines.specs.Ready.{IsRight, are_operands, is_maybe_site, is_ready, name_word, operand_name, operands_text, ready_text, thread_name, verb_text}
-use Rattle.er_lines.specs.Taking.{TakesLine, past_unread, ready_bytes, ready_placed}
+use Rattle.er_lines.specs.Ready.{IsRight, are_operands, is_maybe_site, is_ready, name_word, operand_name, operands_text, ready_text, thread_name, verb_text, words_text}
+use Rattle.er_lines.specs.Taking.{TakesLine, TakesLines, past_unread, ready_bytes, ready_placed}
 use Rattle.er_lines.specs.declared.ready.NameKind.{NameKind}
 use Rattle.er_lines.specs.declared.ready.ReadyLine.{ReadyLine}
 use Rattle.er_lines.specs.declared.ready.ReadyVerb.{ReadyVerb}
@@ -264,9 +264,81 @@ line_taken at new old known v address thread name width empty right takes room s
       past = past;
     }
 
--- the width of a right line
+-- what stands behind the front of what is left
+abbrev behind_front : Option (List ℕ) → Option (List ℕ) → List ℕ → Option (List ℕ)
+behind_front None known more = None
+behind_front (Some text) None more = None
+behind_front (Some text) (Some rest) more = Some (more ++ rest)
+
+front_consumed : (old known : Option (List ℕ)) (front more : List ℕ) → Consumes old known (front ++ more)
+    → Consumes old (behind_front old known more) front × Consumes (behind_front old known more) known more
+front_consumed None known front more takes = (tt, tt)
+front_consumed (Some text) None front more takes = absurd takes
+front_consumed (Some text) (Some rest) front more takes = (takes ∙ append_assoc front more rest, refl)
+
+keeps_by : (old known : Option (List ℕ)) → Consumes old known [] → Keeps old known
+keeps_by None known takes = tt
+keeps_by (Some text) None takes = takes
+keeps_by (Some text) (Some rest) takes = sym takes
+
+-- the first of so many words is right, and so are those behind it
+abbrev AreForms : ReadyVerb → ℕ → List ℕ → List ℕ → ℕ → Type 0
+AreForms v address thread name n = (i : ℕ) → i < n → is_ready v (address + 4 * i) thread name ≡ true
+
+form_first : (v : ReadyVerb) (address : ℕ) (thread name : List ℕ) (n : ℕ) → AreForms v address thread name (suc n) → is_ready v address thread name ≡ true
+form_first v address thread name n forms =
+    let here : address + 4 * 0 ≡ address = omega arith in
+    ap (λ (a : ℕ). is_ready v a thread name) (sym here) ∙ forms 0 (omega arith)
+
+forms_behind : (v : ReadyVerb) (address : ℕ) (thread name : List ℕ) (n : ℕ) → AreForms v address thread name (suc n) → AreForms v (address + 4) thread name n
+forms_behind v address thread name n forms = λ i less.
+    let here : address + 4 + 4 * i ≡ address + 4 * (i + 1) = omega arith in
+    ap (λ (a : ℕ). is_ready v a thread name) here ∙ forms (i + 1) (omega (arith, less))
+
+-- the lines of so many words were taken, one after another
+pub words_taken : (n : ℕ) (at new : Place) (old known : Option (List ℕ)) (v : ReadyVerb) (address : ℕ) (thread name : List ℕ) (width : ℕ) → at.ahead ≡ [] → AreForms v address thread name n
+    → Consumes old known (words_text v address thread name n) → at.start + n * 281 + 1025 ≤ at.limit → width ≡ length thread + fixed_width v + named_width name
+    → new ≡ record at { number = at.number + n; start = at.start + n * width } → TakesLines at new old known v address thread name n
+unfolding words_text
+words_taken zero at new old known v address thread name width empty forms takes room size is =
+    let number : at.number + 0 ≡ at.number = omega arith in
+    let start : at.start + 0 * width ≡ at.start = omega arith in
+    (is ∙ ap (λ (k : ℕ). record at { number = k; start = at.start + 0 * width }) number ∙ ap (λ (k : ℕ). record at { start = k }) start, keeps_by old known takes)
+words_taken (suc n) at new old known v address thread name width empty forms takes room size is =
+    let right = form_first v address thread name n forms in
+    let mid : Place = past_unread at width in
+    let parts = front_consumed old known (ready_text v address thread name) (words_text v (address + 4) thread name n) takes in
+    let between = behind_front old known (words_text v (address + 4) thread name n) in
+    let one : width ≡ length (ready_text v address thread name) = size ∙ sym (ready_size v address thread name right) in
+    let short = text_short v address thread name right in
+    let number : at.number + suc n ≡ at.number + 1 + n = omega arith in
+    let start : at.start + suc n * width ≡ at.start + width + n * width = omega arith in
+    (mid, between, line_taken at mid old between v address thread name width empty right parts.0 (omega (arith, room)) one refl,
+    words_taken n mid new between known v (address + 4) thread name width empty (forms_behind v address thread name n forms) parts.1 (omega (arith, room, one, short)) size
+    (is ∙ ap (λ (k : ℕ). record at { number = k; start = at.start + suc n * width }) number ∙ ap (λ (k : ℕ). record at { number = at.number + 1 + n; start = k }) start))
+
+-- a right line's first form, and the widths of its lines
+pub right_form : (names : NameKind → ℕ → List ℕ) (line : ReadyLine) → IsRight names line → is_ready line.verb line.address (thread_name names line) (operand_name names line) ≡ true
+right_form names line right =
+    let here : line.address + 4 * 0 ≡ line.address = omega arith in
+    ap (λ (a : ℕ). is_ready line.verb a (thread_name names line) (operand_name names line)) (sym here) ∙ right.form 0 (omega (arith, right.some))
+
+pub right_width : (names : NameKind → ℕ → List ℕ) (line : ReadyLine) → IsRight names line → line.width ≡ length (thread_name names line) + fixed_width line.verb + named_width (operand_name names line)
+right_width names line right = right.width ∙ ready_size line.verb line.address (thread_name names line) (operand_name names line) (right_form names line right)
+
+-- the width of a right line, and of all of them
 pub width_bounds : (names : NameKind → ℕ → List ℕ) (line : ReadyLine) → IsRight names line → (1 ≤ line.width) × (line.width ≤ 281)
 width_bounds names line right =
     let thread = thread_name names line in
     let name = operand_name names line in
-    (omega (arith, right.width, text_size line.verb line.address thread name), omega (arith, right.width, text_short line.verb line.address thread name right.form))
+    (omega (arith, right.width, text_size line.verb line.address thread name), omega (arith, right.width, text_short line.verb line.address thread name (right_form names line right)))
+
+times_bounds : (n width : ℕ) → 1 ≤ width → width ≤ 281 → (n ≤ n * width) × (n * width ≤ n * 281)
+times_bounds zero width some few = (omega arith, omega arith)
+times_bounds (suc n) width some few = let less = times_bounds n width some few in (omega (arith, some, less.0), omega (arith, few, less.1))
+
+pub lines_bounds : (names : NameKind → ℕ → List ℕ) (line : ReadyLine) → IsRight names line → (line.count ≤ line.count * line.width) × (line.count * line.width ≤ 1405)
+lines_bounds names line right =
+    let width = width_bounds names line right in
+    let all = times_bounds line.count line.width width.0 width.1 in
+    (all.0, omega (arith, all.1, right.few))

@@ -1,5 +1,5 @@
 -- Lines of a trace that were never made as text.
-use Rattle.std.specs.Prelude.{◌≡◌, ℕ, ◌%◌, ◌^◌, ◌==◌, ◌||◌, ◌&&◌, Bool, not, List, [], ◌∷◌, ◌++◌, Option, Some, None, IfSome, nat_lt, codes, length, true, if◌then◌else◌}
+use Rattle.std.specs.Prelude.{◌≡◌, ℕ, zero, suc, ◌+◌, ◌*◌, ◌<◌, ◌≤◌, ◌%◌, ◌^◌, ◌==◌, ◌||◌, ◌&&◌, Bool, not, List, [], ◌∷◌, ◌++◌, Option, Some, None, IfSome, nat_lt, codes, length, true, if◌then◌else◌}
 use Rattle.std.specs.Io.KnownBytes.{Consumes, Keeps}
 use Rattle.std.specs.Str.{bytes_eq}
 use Rattle.er_lines.specs.Lines.{has_bytes}
@@ -66,21 +66,28 @@ name_by of (Some n) = of n
 abbrev pub operand_name : (NameKind → ℕ → List ℕ) → ReadyLine → List ℕ
 operand_name of line = name_by (of (kind_behind line.verb)) line.name
 
+-- the lines of so many words, each the one behind that of the line before
+unfoldable pub words_text : ReadyVerb → ℕ → List ℕ → List ℕ → ℕ → List ℕ
+words_text v address thread name zero = []
+words_text v address thread name (suc n) = ready_text v address thread name ++ words_text v (address + 4) thread name n
+
 -- its text
 abbrev pub line_text : (NameKind → ℕ → List ℕ) → ReadyLine → List ℕ
-line_text of line = ready_text line.verb line.address (thread_name of line) (operand_name of line)
+line_text of line = words_text line.verb line.address (thread_name of line) (operand_name of line) line.count
 
--- it is well formed, has the width of its text, and its number has a name
+-- each of its lines is well formed and has that width, and its number has a name
 pub record IsRight (of : NameKind → ℕ → List ℕ) (line : ReadyLine) : Type 0 where
-  pub form : is_ready line.verb line.address (thread_name of line) (operand_name of line) ≡ true
-  pub width : line.width ≡ length (line_text of line)
+  pub some : 1 ≤ line.count
+  pub few : line.count ≤ 5
+  pub form : (i : ℕ) → i < line.count → is_ready line.verb (line.address + 4 * i) (thread_name of line) (operand_name of line) ≡ true
+  pub width : line.width ≡ length (ready_text line.verb line.address (thread_name of line) (operand_name of line))
   pub named : IfSome line.name (λ n. has_bytes (of (kind_behind line.verb) n) ≡ true)
 
 -- a number that had a name has it still
 abbrev pub KeepsNames : (NameKind → ℕ → List ℕ) → (NameKind → ℕ → List ℕ) → Type 0
 KeepsNames old new = (kind : NameKind) (n : ℕ) → has_bytes (old kind n) ≡ true → new kind n ≡ old kind n
 
--- what is left when a line was taken, by its text: what is behind it. None changes nothing
+-- what is left when lines were taken, by their text: what is behind it. None changes nothing
 abbrev pub HasTaken : Option (List ℕ) → Option (List ℕ) → (ReadyLine → List ℕ) → Option ReadyLine → Type 0
 HasTaken old new text None = Keeps old new
 HasTaken old new text (Some line) = Consumes old new (text line)

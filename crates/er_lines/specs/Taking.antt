@@ -1,5 +1,5 @@
 -- Lines that a reader of lines takes before they are text.
-use Rattle.std.specs.Prelude.{◌≡◌, ℕ, ◌+◌, ◌<◌, true, List, ◌∷◌, ◌++◌, Option, Some, None, length}
+use Rattle.std.specs.Prelude.{◌≡◌, ℕ, zero, suc, ◌+◌, ◌<◌, true, List, ◌∷◌, ◌++◌, Option, Some, None, length}
 use Rattle.std.specs.Io.KnownBytes.{Keeps}
 use Rattle.er_lines.specs.Lending.{LineThen, lines_left, limit_fault}
 use Rattle.er_lines.specs.Lines.{Placed}
@@ -29,7 +29,13 @@ pub record TakesLine (old new : Place) (before behind : Option (List ℕ)) (v : 
   pub some : old.start < new.start
   pub past : new ≡ past_unread old (length (ready_text v address thread name))
 
--- a line was taken, or nothing changed
+-- the lines of so many words were next, one behind the other
+abbrev pub TakesLines : Place → Place → Option (List ℕ) → Option (List ℕ) → ReadyVerb → ℕ → List ℕ → List ℕ → ℕ → Type 0
+TakesLines old new before behind v address thread name zero = (new ≡ old) × Keeps before behind
+TakesLines old new before behind v address thread name (suc n) =
+    (mid : Place) × (between : Option (List ℕ)) × TakesLine old mid before between v address thread name × TakesLines mid new between behind v (address + 4) thread name n
+
+-- lines were taken, or nothing changed
 abbrev pub TakesReady : Place → Place → Option (List ℕ) → Option (List ℕ) → (NameKind → ℕ → List ℕ) → Option ReadyLine → Type 0
 TakesReady old new before behind names None = (new ≡ old) × Keeps before behind
-TakesReady old new before behind names (Some line) = TakesLine old new before behind line.verb line.address (thread_name names line) (operand_name names line)
+TakesReady old new before behind names (Some line) = TakesLines old new before behind line.verb line.address (thread_name names line) (operand_name names line) line.count

@@ -192,7 +192,7 @@ impl LineReader {
         self.start += len as u64;
     }
 
-    /// Takes the next line before it is text, and passes over it, if it is asked to, nothing was read ahead, and any line is within the limit.
+    /// Takes the next lines before they are text, and passes over them, if it is asked to, nothing was read ahead, and any of them is within the limit.
     #[inline(always)]
     pub fn take<R: Read, S: Shortcut<R>>(
         &mut self,
@@ -213,13 +213,14 @@ impl LineReader {
         ensures most { taken_by self.new ≤ self.new.limit + bytes_past_limit }
         ensures touches { StaysKnown (S.touches (inner_of reader.old)) (S.touches (inner_of reader.new)) }
     {
-        if !is_asked || !self.window.as_slice().is_empty() || self.limit - self.start < 1025 {
+        if !is_asked || !self.window.as_slice().is_empty() || self.limit - self.start < 4096 {
             return None;
         }
         let line = shortcut.take(reader.inner_mut())?;
-        reader.count_taken(line.width);
-        self.number += 1;
-        self.start += line.width;
+        let width = line.count * line.width;
+        reader.count_taken(width);
+        self.number += line.count;
+        self.start += width;
         Some(line)
     }
 }

@@ -28,20 +28,23 @@ pub enum NameKind {
     Site,
 }
 
-/// A line of a trace that was never made as text. Its names are numbers of the reader that gave it.
+/// Lines of a trace that were never made as text: of a lock event one, and of an access one for each word. Their names are numbers of the reader that
+/// gave them.
 ///
-/// Its text is the thread, the verb, and for an access the address of its word with twelve digits and its site, if it has one, for another verb
-/// the lock; one space stands between two of them, and an LF behind them.
+/// The text of a line is the thread, the verb, and for an access the address of its word with twelve digits and its site, if it has one, for
+/// another verb the lock; one space stands between two of them, and an LF behind them.
 #[derive(Clone, Copy)]
 pub struct ReadyLine {
     pub verb: ReadyVerb,
-    /// Of an access: where its word begins, a multiple of 4 below 2^48. Of a lock event: 0.
+    /// Of an access: where its first word begins, a multiple of 4 below 2^48. Of a lock event: 0.
     pub address: u64,
     /// The number of its thread's name.
     pub thread: u64,
     /// The number of its site's name, if it has one, or of its lock's.
     pub name: Option<u64>,
-    /// How many bytes its text takes, its LF included.
+    /// How many lines it is, 1 to 5: each is of the word behind that of the one before.
+    pub count: u64,
+    /// How many bytes the text of each line takes, its LF included.
     pub width: u64,
 }
 
@@ -78,7 +81,7 @@ pub trait Shortcut<R: Read> {
     /// Whether most lines are ready, so that one thread that takes them is faster than several that read text. It changes nothing of what they are.
     fn takes_most(&self, reader: &R) -> bool;
 
-    /// Takes the next line, if it is ready. None changes nothing of what the reader gives.
+    /// Takes the next lines, if they are ready. None changes nothing of what the reader gives.
     fn take(&self, reader: &mut R) -> Option<ReadyLine>
         ensures taken { HasTaken (R.remaining reader.old) (R.remaining reader.new) (line_text (names_of reader.new)) result }
         ensures right { IfSome result (IsRight (names_of reader.new)) }

@@ -81,7 +81,11 @@ impl NameList {
     pub(crate) fn is_allowed_at(&self, number: usize, name: &[u8], may_be_other: bool) -> bool
         ensures { IsTrue result → Knows self.now name.now number × (is_allowed_name may_be_other name.now ≡ true) }
     {
-        let are_allowed = if may_be_other { self.are_shown } else { self.are_plain };
+        let are_allowed = if may_be_other {
+            self.are_shown
+        } else {
+            self.are_plain
+        };
         are_allowed && self.is_at(number, name)
     }
 

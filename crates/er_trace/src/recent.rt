@@ -1,7 +1,7 @@
 //! Short names of plain bytes that appeared lately: they are compared as numbers, and found without a hash.
 ghost use Rattle.std.specs.Prelude.{◌≡◌, ◌<◌, ◌≤◌, ◌+◌, ◌-◌, ◌++◌, ◌∷◌, ℕ, List, drop, length, IfSome};
 ghost use Rattle.std.specs.List.{list_all};
-ghost use Rattle.er_trace.specs.Names.{number_of, is_plain_byte, is_plain_name, is_shown_name};
+ghost use Rattle.er_trace.specs.Names.{number_of, is_plain_byte, is_plain_name, is_shown_byte, is_shown_name};
 ghost use Rattle.er_trace.specs.Inner.Recent.{unpacked, bytes_of, IsRight, AreRight, IsLed, LeadsRight};
 
 use std::alloc::Global;
@@ -48,11 +48,18 @@ pub(crate) fn is_plain_name(name: &[u8]) -> bool
     !name.is_empty() && name.len() <= 128 && are_plain(name)
 }
 
-/// Whether these are 1 to 128 bytes from `!` to `~`.
+/// Whether these are bytes from `!` to `~` alone.
+fn are_shown(bytes: &[u8]) -> bool
+    ensures { result ≡ list_all is_shown_byte bytes.now }
+{
+    bytes.iter().all(|byte| matches!(*byte, b'!'..=b'~'))
+}
+
+/// Whether these are 1 to 128 such bytes.
 pub(crate) fn is_shown_name(name: &[u8]) -> bool
     ensures { result ≡ is_shown_name name.now }
 {
-    !name.is_empty() && name.len() <= 128 && name.iter().all(|byte| matches!(*byte, b'!'..=b'~'))
+    !name.is_empty() && name.len() <= 128 && are_shown(name)
 }
 
 /// A number for the last 16 bytes of a name, in which long names of sites and locks differ most.
