@@ -225,7 +225,7 @@ impl<R: Read> Decoded<R> {
         Ok(count)
     }
 
-    // Takes the next line, if it is ready.
+    // Takes the next lines, if they are ready.
     fn take_line(&mut self) -> Option<ReadyLine>
         ensures taken { HasTaken (option_map (to_come self.old) (R.remaining (source_of self.old))) (option_map (to_come self.new) (R.remaining (source_of self.new))) (line_text (names_of self.new)) result }
         ensures right { IfSome result (IsRight (names_of self.new)) }

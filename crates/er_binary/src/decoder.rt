@@ -78,6 +78,7 @@ pub(crate) struct Decoder {
     ghost small: { vec_len bytes ≤ 2 ^ 20 },
     ghost some: { given ≤ vec_len text },
     ghost words_end: { words.end ≤ 2 ^ 46 },
+    ghost words_few: { words.end ≤ words.at / 4 + 5 },
     ghost first: { words.at / 4 < words.end → vec_len text ≤ given },
     ghost named: { AreNamed state },
 }
@@ -162,7 +163,7 @@ impl Decoder {
         Err(io::Error::from(ErrorKind::Other))
     }
 
-    /// Takes the next line, if it is an access or a lock event of a block that was read. It reads nothing on. A refused allocation comes at the next `read`.
+    /// Takes the next lines, if they are those of an access or of a lock event of a block that was read. It reads nothing on. A refused allocation comes at the next `read`.
     #[inline(always)]
     pub(crate) fn take(&mut self) -> Option<ReadyLine>
         ensures none { IfNone result ((rest : List ℕ) → still self.old rest ≡ still self.new rest) }
@@ -177,18 +178,18 @@ impl Decoder {
         {
             return Some(line);
         }
-        self.take_word()
+        self.take_words()
     }
 
-    // Takes the line of the next word that is still to come.
+    // Takes the lines of the words that are still to come.
     #[inline(always)]
-    fn take_word(&mut self) -> Option<ReadyLine>
+    fn take_words(&mut self) -> Option<ReadyLine>
         requires some { self.old.words.at / 4 < self.old.words.end }
         ensures none { IfNone result (GoesOn self.old self.new) }
         ensures takes { IfSome result (Takes self.old self.new) }
     {
         let line = self.state.line_of(&self.words)?;
-        self.words.at = self.words.at / 4 * 4 + 4;
+        self.words.end = 0;
         Some(line)
     }
 

@@ -3,7 +3,7 @@ ghost use Rattle.std.specs.Prelude.{◌≡◌, ◌≤◌, ◌<◌, ◌^◌, ◌+
 ghost use Rattle.std.specs.List.{list_all};
 ghost use Rattle.er_binary.specs.Inner.Taking.{HasTaken};
 ghost use Rattle.er_lines.specs.Ready.{IsRight, KeepsNames, line_text, name_by};
-ghost use Rattle.er_binary.specs.Inner.Words.{AreNamed, IsSite, behind_first, counted, kind_for, passed, verb_for, words_at, words_text};
+ghost use Rattle.er_binary.specs.Inner.Words.{AreNamed, IsSite, counted, kind_for, passed, verb_for, words_at, words_text};
 ghost use Rattle.er_binary.specs.Meaning.{take_record, take_said};
 ghost use Rattle.er_binary.specs.Numbers.{name_at};
 ghost use Rattle.er_binary.specs.Records.{body_len};
@@ -240,6 +240,7 @@ impl State {
         requires size { access.size ≤ 16 }
         ensures words { result ≡ (if is_access self.now access then Some (words_at self.now access) else None) }
         ensures end { IfSome result (λ w. w.end ≤ 2 ^ 46) }
+        ensures few { IfSome result (λ w. w.end ≤ w.at / 4 + 5) }
     {
         let node = access.node.unwrap_or(self.node);
         let at = self.address_of(access);
@@ -286,13 +287,14 @@ impl State {
         }
     }
 
-    /// The line of the first of some words. Split for the prover: there is none where a name isn't known, and all are.
+    /// The lines of some words. Split for the prover: there are none where a name isn't known, and all are.
     #[inline(always)]
     pub(crate) fn line_of(&self, words: &Words) -> Option<ReadyLine>
         requires some { words.now.at / 4 < words.now.end }
+        requires few { words.now.end ≤ words.now.at / 4 + 5 }
         requires end { words.now.end ≤ 2 ^ 46 }
         requires named { AreNamed self.now }
-        ensures text { IfSome result (λ line. words_text self.now words.now ≡ line_text (names_in self.now) line ++ words_text self.now (behind_first words.now)) }
+        ensures text { IfSome result (λ line. words_text self.now words.now ≡ line_text (names_in self.now) line) }
         ensures right { IfSome result (IsRight (names_in self.now)) }
     {
         let thread = self.thread?;
@@ -305,6 +307,7 @@ impl State {
             address,
             thread,
             name,
+            count: words.end - words.at / 4,
             width: ready_width(verb, address, self.threads.get(thread), site),
         })
     }
@@ -338,6 +341,7 @@ impl State {
             address: 0,
             thread,
             name: Some(lock),
+            count: 1,
             width: ready_width(verb, 0, self.threads.get(thread), self.locks.get(lock)),
         })
     }

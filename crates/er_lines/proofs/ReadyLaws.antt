@@ -312,10 +312,13 @@ words_taken (suc n) at new old known v address thread name width empty forms tak
     let one : width ≡ length (ready_text v address thread name) = size ∙ sym (ready_size v address thread name right) in
     let short = text_short v address thread name right in
     let number : at.number + suc n ≡ at.number + 1 + n = omega arith in
-    let start : at.start + suc n * width ≡ at.start + width + n * width = omega arith in
-    (mid, between, line_taken at mid old between v address thread name width empty right parts.0 (omega (arith, room)) one refl,
-    words_taken n mid new between known v (address + 4) thread name width empty (forms_behind v address thread name n forms) parts.1 (omega (arith, room, one, short)) size
-    (is ∙ ap (λ (k : ℕ). record at { number = k; start = at.start + suc n * width }) number ∙ ap (λ (k : ℕ). record at { number = at.number + 1 + n; start = k }) start))
+    let start : at.start + suc n * width ≡ at.start + width + n * width = omega arith in (
+      mid,
+      between,
+      line_taken at mid old between v address thread name width empty right parts.0 (omega (arith, room)) one refl,
+      words_taken n mid new between known v (address + 4) thread name width empty (forms_behind v address thread name n forms) parts.1 (omega (arith, room, one, short)) size
+          (is ∙ ap (λ (k : ℕ). record at { number = k; start = at.start + suc n * width }) number ∙ ap (λ (k : ℕ). record at { number = at.number + 1 + n; start = k }) start),
+    )
 
 -- a right line's first form, and the widths of its lines
 pub right_form : (names : NameKind → ℕ → List ℕ) (line : ReadyLine) → IsRight names line → is_ready line.verb line.address (thread_name names line) (operand_name names line) ≡ true

@@ -79,6 +79,7 @@ line_text of line = words_text line.verb line.address (thread_name of line) (ope
 pub record IsRight (of : NameKind → ℕ → List ℕ) (line : ReadyLine) : Type 0 where
   pub some : 1 ≤ line.count
   pub few : line.count ≤ 5
+  pub alone : kind_behind line.verb ≡ names.Lock → line.count ≡ 1
   pub form : (i : ℕ) → i < line.count → is_ready line.verb (line.address + 4 * i) (thread_name of line) (operand_name of line) ≡ true
   pub width : line.width ≡ length (ready_text line.verb line.address (thread_name of line) (operand_name of line))
   pub named : IfSome line.name (λ n. has_bytes (of (kind_behind line.verb) n) ≡ true)

@@ -1,5 +1,5 @@
 -- Numbers of names keep being right while names are added, and lines add what their numbers say.
-use Rattle.std.proofs.Common.{◌≡◌, ℕ, suc, ◌+◌, ◌/◌, ◌<◌, ◌≤◌, ◌^◌, Bool, true, false, not, cond, ◌||◌, List, [], ◌∷◌, length, Option, Some, None, IfSome, unwrap_or, if◌then◌else◌, slice_set, refl, sym, ap, ◌∙◌, arith}
+use Rattle.std.proofs.Common.{◌≡◌, ℕ, suc, ◌+◌, ◌-◌, ◌*◌, ◌/◌, ◌<◌, ◌≤◌, ◌^◌, Bool, true, false, not, cond, ◌||◌, List, [], ◌∷◌, length, Option, Some, None, IfSome, unwrap_or, if◌then◌else◌, slice_set, refl, sym, ap, ◌∙◌, arith}
 use Rattle.std.specs.List.{All, list_all}
 use Rattle.std.specs.Str.{bytes_eq}
 use Rattle.std.proofs.lemmas.List.Elements.{All-set, All-weaker}
@@ -12,7 +12,7 @@ use Rattle.er_lines.specs.declared.ready.ReadyLine.{ReadyLine}
 use Rattle.er_lines.specs.declared.ready.ReadyVerb.{ReadyVerb}
 use Rattle.er_lines.specs.declared.ready.ReadyVerb.TheVariants as does
 use Rattle.er_lines.proofs.ByteLemmas.{name_printed}
-use Rattle.er_lines.proofs.ReadyLaws.{ready_parts}
+use Rattle.er_lines.proofs.ReadyLaws.{ready_parts, right_form}
 use Rattle.er_trace.specs.Names.{NameTable}
 use Rattle.er_trace.specs.Trace.{HasNames, Recording, with_lock_name, with_step, with_thread_name}
 use Rattle.er_trace.specs.Names.{is_known, number_of}
@@ -146,7 +146,7 @@ name_some [] is = absurd (cc is)
 name_some (b ∷ bs) is = refl
 
 pub thread_some : (of : NameKind → ℕ → List ℕ) (line : ReadyLine) → IsRight of line → has_bytes (of names.Thread line.thread) ≡ true
-thread_some of line right = name_some (thread_name of line) (ready_parts line.verb line.address (thread_name of line) (operand_name of line) right.form).0
+thread_some of line right = name_some (thread_name of line) (ready_parts line.verb line.address (thread_name of line) (operand_name of line) (right_form of line right)).0
 
 behind_access : (v : ReadyVerb) → is_access v ≡ true → kind_behind v ≡ names.Site
 behind_access does.Read is = refl
@@ -186,19 +186,14 @@ access_named of line n is right some = named_by of (kind_behind line.verb) names
 pub hold_named : (of : NameKind → ℕ → List ℕ) (line : ReadyLine) → is_access line.verb ≡ false → IsRight of line
     → (has_bytes (of names.Lock (unwrap_or line.name 0)) ≡ true) × (operand_name of line ≡ of names.Lock (unwrap_or line.name 0))
 hold_named of line is right =
-    let parts = ready_parts line.verb line.address (thread_name of line) (operand_name of line) right.form in
+    let parts = ready_parts line.verb line.address (thread_name of line) (operand_name of line) (right_form of line right) in
     named_by of (kind_behind line.verb) names.Lock line.name (unwrap_or line.name 0) (behind_hold line.verb is) (hold_some line.verb line.address (of (kind_behind line.verb)) line.name is parts.1) right.named
 
--- what an access adds, and what another line
-pub access_added : (v : ReadyVerb) (line address : ℕ) (thread name : List ℕ) (r : Recording) → is_access v ≡ true
-    → with_line line (ready_event v address thread name) r ≡ with_operation line (number_of r.names.threads thread) (Accesses (access_kind v) (address / 4) (site_if name)) (with_thread_name r thread)
-access_added does.Read line address thread name r is = refl
-access_added does.Write line address thread name r is = refl
-access_added does.Lock line address thread name r is = absurd (cc is)
-access_added does.Unlock line address thread name r is = absurd (cc is)
-access_added does.ReadLock line address thread name r is = absurd (cc is)
-access_added does.ReadUnlock line address thread name r is = absurd (cc is)
+-- it is one line
+pub hold_alone : (of : NameKind → ℕ → List ℕ) (line : ReadyLine) → is_access line.verb ≡ false → IsRight of line → line.count ≡ 1
+hold_alone of line is right = right.alone (behind_hold line.verb is)
 
+-- what a lock event adds
 pub hold_added : (v : ReadyVerb) (line address : ℕ) (thread lock : List ℕ) (r : Recording) → is_access v ≡ false
     → with_line line (ready_event v address thread lock) r
     ≡ with_step (with_lock_name (with_thread_name r thread) lock) (record { thread = number_of r.names.threads thread; event = hold_event v (number_of r.names.locks lock) }) line 0
@@ -211,10 +206,10 @@ hold_added does.ReadUnlock line address thread lock r is = refl
 
 -- the bytes of both names, and the address of an access
 pub thread_printed : (of : NameKind → ℕ → List ℕ) (line : ReadyLine) → IsRight of line → list_all is_site_byte (of names.Thread line.thread) ≡ true
-thread_printed of line right = name_printed (thread_name of line) (thread_bytes line.verb line.address (thread_name of line) (operand_name of line) right.form)
+thread_printed of line right = name_printed (thread_name of line) (thread_bytes line.verb line.address (thread_name of line) (operand_name of line) (right_form of line right))
 
 pub operand_printed : (of : NameKind → ℕ → List ℕ) (line : ReadyLine) (name : List ℕ) → IsRight of line → operand_name of line ≡ name → list_all is_site_byte name ≡ true
-operand_printed of line name right is = let printed = ready_printed line.verb line.address (thread_name of line) (operand_name of line) right.form in rw is at printed
+operand_printed of line name right is = let printed = ready_printed line.verb line.address (thread_name of line) (operand_name of line) (right_form of line right) in rw is at printed
 
 pub access_small : (v : ReadyVerb) (address : ℕ) (thread name : List ℕ) → is_access v ≡ true → is_ready v address thread name ≡ true → address < 2 ^ 48
 access_small does.Read address thread name is right = read_small does.Read address thread name refl right
@@ -223,6 +218,13 @@ access_small does.Lock address thread name is right = absurd (cc is)
 access_small does.Unlock address thread name is right = absurd (cc is)
 access_small does.ReadLock address thread name is right = absurd (cc is)
 access_small does.ReadUnlock address thread name is right = absurd (cc is)
+
+-- and those of all its words
+pub words_small : (of : NameKind → ℕ → List ℕ) (line : ReadyLine) → is_access line.verb ≡ true → IsRight of line → line.address / 4 + line.count ≤ 2 ^ 46
+words_small of line is right =
+    let some = right.some in
+    let last = access_small line.verb (line.address + 4 * (line.count - 1)) (thread_name of line) (operand_name of line) is (right.form (line.count - 1) (omega (arith, some))) in
+    omega (arith, some, last)
 
 -- both have their numbers once they are added
 pub at_named : (r t s : Recording) (thread site : List ℕ) (by at : ℕ) → by ≡ number_of r.names.threads thread → t ≡ with_thread_name r thread

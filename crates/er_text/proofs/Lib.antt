@@ -5,6 +5,8 @@ pub mod FastPathLaws
 pub mod UsualLemmas
 pub mod ReadyLemmas
 pub mod KnownLemmas
+pub mod AccessLemmas
+pub mod RunLemmas
 pub mod SpellingLaws
 pub mod SiteLemmas
 pub mod FaultTables

@@ -242,7 +242,7 @@ impl TraceReader {
         self.lines.ahead()
     }
 
-    /// Reads the next line, and says whether there was one. The shortcut may have it ready in a text of the last version.
+    /// Reads the next line, or those of an access that the shortcut has ready in a text of the last version, and says whether there was one.
     #[inline(always)]
     fn next_line<R: Read, S: Shortcut<R>>(
         &mut self,

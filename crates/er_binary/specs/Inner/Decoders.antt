@@ -59,7 +59,7 @@ pub record GoesOn (old new : Decoder) : Type 0 where
   pub kept : KeepsNames (names_in old.state) (names_in new.state)
   pub noted : NotesOn old new
 
--- the text of a line was given
+-- the text of lines was given
 pub record Takes (old new : Decoder) (line : ReadyLine) : Type 0 where
   pub some : (rest : List ℕ) → still old rest ≡ line_text (names_in new.state) line ++ still new rest
   pub right : IsRight (names_in new.state) line

@@ -34,10 +34,6 @@ counted s = record s { events = plus s.events 1 }
 abbrev pub AreTaken : Words → Type 0
 AreTaken w = w.end ≤ w.at / 4
 
--- the words behind the first
-abbrev pub behind_first : Words → Words
-behind_first w = record w { at = w.at / 4 * 4 + 4 }
-
 -- all names that are known are names of their kind, and the thread's is known
 abbrev pub AreNamed : State → Type 0
 AreNamed s = (list_all is_name s.threads ≡ true) × (list_all is_lock_name s.locks ≡ true) × (list_all is_place s.places ≡ true) × ((n : ℕ) → s.thread ≡ Some n → n < length s.threads)

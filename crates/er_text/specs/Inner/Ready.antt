@@ -1,5 +1,5 @@
 -- What a line says that was never made as text. No public clause cites this module.
-use Rattle.std.specs.Prelude.{ℕ, ◌/◌, Bool, true, false, List, Option, Some, None, if◌then◌else◌}
+use Rattle.std.specs.Prelude.{ℕ, zero, suc, ◌+◌, ◌/◌, Bool, true, false, List, Option, Some, None, if◌then◌else◌}
 use Rattle.er_event.specs.declared.steps.Event.{Event}
 use Rattle.er_event.specs.declared.steps.Event.TheVariants as event
 use Rattle.er_event.specs.declared.steps.Kind.{Kind}
@@ -8,7 +8,8 @@ use Rattle.er_event.specs.declared.steps.Mode.TheVariants as mode
 use Rattle.er_lines.specs.Lines.{has_bytes}
 use Rattle.er_lines.specs.declared.ready.ReadyVerb.{ReadyVerb}
 use Rattle.er_lines.specs.declared.ready.ReadyVerb.TheVariants as does
-use Rattle.er_text.specs.Events.{Operation, Acquires, Releases, Accesses, EventLine}
+use Rattle.er_trace.specs.Trace.{Recording, with_step}
+use Rattle.er_text.specs.Events.{Operation, Acquires, Releases, Accesses, EventLine, with_line}
 
 -- the site of this name, if it has bytes
 abbrev pub site_if : List ℕ → Option (List ℕ)
@@ -26,6 +27,16 @@ ready_operation does.ReadUnlock address name = Releases name mode.Read
 -- the line's thread does it
 abbrev pub ready_event : ReadyVerb → ℕ → List ℕ → List ℕ → EventLine
 ready_event v address thread name = record { thread = thread; operation = ready_operation v address name }
+
+-- a recording with the lines of so many words, each of the word behind that of the line before
+abbrev pub with_lines : ℕ → ReadyVerb → ℕ → List ℕ → List ℕ → ℕ → Recording → Recording
+with_lines line v address thread name zero r = r
+with_lines line v address thread name (suc n) r = with_lines (line + 1) v (address + 4) thread name n (with_line line (ready_event v address thread name) r)
+
+-- and with accesses of so many words, by the numbers of their thread and their site
+abbrev pub with_accesses : ℕ → Kind → ℕ → ℕ → ℕ → ℕ → Recording → Recording
+with_accesses thread k word site line zero r = r
+with_accesses thread k word site line (suc n) r = with_accesses thread k (word + 1) site (line + 1) n (with_step r (record { thread = thread; event = event.Access k word site }) line site)
 
 -- whether a verb is of an access
 abbrev pub is_access : ReadyVerb → Bool

@@ -39,7 +39,7 @@ returns-2-clause-none c =
       | else-self-via-else-self w ↦ rw w.self-is (record { same = λ rest. refl; kept = λ kind n some. refl; noted = record { on = refl; same = λ is rest. refl } })
       | else-self-via-then-self+in_ok-line+in-None-1 w ↦ rw w.self-is (goes_trans _ _ _ (record { same = λ rest. refl; kept = λ kind n some. refl; noted = record { on = refl; same = λ is rest. refl } }) (found_words w.in_ok-line.field-0 _ (search rules) w.in_ok-line.ensures.words).0)
     ] in
-    none_behind _ c.else-self.self _ c.take_word.result began c.take_word.ensures.none
+    none_behind _ c.else-self.self _ c.take_words.result began c.take_words.ensures.none
 
 pub returns-2-clause-some : goal.returns-2-clause-some
 unfolding still to_note
@@ -48,7 +48,7 @@ returns-2-clause-some c =
       | else-self-via-else-self w ↦ rw w.self-is (record { same = λ rest. refl; kept = λ kind n some. refl; noted = record { on = refl; same = λ is rest. refl } })
       | else-self-via-then-self+in_ok-line+in-None-1 w ↦ rw w.self-is (goes_trans _ _ _ (record { same = λ rest. refl; kept = λ kind n some. refl; noted = record { on = refl; same = λ is rest. refl } }) (found_words w.in_ok-line.field-0 _ (search rules) w.in_ok-line.ensures.words).0)
     ] in
-    some_behind _ c.else-self.self _ c.take_word.result began c.take_word.ensures.takes
+    some_behind _ c.else-self.self _ c.take_words.result began c.take_words.ensures.takes
 
 pub returns-2-clause-noted : goal.returns-2-clause-noted
 unfolding still to_note
@@ -57,4 +57,4 @@ returns-2-clause-noted c =
       | else-self-via-else-self w ↦ rw w.self-is (record { same = λ rest. refl; kept = λ kind n some. refl; noted = record { on = refl; same = λ is rest. refl } })
       | else-self-via-then-self+in_ok-line+in-None-1 w ↦ rw w.self-is (goes_trans _ _ _ (record { same = λ rest. refl; kept = λ kind n some. refl; noted = record { on = refl; same = λ is rest. refl } }) (found_words w.in_ok-line.field-0 _ (search rules) w.in_ok-line.ensures.words).0)
     ] in
-    noted_behind _ c.else-self.self _ c.take_word.result began c.take_word.ensures.none c.take_word.ensures.takes
+    noted_behind _ c.else-self.self _ c.take_words.result began c.take_words.ensures.none c.take_words.ensures.takes

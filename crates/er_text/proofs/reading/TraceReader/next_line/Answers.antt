@@ -1,25 +1,26 @@
--- A line that was taken is the next of what is left, and its step was added.
-use Rattle.std.proofs.Common.{◌≡◌, ◌+◌, ◌<◌, ℕ, List, true, false, not, Ok, Option, subst, sym, ap, ◌∙◌, rules}
+-- Lines that were taken are the next of what is left, and their steps were added.
+use Rattle.std.proofs.Common.{◌≡◌, ◌+◌, ◌<◌, ◌≤◌, ℕ, List, true, false, not, Ok, Option, subst, sym, ap, ◌∙◌, arith, rules}
 use Rattle.std.proofs.lemmas.Result.{err_from_is_err_and}
 use Rattle.er_device.specs.Device.{inner_of}
 use Rattle.er_text.specs.declared.stages.Stage.TheVariants.{Events}
 use Rattle.er_text.specs.declared.verbs.Version.TheVariants.{Three}
-use Rattle.er_text.specs.Places.{Reached}
+use Rattle.er_text.specs.Places.{Reached, Tail}
+use Rattle.er_trace.specs.Names.{number_of}
+use Rattle.er_trace.specs.Trace.{Recording}
 use Rattle.er_lines.specs.Lending.{front_line, lines_left, LineThen}
 use Rattle.er_lines.specs.Lines.{Placed}
 use Rattle.er_lines.specs.Places.{Place}
 use Rattle.er_lines.specs.Ready.{operand_name, thread_name}
 use Rattle.er_lines.specs.declared.ready.ReadyLine.{ReadyLine}
 use Rattle.er_lines.specs.Reading.{Turns}
-use Rattle.er_lines.specs.Taking.{ready_bytes, ready_placed}
-use Rattle.er_lines.proofs.TurnLemmas.{turn_on}
 use Rattle.er_text.specs.Inner.Endings.{KeepsTail}
-use Rattle.er_text.specs.Inner.Idle.{last_actor}
+use Rattle.er_text.specs.Inner.Idle.{last_actor, without_idle}
+use Rattle.er_text.specs.Inner.Ready.{with_lines}
 use Rattle.er_text.specs.Inner.Traces.{at_line, plain_at, progress, read_content}
 use Rattle.er_text.proofs.GrowthLemmas.{grows_not, line_grows}
 use Rattle.er_text.proofs.KnownLemmas.{right_kept, right_on}
 use Rattle.er_text.proofs.PlaceLemmas.{kept_first, trace_fails, trace_on, trace_tail}
-use Rattle.er_text.proofs.ReadyLemmas.{ready_read, ready_tail}
+use Rattle.er_text.proofs.RunLemmas.{HasRun, lines_actor, run_all}
 use Rattle.er_text.proofs.TailLemmas.{tail_on}
 use Rattle.er_text.proofs.reading.TraceReader.next_line.Goals as goal
 
@@ -42,37 +43,51 @@ module _ (g : _) (c : goal.After-self-2-1 g) where
   abbrev rest : Option (List Placed)
   rest = lines_left c.take.new.self (g.R.Read.remaining (inner_of c.take.new.reader))
 
+  behind : Option (List ℕ)
+  behind = g.R.Read.remaining (inner_of c.take.new.reader)
+
+  ended : Tail
+  ended = record { cut = false; comment = c.self.inside.header.comment }
+
   third : inside.stage ≡ Events Three
   third = search rules
 
-  read : plain_at (at_line inside.place.number inside.stage inside.idle c.args.trace.now) inside.place.number (ready_bytes line.verb line.address thread name)
-      ≡ Ok (at_line (inside.place.number + 1) inside.stage c.remove_last.new.self c.add_ready.new.trace)
-  read = ready_read c.number-line.result inside.place.number inside.stage line.verb line.address _ _ thread name inside.idle c.remove_last.new.self c.args.trace.now c.add_ready.new.trace
-      c.number-line.ensures.value (ap (λ r. thread_name (g.S.Shortcut.names_of r) line) c.inner.ensures) (ap (λ r. operand_name (g.S.Shortcut.names_of r) line) c.inner.ensures)
-      third c.in-Some.ensures.taken.right c.in_ok-add_ready.ensures.trace (λ who last. c.remove_last.ensures who (ap last_actor c.steps.ensures.value ∙ last))
+  added : c.add_ready.new.trace ≡ with_lines inside.place.number line.verb line.address thread name line.count c.args.trace.now
+  added = c.in_ok-add_ready.ensures.trace
+      ∙ ap (λ (n : ℕ). with_lines n line.verb line.address _ _ line.count c.args.trace.now) c.number-line.ensures.value
+      ∙ ap (λ (t : List ℕ). with_lines inside.place.number line.verb line.address t _ line.count c.args.trace.now) (ap (λ r. thread_name (g.S.Shortcut.names_of r) line) c.inner.ensures)
+      ∙ ap (λ (n : List ℕ). with_lines inside.place.number line.verb line.address thread n line.count c.args.trace.now) (ap (λ r. operand_name (g.S.Shortcut.names_of r) line) c.inner.ensures)
+
+  some : 1 ≤ line.count
+  some = c.in-Some.ensures.right.some
+
+  acts : c.remove_last.new.self ≡ without_idle inside.idle (number_of c.args.trace.now.names.threads thread)
+  acts = c.remove_last.ensures (number_of c.args.trace.now.names.threads thread)
+      (ap last_actor c.steps.ensures.value ∙ ap (λ (r : Recording). last_actor r.steps) added ∙ lines_actor line.count line.verb inside.place.number line.address thread name c.args.trace.now some)
+
+  all : HasRun inside.place c.take.new.self known behind inside.stage inside.idle c.remove_last.new.self inside.tail ended c.args.trace.now
+      (with_lines inside.place.number line.verb line.address thread name line.count c.args.trace.now) × (inside.place.start < c.take.new.self.start)
+  all = run_all line.count inside.place c.take.new.self known behind line.verb line.address thread name inside.stage inside.idle c.remove_last.new.self inside.tail c.args.trace.now third some c.in-Some.ensures.taken acts
+
+  run : HasRun inside.place c.take.new.self known behind inside.stage inside.idle c.remove_last.new.self inside.tail ended c.args.trace.now c.add_ready.new.trace
+  run = subst (λ (s : Recording). HasRun inside.place c.take.new.self known behind inside.stage inside.idle c.remove_last.new.self inside.tail ended c.args.trace.now s) (sym added) all.0
 
 pub returns-clause-turn : goal.returns-clause-turn
 returns-clause-turn g c =
     let P : Reached → Type 0 = λ r. Turns r.place.limit read_content (lines_left r.place (known g c)) (rest g c) (progress r c.args.trace.now)
     (at_line c.take.new.self.number c.self.inside.header.stage c.remove_last.new.self c.add_ready.new.trace) (Ok true) in
-    let taken = c.in-Some.ensures.taken in
-    let number : (inside g c).place.number + 1 ≡ c.take.new.self.number = sym (ap (λ (p : Place). p.number) taken.past) in
-    subst P c.self.view_is (turn_on (inside g c).place.limit read_content (lines_left (inside g c).place (known g c)) (rest g c) (ready_placed (inside g c).place (line g c).verb (line g c).address (thread g c) (name g c))
-    (progress (inside g c) c.args.trace.now) _ taken.first taken.fits
-    (read g c ∙ ap (λ (n : ℕ). Ok (at_line n c.self.inside.header.stage c.remove_last.new.self c.add_ready.new.trace)) number))
+    subst P c.self.view_is (run g c).turn
 
 pub returns-clause-tail : goal.returns-clause-tail
 returns-clause-tail g c =
-    let taken = c.in-Some.ensures.taken in
-    let P : Reached → Type 0 = λ r. KeepsTail (lines_left r.place (known g c)) (rest g c) r.tail (record { cut = false; comment = c.self.inside.header.comment }) in
-    subst P c.self.view_is (tail_on (lines_left (inside g c).place (known g c)) (rest g c) (ready_placed (inside g c).place (line g c).verb (line g c).address (thread g c) (name g c)) (inside g c).tail _ taken.first
-    (ready_tail (inside g c).place (inside g c).tail (line g c).verb (line g c).address (thread g c) (name g c) taken.right))
+    let P : Reached → Type 0 = λ r. KeepsTail (lines_left r.place (known g c)) (rest g c) r.tail (ended g c) in
+    subst P c.self.view_is (run g c).tail
 
 pub returns-clause-grows : goal.returns-clause-grows
-returns-clause-grows g c = line_grows (inside g c).place.number (ready_bytes (line g c).verb (line g c).address (thread g c) (name g c)) _ _ (read g c)
+returns-clause-grows g c = (run g c).grows
 
 pub returns-clause-more : goal.returns-clause-more
-returns-clause-more g c = λ e. let P : Reached → Type 0 = λ r. r.place.start < c.take.new.self.start in subst P c.self.view_is c.in-Some.ensures.taken.some
+returns-clause-more g c = λ e. let P : Reached → Type 0 = λ r. r.place.start < c.take.new.self.start in subst P c.self.view_is (all g c).1
 
 pub returns-in_default-2-clause-grows : goal.returns-in_default-2-clause-grows
 returns-in_default-2-clause-grows g c = grows_not c.args.trace.now
@@ -131,7 +146,7 @@ add_ready-requires g c =
     let of = g.S.Shortcut.names_of in
     let line = c.in-Some.ensures.right in
     let right = right_kept (of (inner_of c.args.reader.now)) (of (inner_of c.take.new.reader)) c.args.trace.now.names c.args.numbers.now c.in-Some.ensures.kept c.requires.right in
-    record { line = rw c.inner.ensures line; right = rw c.inner.ensures right }
+    record { line = rw c.inner.ensures line; small = omega (arith, c.number-line.ensures.bound, c.number-line.ensures.most_limit); right = rw c.inner.ensures right }
 
 pub returns-clause-right : goal.returns-clause-right
 returns-clause-right g c = rw c.inner.ensures at c.in_ok-add_ready.ensures.right
