@@ -1,6 +1,9 @@
 -- What the lines of an access do to a reading, one after another.
-use Rattle.std.proofs.Common.{◌≡◌, ℕ, zero, suc, ◌+◌, ◌≤◌, ◌<◌, Bool, true, false, List, [], ◌∷◌, ◌++◌, length, Option, Some, None, Result, Ok, refl, sym, ap, subst, ◌∙◌, arith}
+use Rattle.std.proofs.Common.{◌≡◌, ℕ, zero, suc, ◌+◌, ◌/◌, ◌≤◌, ◌<◌, Bool, true, false, List, [], ◌∷◌, ◌++◌, length, Option, Some, None, Result, Ok, refl, sym, ap, subst, ◌∙◌, arith}
 use Rattle.std.specs.Io.KnownBytes.{Keeps}
+use Rattle.er_event.specs.declared.steps.Event.TheVariants as event
+use Rattle.er_event.specs.declared.steps.Kind.TheVariants as kind
+use Rattle.er_event.specs.declared.steps.Mode.TheVariants as mode
 use Rattle.er_event.specs.declared.steps.Step.{Step}
 use Rattle.er_lines.specs.Lending.{lines_left}
 use Rattle.er_lines.specs.Lines.{Placed}
@@ -18,7 +21,7 @@ use Rattle.er_trace.proofs.NumberLemmas.{again}
 use Rattle.er_text.specs.declared.stages.Stage.{Stage}
 use Rattle.er_text.specs.declared.stages.Stage.TheVariants.{Events}
 use Rattle.er_text.specs.declared.verbs.Version.TheVariants.{Three}
-use Rattle.er_text.specs.Events.{with_line, with_site_of}
+use Rattle.er_text.specs.Events.{site_number, with_line, with_site_of}
 use Rattle.er_text.specs.Named.{Grows}
 use Rattle.er_text.specs.Places.{Tail}
 use Rattle.er_text.specs.Inner.Endings.{KeepsTail, tail_after}
@@ -32,7 +35,7 @@ use Rattle.er_text.proofs.TailLemmas.{tail_goes_on, tail_on}
 -- what some lines did to a reading, to how the lines before end, and to the trace
 pub record HasRun (old new : Place) (before behind : Option (List ℕ)) (stage : Stage) (idle after : List Bool) (tail tail_now : Tail) (r s : Recording) : Type 0 where
   pub turn : Turns old.limit read_content (lines_left old before) (lines_left new behind) (at_line old.number stage idle r) (at_line new.number stage after s) (Ok true)
-  pub tail : KeepsTail (lines_left old before) (lines_left new behind) tail tail_now
+  pub ends : KeepsTail (lines_left old before) (lines_left new behind) tail tail_now
   pub grows : Grows r s
   pub start : old.start ≤ new.start
 
@@ -47,17 +50,17 @@ run_on : (old mid new : Place) (before between behind : Option (List ℕ)) (stag
     → HasRun old mid before between stage idle then tail tail_then r q → HasRun mid new between behind stage then after tail_then tail_now q s → HasRun old new before behind stage idle after tail tail_now r s
 run_on old mid new before between behind stage idle then after tail tail_then tail_now r q s same one two = record {
   turn = turn_then old.limit read_content (lines_left old before) (lines_left mid between) (lines_left new behind) (at_line old.number stage idle r) (at_line mid.number stage then q) (at_line new.number stage after s) one.turn
-  (subst (λ (l : ℕ). Turns l read_content (lines_left mid between) (lines_left new behind) (at_line mid.number stage then q) (at_line new.number stage after s) (Ok true)) same two.turn);
-  tail = tail_goes_on (lines_left old before) (lines_left mid between) (lines_left new behind) tail tail_then tail_now one.tail two.tail;
+      (subst (λ (l : ℕ). Turns l read_content (lines_left mid between) (lines_left new behind) (at_line mid.number stage then q) (at_line new.number stage after s) (Ok true)) same two.turn);
+  ends = tail_goes_on (lines_left old before) (lines_left mid between) (lines_left new behind) tail tail_then tail_now one.ends two.ends;
   grows = grows_on r q s one.grows two.grows;
   start = omega (arith, one.start, two.start);
 }
 
 -- no line was taken
 run_none : (old new : Place) (before behind : Option (List ℕ)) (stage : Stage) (idle : List Bool) (tail : Tail) (r : Recording) → (new ≡ old) × Keeps before behind → HasRun old new before behind stage idle idle tail tail r r
-run_none old new None behind stage idle tail r is = record { turn = tt; tail = tt; grows = grows_not r; start = omega (arith, ap (λ (p : Place). p.start) is.0) }
+run_none old new None behind stage idle tail r is = record { turn = tt; ends = tt; grows = grows_not r; start = omega (arith, ap (λ (p : Place). p.start) is.0) }
 run_none old new (Some xs) None stage idle tail r is = absurd is.1
-run_none old new (Some xs) (Some ys) stage idle tail r is = rw (is.0, is.1) (record { turn = refl; tail = refl; grows = grows_not r; start = omega arith })
+run_none old new (Some xs) (Some ys) stage idle tail r is = rw (is.0, is.1) (record { turn = refl; ends = refl; grows = grows_not r; start = omega arith })
 
 -- one more actor stands last
 actor_last : (steps : List Step) (s : Step) → last_actor (steps ++ s ∷ []) ≡ Some s.thread
@@ -69,17 +72,17 @@ actor_last (a ∷ b ∷ steps) s = actor_last (b ∷ steps) s
 abbrev ActsLast : Recording → Recording → List ℕ → Type 0
 ActsLast r s thread = (last_actor s.steps ≡ Some (number_of r.names.threads thread)) × (s.names.threads ≡ with_name r.names.threads thread)
 
-site_acts : (r : Recording) (thread : List ℕ) (site : Option (List ℕ)) → ((with_site_of (with_thread_name r thread) site).steps ≡ r.steps) × ((with_site_of (with_thread_name r thread) site).names.threads ≡ with_name r.names.threads thread)
-site_acts r thread None = (refl, refl)
-site_acts r thread (Some site) = (refl, refl)
+site_threads : (r : Recording) (thread : List ℕ) (site : Option (List ℕ)) → (with_site_of (with_thread_name r thread) site).names.threads ≡ with_name r.names.threads thread
+site_threads r thread None = refl
+site_threads r thread (Some site) = refl
 
 line_acts : (v : ReadyVerb) (line address : ℕ) (thread name : List ℕ) (r : Recording) → ActsLast r (with_line line (ready_event v address thread name) r) thread
-line_acts does.Read line address thread name r = (actor_last _ _, (site_acts r thread (site_if name)).1)
-line_acts does.Write line address thread name r = (actor_last _ _, (site_acts r thread (site_if name)).1)
-line_acts does.Lock line address thread name r = (actor_last _ _, refl)
-line_acts does.Unlock line address thread name r = (actor_last _ _, refl)
-line_acts does.ReadLock line address thread name r = (actor_last _ _, refl)
-line_acts does.ReadUnlock line address thread name r = (actor_last _ _, refl)
+line_acts does.Read line address thread name r = (actor_last (with_site_of (with_thread_name r thread) (site_if name)).steps (record { thread = number_of r.names.threads thread; event = event.Access kind.Read (address / 4) (site_number (with_thread_name r thread) (site_if name)) }), site_threads r thread (site_if name))
+line_acts does.Write line address thread name r = (actor_last (with_site_of (with_thread_name r thread) (site_if name)).steps (record { thread = number_of r.names.threads thread; event = event.Access kind.Write (address / 4) (site_number (with_thread_name r thread) (site_if name)) }), site_threads r thread (site_if name))
+line_acts does.Lock line address thread name r = (actor_last r.steps (record { thread = number_of r.names.threads thread; event = event.Acquire (number_of r.names.locks name) mode.Write }), refl)
+line_acts does.Unlock line address thread name r = (actor_last r.steps (record { thread = number_of r.names.threads thread; event = event.Release (number_of r.names.locks name) mode.Write }), refl)
+line_acts does.ReadLock line address thread name r = (actor_last r.steps (record { thread = number_of r.names.threads thread; event = event.Acquire (number_of r.names.locks name) mode.Read }), refl)
+line_acts does.ReadUnlock line address thread name r = (actor_last r.steps (record { thread = number_of r.names.threads thread; event = event.Release (number_of r.names.locks name) mode.Read }), refl)
 
 same_number : (r s : Recording) (thread : List ℕ) → ActsLast r s thread → number_of s.names.threads thread ≡ number_of r.names.threads thread
 same_number r s thread acts = ap (λ (ts : List (List ℕ)). number_of ts thread) acts.1 ∙ again r.names.threads thread
@@ -92,6 +95,13 @@ lines_actor (suc zero) v line address thread name r some = (line_acts v line add
 lines_actor (suc (suc n)) v line address thread name r some =
     let s = with_line line (ready_event v address thread name) r in
     lines_actor (suc n) v (line + 1) (address + 4) thread name s (omega arith) ∙ ap (λ (k : ℕ). Some k) (same_number r s thread (line_acts v line address thread name r))
+
+-- by equal numbers and names
+pub lines_as : (v : ReadyVerb) (address count line number : ℕ) (thread thread_of name name_of : List ℕ) (r s : Recording) → s ≡ with_lines line v address thread name count r → line ≡ number → thread ≡ thread_of → name ≡ name_of
+    → s ≡ with_lines number v address thread_of name_of count r
+lines_as v address count line number thread thread_of name name_of r s is here of_thread of_name =
+    is ∙ ap (λ (n : ℕ). with_lines n v address thread name count r) here ∙ ap (λ (t : List ℕ). with_lines number v address t name count r) of_thread
+    ∙ ap (λ (n : List ℕ). with_lines number v address thread_of n count r) of_name
 
 without_again : (idle : List Bool) (n : ℕ) → without_idle (without_idle idle n) n ≡ without_idle idle n
 without_again [] n = refl
@@ -110,8 +120,8 @@ run_one old mid before between v address thread name stage idle after tail r thi
     let number : mid.number ≡ old.number + 1 = ap (λ (p : Place). p.number) taken.past in
     record {
       turn = turn_on old.limit read_content (lines_left old before) (lines_left mid between) (ready_placed old v address thread name) (at_line old.number stage idle r) _ taken.first taken.fits
-      (read ∙ ap (λ (k : ℕ). Ok (at_line k stage after s)) (sym number));
-      tail = tail_on (lines_left old before) (lines_left mid between) (ready_placed old v address thread name) tail _ taken.first (ready_tail old tail v address thread name taken.right);
+          (read ∙ ap (λ (k : ℕ). Ok (at_line k stage after s)) (sym number));
+      ends = tail_on (lines_left old before) (lines_left mid between) (ready_placed old v address thread name) tail _ taken.first (ready_tail old tail v address thread name taken.right);
       grows = line_grows old.number (ready_bytes v address thread name) _ _ read;
       start = omega (arith, taken.some);
     }

@@ -1,5 +1,5 @@
 -- Words of an access that are still to come, and lines that are taken without their text.
-use Rattle.std.specs.Prelude.{◌≡◌, Bool, ℕ, ◌+◌, ◌-◌, ◌*◌, ◌/◌, ◌≤◌, ◌<◌, true, List, Option, Some, None, length, slice_set, codes, if◌then◌else◌}
+use Rattle.std.specs.Prelude.{◌≡◌, Bool, ℕ, ◌+◌, ◌-◌, ◌/◌, ◌≤◌, ◌<◌, true, List, Option, Some, None, length, slice_set, codes, if◌then◌else◌}
 use Rattle.std.specs.List.{list_all}
 use Rattle.er_lines.specs.Naming.{is_name, is_lock_name}
 use Rattle.er_lines.specs.Ready.{is_maybe_site, name_by, name_word}

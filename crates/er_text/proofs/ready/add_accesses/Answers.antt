@@ -13,6 +13,6 @@ loop-i-preserved c =
     record {
       names = ap (λ (r : Recording). r.names) added ∙ c.loop-i.invariant.names;
       whole = c.loop-i.invariant.whole ∙ accesses_next a.thread a.kind (a.first + i) a.site (a.line + i) a.count i c.loop-i.trace c.push.new.self c.loop-i-test.true added
-      ∙ ap (λ (w : ℕ). with_accesses a.thread a.kind w a.site (a.line + i + 1) (a.count - (i + 1)) c.push.new.self) (omega arith)
-      ∙ ap (λ (l : ℕ). with_accesses a.thread a.kind (a.first + (i + 1)) a.site l (a.count - (i + 1)) c.push.new.self) (omega arith);
+          ∙ ap (λ (w : ℕ). with_accesses a.thread a.kind w a.site (a.line + i + 1) (a.count - (i + 1)) c.push.new.self) (omega arith)
+          ∙ ap (λ (l : ℕ). with_accesses a.thread a.kind (a.first + (i + 1)) a.site l (a.count - (i + 1)) c.push.new.self) (omega arith);
     }

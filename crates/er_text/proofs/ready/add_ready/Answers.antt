@@ -54,7 +54,6 @@ number-requires-2-clause-printed g c =
     let named = access_named of c.args.ready c.in-Some.place is c.requires.line c.in-Some.is in
     operand_printed of c.args.ready (of names.Site c.in-Some.place) c.requires.line named.1
 
-
 pub add_accesses-requires-clause-thread : goal.add_accesses-requires-clause-thread
 add_accesses-requires-clause-thread g c =
     let of = g.S.Shortcut.names_of c.args.reader.now in

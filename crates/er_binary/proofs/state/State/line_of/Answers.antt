@@ -1,5 +1,5 @@
 -- The lines of the words.
-use Rattle.std.proofs.Common.{◌≡◌, ◌<◌, ◌≤◌, ◌+◌, ◌-◌, ◌^◌, ◌*◌, ◌/◌, ◌%◌, ℕ, arith}
+use Rattle.std.proofs.Common.{◌≡◌, ◌<◌, ◌≤◌, ◌+◌, ◌-◌, ◌^◌, ◌*◌, ◌/◌, ◌%◌, arith}
 use Rattle.er_binary.proofs.WordsLaws.{access_right, access_text_is, lines_right, named_site}
 use Rattle.er_binary.proofs.state.State.line_of.Goals as goal
 

@@ -20,7 +20,7 @@ use Rattle.er_text.specs.Inner.Traces.{at_line, plain_at, progress, read_content
 use Rattle.er_text.proofs.GrowthLemmas.{grows_not, line_grows}
 use Rattle.er_text.proofs.KnownLemmas.{right_kept, right_on}
 use Rattle.er_text.proofs.PlaceLemmas.{kept_first, trace_fails, trace_on, trace_tail}
-use Rattle.er_text.proofs.RunLemmas.{HasRun, lines_actor, run_all}
+use Rattle.er_text.proofs.RunLemmas.{HasRun, lines_actor, lines_as, run_all}
 use Rattle.er_text.proofs.TailLemmas.{tail_on}
 use Rattle.er_text.proofs.reading.TraceReader.next_line.Goals as goal
 
@@ -43,20 +43,18 @@ module _ (g : _) (c : goal.After-self-2-1 g) where
   abbrev rest : Option (List Placed)
   rest = lines_left c.take.new.self (g.R.Read.remaining (inner_of c.take.new.reader))
 
-  behind : Option (List ℕ)
+  abbrev behind : Option (List ℕ)
   behind = g.R.Read.remaining (inner_of c.take.new.reader)
 
-  ended : Tail
+  abbrev ended : Tail
   ended = record { cut = false; comment = c.self.inside.header.comment }
 
   third : inside.stage ≡ Events Three
   third = search rules
 
   added : c.add_ready.new.trace ≡ with_lines inside.place.number line.verb line.address thread name line.count c.args.trace.now
-  added = c.in_ok-add_ready.ensures.trace
-      ∙ ap (λ (n : ℕ). with_lines n line.verb line.address _ _ line.count c.args.trace.now) c.number-line.ensures.value
-      ∙ ap (λ (t : List ℕ). with_lines inside.place.number line.verb line.address t _ line.count c.args.trace.now) (ap (λ r. thread_name (g.S.Shortcut.names_of r) line) c.inner.ensures)
-      ∙ ap (λ (n : List ℕ). with_lines inside.place.number line.verb line.address thread n line.count c.args.trace.now) (ap (λ r. operand_name (g.S.Shortcut.names_of r) line) c.inner.ensures)
+  added = lines_as line.verb line.address line.count c.number-line.result inside.place.number (thread_name (g.S.Shortcut.names_of c.inner.result.now) line) thread (operand_name (g.S.Shortcut.names_of c.inner.result.now) line) name
+      c.args.trace.now c.add_ready.new.trace c.in_ok-add_ready.ensures.trace c.number-line.ensures.value (ap (λ r. thread_name (g.S.Shortcut.names_of r) line) c.inner.ensures) (ap (λ r. operand_name (g.S.Shortcut.names_of r) line) c.inner.ensures)
 
   some : 1 ≤ line.count
   some = c.in-Some.ensures.right.some
@@ -81,7 +79,7 @@ returns-clause-turn g c =
 pub returns-clause-tail : goal.returns-clause-tail
 returns-clause-tail g c =
     let P : Reached → Type 0 = λ r. KeepsTail (lines_left r.place (known g c)) (rest g c) r.tail (ended g c) in
-    subst P c.self.view_is (run g c).tail
+    subst P c.self.view_is (run g c).ends
 
 pub returns-clause-grows : goal.returns-clause-grows
 returns-clause-grows g c = (run g c).grows
