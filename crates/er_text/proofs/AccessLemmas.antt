@@ -1,5 +1,5 @@
 -- The lines of an access are its words' accesses, once the names of its thread and its site are known.
-use Rattle.std.proofs.Common.{◌≡◌, ℕ, zero, suc, ◌+◌, ◌-◌, ◌/◌, ◌≤◌, ◌<◌, true, false, List, [], ◌∷◌, ◌++◌, Option, Some, None, refl, sym, ap, ◌∙◌, arith}
+use Rattle.std.proofs.Common.{◌≡◌, ℕ, zero, suc, ◌+◌, ◌-◌, ◌/◌, ◌≤◌, ◌<◌, true, List, [], ◌∷◌, Option, Some, None, refl, sym, ap, ◌∙◌, arith}
 use Rattle.er_event.specs.declared.steps.Event.TheVariants as event
 use Rattle.er_event.specs.declared.steps.Kind.{Kind}
 use Rattle.er_lines.specs.Lines.{has_bytes}
@@ -9,7 +9,7 @@ use Rattle.er_lines.specs.declared.ready.NameKind.TheVariants as names
 use Rattle.er_lines.specs.declared.ready.ReadyLine.{ReadyLine}
 use Rattle.er_lines.specs.declared.ready.ReadyVerb.{ReadyVerb}
 use Rattle.er_lines.specs.declared.ready.ReadyVerb.TheVariants as does
-use Rattle.er_trace.specs.Names.{is_known, number_of, with_name}
+use Rattle.er_trace.specs.Names.{is_known, number_of}
 use Rattle.er_trace.specs.Trace.{Recording, with_site_name, with_step, with_thread_name}
 use Rattle.er_trace.proofs.NumberLemmas.{again, given}
 use Rattle.er_text.specs.Events.{site_number, with_line, with_site_of}

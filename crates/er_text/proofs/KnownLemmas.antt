@@ -17,10 +17,10 @@ use Rattle.er_trace.specs.Names.{NameTable}
 use Rattle.er_trace.specs.Trace.{HasNames, Recording, with_lock_name, with_step, with_thread_name}
 use Rattle.er_trace.specs.Names.{is_known, number_of}
 use Rattle.er_trace.proofs.NumberLemmas.{again, given, kept, still}
-use Rattle.er_text.specs.Events.{Accesses, with_line, with_operation}
+use Rattle.er_text.specs.Events.{with_line}
 use Rattle.er_text.specs.Named.{KeepsNumbers, KeepsNames as KeepsTable}
 use Rattle.er_text.specs.Inner.Numbers.{AreRight, IsNumber, is_known_as, number_as, with_name_of}
-use Rattle.er_text.specs.Inner.Ready.{access_kind, hold_event, is_access, ready_event, site_if}
+use Rattle.er_text.specs.Inner.Ready.{hold_event, is_access, ready_event}
 use Rattle.er_text.specs.declared.numbers.KnownNumbers.{KnownNumbers}
 use Rattle.er_text.specs.declared.numbers.Slot.{Slot}
 use Rattle.er_text.proofs.AddingLemmas.{lock_named, site_named, thread_named}

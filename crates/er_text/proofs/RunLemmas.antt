@@ -1,5 +1,5 @@
 -- What the lines of an access do to a reading, one after another.
-use Rattle.std.proofs.Common.{◌≡◌, ℕ, zero, suc, ◌+◌, ◌/◌, ◌≤◌, ◌<◌, Bool, true, false, List, [], ◌∷◌, ◌++◌, length, Option, Some, None, Result, Ok, refl, sym, ap, subst, ◌∙◌, arith}
+use Rattle.std.proofs.Common.{◌≡◌, ℕ, zero, suc, ◌+◌, ◌/◌, ◌≤◌, ◌<◌, Bool, true, false, List, [], ◌∷◌, ◌++◌, Option, Some, None, Result, Ok, refl, sym, ap, subst, ◌∙◌, arith}
 use Rattle.std.specs.Io.KnownBytes.{Keeps}
 use Rattle.er_event.specs.declared.steps.Event.TheVariants as event
 use Rattle.er_event.specs.declared.steps.Kind.TheVariants as kind
@@ -9,14 +9,13 @@ use Rattle.er_lines.specs.Lending.{lines_left}
 use Rattle.er_lines.specs.Lines.{Placed}
 use Rattle.er_lines.specs.Places.{Place}
 use Rattle.er_lines.specs.Reading.{Turns}
-use Rattle.er_lines.specs.Ready.{ready_text}
-use Rattle.er_lines.specs.Taking.{TakesLine, TakesLines, past_unread, ready_bytes, ready_placed}
+use Rattle.er_lines.specs.Taking.{TakesLine, TakesLines, ready_bytes, ready_placed}
 use Rattle.er_lines.specs.declared.faults.TextKind.{TextKind}
 use Rattle.er_lines.specs.declared.ready.ReadyVerb.{ReadyVerb}
 use Rattle.er_lines.specs.declared.ready.ReadyVerb.TheVariants as does
 use Rattle.er_lines.proofs.TurnLemmas.{turn_on}
-use Rattle.er_trace.specs.Names.{is_known, number_of, with_name}
-use Rattle.er_trace.specs.Trace.{Recording, with_step, with_thread_name}
+use Rattle.er_trace.specs.Names.{number_of, with_name}
+use Rattle.er_trace.specs.Trace.{Recording, with_thread_name}
 use Rattle.er_trace.proofs.NumberLemmas.{again}
 use Rattle.er_text.specs.declared.stages.Stage.{Stage}
 use Rattle.er_text.specs.declared.stages.Stage.TheVariants.{Events}
@@ -24,10 +23,10 @@ use Rattle.er_text.specs.declared.verbs.Version.TheVariants.{Three}
 use Rattle.er_text.specs.Events.{site_number, with_line, with_site_of}
 use Rattle.er_text.specs.Named.{Grows}
 use Rattle.er_text.specs.Places.{Tail}
-use Rattle.er_text.specs.Inner.Endings.{KeepsTail, tail_after}
+use Rattle.er_text.specs.Inner.Endings.{KeepsTail}
 use Rattle.er_text.specs.Inner.Idle.{last_actor, without_idle}
 use Rattle.er_text.specs.Inner.Ready.{ready_event, site_if, with_lines}
-use Rattle.er_text.specs.Inner.Traces.{Progress, at_line, plain_at, read_content}
+use Rattle.er_text.specs.Inner.Traces.{at_line, read_content}
 use Rattle.er_text.proofs.GrowthLemmas.{grows_not, grows_on, line_grows}
 use Rattle.er_text.proofs.ReadyLemmas.{ready_read, ready_tail}
 use Rattle.er_text.proofs.TailLemmas.{tail_goes_on, tail_on}

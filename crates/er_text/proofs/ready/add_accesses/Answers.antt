@@ -1,5 +1,5 @@
 -- One more access is the next of what was left.
-use Rattle.std.proofs.Common.{◌≡◌, ◌+◌, ◌-◌, ◌<◌, ℕ, suc, refl, sym, ap, subst, ◌∙◌, arith}
+use Rattle.std.proofs.Common.{◌+◌, ◌-◌, ℕ, ap, ◌∙◌, arith}
 use Rattle.er_trace.specs.Trace.{Recording}
 use Rattle.er_text.specs.Inner.Ready.{with_accesses}
 use Rattle.er_text.proofs.AccessLemmas.{accesses_next}

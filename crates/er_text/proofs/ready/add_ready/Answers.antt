@@ -1,5 +1,5 @@
 -- Both names are those of the line, and have their numbers by then.
-use Rattle.std.proofs.Common.{◌≡◌, ◌∙◌, ℕ, true, false, OnOk, sym, ap, subst, arith, rules}
+use Rattle.std.proofs.Common.{◌≡◌, ◌∙◌, ℕ, true, false, OnOk, sym, ap, subst, rules}
 use Rattle.er_lines.specs.Ready.{operand_name, thread_name}
 use Rattle.er_lines.specs.declared.ready.NameKind.TheVariants as names
 use Rattle.er_trace.specs.Trace.{Recording}

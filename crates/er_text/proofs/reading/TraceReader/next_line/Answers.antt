@@ -16,7 +16,7 @@ use Rattle.er_lines.specs.Reading.{Turns}
 use Rattle.er_text.specs.Inner.Endings.{KeepsTail}
 use Rattle.er_text.specs.Inner.Idle.{last_actor, without_idle}
 use Rattle.er_text.specs.Inner.Ready.{with_lines}
-use Rattle.er_text.specs.Inner.Traces.{at_line, plain_at, progress, read_content}
+use Rattle.er_text.specs.Inner.Traces.{at_line, progress, read_content}
 use Rattle.er_text.proofs.GrowthLemmas.{grows_not, line_grows}
 use Rattle.er_text.proofs.KnownLemmas.{right_kept, right_on}
 use Rattle.er_text.proofs.PlaceLemmas.{kept_first, trace_fails, trace_on, trace_tail}
