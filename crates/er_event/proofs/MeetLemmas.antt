@@ -65,7 +65,7 @@ module _ (xs ys : List ℕ) (i j : ℕ) (low : IsRising xs) (high : IsRising ys)
 
   more_step : get_or ys j 0 < get_or xs i 0 → meet (drop i xs) (drop (j + 1) ys) ≡ meet (drop i xs) (drop j ys)
   more_step more = rw (drop_more xs i 0 within, drop_more ys j 0 inside)
-    (sym (meet_passed (get_or ys j 0) (get_or xs i 0 ∷ drop (i + 1) xs) (drop (j + 1) ys) (below_front (get_or xs i 0) (get_or ys j 0) (drop (i + 1) xs) (front_below i xs low within) more)))
+      (sym (meet_passed (get_or ys j 0) (get_or xs i 0 ∷ drop (i + 1) xs) (drop (j + 1) ys) (below_front (get_or xs i 0) (get_or ys j 0) (drop (i + 1) xs) (front_below i xs low within) more)))
 
   same_step : get_or xs i 0 ≡ get_or ys j 0 → get_or xs i 0 ∷ meet (drop (i + 1) xs) (drop (j + 1) ys) ≡ meet (drop i xs) (drop j ys)
   same_step same = rw (drop_more xs i 0 within, drop_more ys j 0 inside, ← same) (sym (meet_same (get_or xs i 0) (drop (i + 1) xs) (drop (j + 1) ys) (front_below i xs low within)))
@@ -85,7 +85,7 @@ module _ (xs ys : List ℕ) (i j : ℕ) (low : IsRising xs) (high : IsRising ys)
     -- and one that keeps the lock in front of both
     pub keep_step : (kept : List ℕ) → x ≡ y → (kept ++ x ∷ []) ++ meet (drop (i + passed x y) xs) (drop (j + passed y x) ys) ≡ kept ++ meet (drop i xs) (drop j ys)
     keep_step kept same = rw (le_told x y (omega (arith, same)), le_told y x (omega (arith, same)), mine)
-      (append_assoc kept (get_or xs i 0 ∷ []) (meet (drop (i + 1) xs) (drop (j + 1) ys)) ∙ ap (λ zs. kept ++ zs) (same_step (omega (arith, mine, theirs, same))))
+        (append_assoc kept (get_or xs i 0 ∷ []) (meet (drop (i + 1) xs) (drop (j + 1) ys)) ∙ ap (λ zs. kept ++ zs) (same_step (omega (arith, mine, theirs, same))))
 
 -- nothing is left of one of the lists
 pub meet_end : (xs ys : List ℕ) (i j : ℕ) → (length xs ≤ i) ⊎ (length ys ≤ j) → meet (drop i xs) (drop j ys) ≡ []
