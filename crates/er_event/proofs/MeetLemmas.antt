@@ -1,8 +1,8 @@
 -- The meet of two rising lists, as a walk along both takes it: at each step the lower of the two locks in front is left behind.
-use Rattle.std.proofs.Common.{◌≡◌, ℕ, zero, suc, ◌+◌, ◌<◌, ◌≤◌, Bool, true, false, ◌||◌, ◌==◌, List, [], ◌∷◌, ◌++◌, filter, length, drop, get_or, ◌⊎◌, refl, sym, ap, subst, ◌∙◌, arith, inl, inr}
+use Rattle.std.proofs.Common.{◌≡◌, ℕ, zero, suc, ◌+◌, ◌<◌, ◌≤◌, Bool, true, false, ◌||◌, ◌==◌, List, [], ◌∷◌, ◌++◌, filter, length, drop, get_or, set, take, ◌⊎◌, refl, sym, ap, subst, ◌∙◌, arith, inl, inr}
 use mir.Val.{bool_byte}
-use Rattle.std.proofs.lemmas.Bool.{or_left, or_right, cases_order, cases_lt, lt-ltb, le-ltb, eq-eqb, ne_eqb}
-use Rattle.std.proofs.lemmas.List.{append_assoc, drop_all, drop_more}
+use Rattle.std.proofs.lemmas.Bool.{or_left, or_right, cases_order, cases_lt, lt-ltb, le-ltb, eq-eqb, ne_eqb, eqb-true, eqb-false}
+use Rattle.std.proofs.lemmas.List.{append_assoc, drop_all, drop_more, take-set, take_more_set}
 use Rattle.std.proofs.lemmas.List.Kept.{IsStrictlyIncreasing-filter}
 use Rattle.std.specs.List.Sorted.{IsStrictlyIncreasing}
 use Rattle.std.specs.Ordering.{is_le, nat_cmp}
@@ -10,13 +10,13 @@ use Rattle.er_event.proofs.Bools.{itself}
 use Rattle.er_event.proofs.LocksetLemmas.{first_below}
 use Rattle.er_event.specs.Lockset.{has, IsBelow, IsRising, meet}
 
-pub le_told : (x y : ℕ) → x ≤ y → is_le (nat_cmp x y) ≡ true
+le_told : (x y : ℕ) → x ≤ y → is_le (nat_cmp x y) ≡ true
 le_told x y order = elim (cases_lt x y) [
   | inl less ↦ rw (lt-ltb x y less) refl
   | inr more ↦ rw (le-ltb x y more, eq-eqb x y (omega arith)) refl
 ]
 
-pub gt_told : (x y : ℕ) → y < x → is_le (nat_cmp x y) ≡ false
+gt_told : (x y : ℕ) → y < x → is_le (nat_cmp x y) ≡ false
 gt_told x y more = rw (le-ltb x y (omega arith), ne_eqb x y (λ same. omega arith)) refl
 
 -- what is left of a rising list rises
@@ -75,7 +75,7 @@ module _ (xs ys : List ℕ) (i j : ℕ) (low : IsRising xs) (high : IsRising ys)
 
   module _ (x y : ℕ) (mine : x ≡ get_or xs i 0) (theirs : y ≡ get_or ys j 0) where
     -- a step that keeps no lock
-    pub pass_step : (x ≡ y → ⊥) → meet (drop (i + passed x y) xs) (drop (j + passed y x) ys) ≡ meet (drop i xs) (drop j ys)
+    pass_step : (x ≡ y → ⊥) → meet (drop (i + passed x y) xs) (drop (j + passed y x) ys) ≡ meet (drop i xs) (drop j ys)
     pass_step other = elim (cases_order x y) [
       | inl same ↦ absurd (other same)
       | inr (inl less) ↦ rw (le_told x y (omega arith), gt_told y x less) (rw (plus_zero j) (less_step (omega (arith, mine, theirs))))
@@ -83,9 +83,20 @@ module _ (xs ys : List ℕ) (i j : ℕ) (low : IsRising xs) (high : IsRising ys)
     ]
 
     -- and one that keeps the lock in front of both
-    pub keep_step : (kept : List ℕ) → x ≡ y → (kept ++ x ∷ []) ++ meet (drop (i + passed x y) xs) (drop (j + passed y x) ys) ≡ kept ++ meet (drop i xs) (drop j ys)
+    keep_step : (kept : List ℕ) → x ≡ y → (kept ++ x ∷ []) ++ meet (drop (i + passed x y) xs) (drop (j + passed y x) ys) ≡ kept ++ meet (drop i xs) (drop j ys)
     keep_step kept same = rw (le_told x y (omega (arith, same)), le_told y x (omega (arith, same)), mine)
         (append_assoc kept (get_or xs i 0 ∷ []) (meet (drop (i + 1) xs) (drop (j + 1) ys)) ∙ ap (λ zs. kept ++ zs) (same_step (omega (arith, mine, theirs, same))))
+
+    -- either of the two, where the lock is written behind those that are kept
+    pub one_step : (slots : List ℕ) (n : ℕ) → n + 1 ≤ length slots → (b : Bool) → (x == y) ≡ b →
+        take (n + bool_byte b) (set slots n x) ++ meet (drop (i + passed x y) xs) (drop (j + passed y x) ys) ≡ take n slots ++ meet (drop i xs) (drop j ys)
+    one_step slots n room true same = rw (take_more_set slots n x (omega arith)) (keep_step (take n slots) (eqb-true x y same))
+    one_step slots n room false other = rw (plus_zero n, take-set slots n x) (ap (λ zs. take n slots ++ zs) (pass_step (eqb-false x y other)))
+
+-- no more are kept than are left behind
+pub few_step : (x y n i : ℕ) (b : Bool) → (x == y) ≡ b → n ≤ i → n + bool_byte b ≤ i + bool_byte (is_le (nat_cmp x y))
+few_step x y n i true same few = rw (le_told x y (omega (arith, eqb-true x y same))) (omega arith)
+few_step x y n i false other few = omega arith
 
 -- nothing is left of one of the lists
 pub meet_end : (xs ys : List ℕ) (i j : ℕ) → (length xs ≤ i) ⊎ (length ys ≤ j) → meet (drop i xs) (drop j ys) ≡ []
