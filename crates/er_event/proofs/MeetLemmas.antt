@@ -98,6 +98,10 @@ pub few_step : (x y n i : ℕ) (b : Bool) → (x == y) ≡ b → n ≤ i → n +
 few_step x y n i true same few = rw (le_told x y (omega (arith, eqb-true x y same))) (omega arith)
 few_step x y n i false other few = omega arith
 
+pub fewer_step : (x y n j : ℕ) (b : Bool) → (x == y) ≡ b → n ≤ j → n + bool_byte b ≤ j + bool_byte (is_le (nat_cmp y x))
+fewer_step x y n j true same few = rw (le_told y x (omega (arith, eqb-true x y same))) (omega arith)
+fewer_step x y n j false other few = omega arith
+
 -- nothing is left of one of the lists
 pub meet_end : (xs ys : List ℕ) (i j : ℕ) → (length xs ≤ i) ⊎ (length ys ≤ j) → meet (drop i xs) (drop j ys) ≡ []
 unfolding meet
