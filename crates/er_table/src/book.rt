@@ -118,12 +118,8 @@ fn append<R: Wait>(
     ensures err { OnErr result (keys places.new ≡ keys places.old) }
     ensures memory { IsOkUnless result NoRoom.OutOfMemory }
 {
-    let Ok(()) = places.reserve(1) else {
-        return Err(NoRoom::OutOfMemory);
-    };
-    let Ok(copy) = set.copy() else {
-        return Err(NoRoom::OutOfMemory);
-    };
+    places.reserve(1)?;
+    let copy = set.copy()?;
     let Ok(pushed) = SetRef::push(rt, sets, set) else {
         drop(copy);
         return Err(NoRoom::OutOfMemory);

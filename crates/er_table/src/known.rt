@@ -181,13 +181,8 @@ fn number_anew<R, S: Grow<R>>(
     if meets.len() >= MOST_REMEMBERED {
         return numbers.number_of_meet(rt, pair.first, pair.second);
     }
-    let Ok(()) = meets.reserve(1) else {
-        return Err(NoRoom::OutOfMemory);
-    };
-    let number = match numbers.number_of_meet(rt, pair.first, pair.second) {
-        Ok(number) => number,
-        Err(refused) => return Err(refused),
-    };
+    meets.reserve(1)?;
+    let number = numbers.number_of_meet(rt, pair.first, pair.second)?;
     let inserted: Result<_, _> = meets.insert(pair, number);
     inserted.unwrap();
     Ok(number)

@@ -112,9 +112,7 @@ impl<S: Store> Numbers<S> {
         requires second { second < length self.old }
         ensures { IsNumbered self.old (meet (set_at self.old first) (set_at self.old second)) result self.new }
     {
-        let Ok(meet) = self.set(first).intersect(self.set(second)) else {
-            return Err(NoRoom::OutOfMemory);
-        };
+        let meet = self.set(first).intersect(self.set(second))?;
         self.number_of(rt, &meet)
     }
 

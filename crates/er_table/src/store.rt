@@ -98,9 +98,7 @@ impl<'t> Store for Shared<'t> {
 impl<'t, R: Wait> Grow<R> for Shared<'t> {
     #[inline]
     fn push(&mut self, rt: &R, set: &Lockset) -> Result<(), NoRoom> {
-        let Ok(()) = self.sets.reserve(1) else {
-            return Err(NoRoom::OutOfMemory);
-        };
+        self.sets.reserve(1)?;
         let set_ref = self.table.intern(rt, set)?;
         self.sets.insert(self.table.get(&set_ref)).unwrap();
         Ok(())
@@ -154,9 +152,7 @@ impl Store for Owned {
 /// It waits for nobody, whatever the handle.
 impl<R> Grow<R> for Owned {
     fn push(&mut self, _rt: &R, set: &Lockset) -> Result<(), NoRoom> {
-        let Ok(()) = self.sets.reserve(1) else {
-            return Err(NoRoom::OutOfMemory);
-        };
+        self.sets.reserve(1)?;
         self.sets.insert(set.copy()?).unwrap();
         Ok(())
     }

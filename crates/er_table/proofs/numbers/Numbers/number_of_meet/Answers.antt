@@ -8,6 +8,6 @@ use Rattle.er_table.proofs.numbers.Numbers.number_of_meet.Goals as goal
 pub returns : goal.returns
 returns g c =
     let Says : List ℕ → Type 0 = λ set. IsNumbered c.args.self.now set c.number_of.result c.number_of.new.self in
-    let both : c.in-Ok.meet ≡ meet (set_at c.args.self.now c.args.first) (set_at c.args.self.now c.args.second) =
-    c.in-Ok.ensures.ok ∙ ap (λ s. meet s c.set-2.result.now) c.set.ensures.set ∙ ap (meet (set_at c.args.self.now c.args.first)) c.set-2.ensures.set in
+    let both : c.in_ok-meet.meet ≡ meet (set_at c.args.self.now c.args.first) (set_at c.args.self.now c.args.second) =
+    c.in_ok-meet.ensures.ok ∙ ap (λ s. meet s c.set-2.result.now) c.set.ensures.set ∙ ap (meet (set_at c.args.self.now c.args.first)) c.set-2.ensures.set in
     subst Says both c.number_of.ensures.numbered
