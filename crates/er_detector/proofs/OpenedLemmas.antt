@@ -2,8 +2,7 @@
 use Rattle.std.proofs.Common.{◌≡◌, ◌<◌, ◌≤◌, inl, inr, ◌+◌, ℕ, min, List, [], ◌∷◌, ◌++◌, take, sym, arith}
 use Rattle.std.proofs.lemmas.Bool.{cases_order}
 use Rattle.std.specs.Prelude.{slice_get, Some, Result, Ok, Err, IfOk, IfErr}
-use Rattle.er_journal.specs.Entries.{Call}
-use Rattle.er_journal.specs.declared.entries.Entry.{Entry}
+use Rattle.er_journal.specs.Entries.{Call, Entry}
 use Rattle.er_settle.specs.Seats.{SeatList}
 use Rattle.er_settle.proofs.ListLemmas.{take_next}
 use Rattle.er_settle.specs.Faults.{AreComplete, IsGiven, IsFirst, IsSettled}

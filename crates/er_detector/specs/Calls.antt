@@ -8,8 +8,7 @@ use Rattle.er_event.specs.declared.steps.Event.TheVariants.{Access, Reuse}
 use Rattle.er_event.specs.declared.steps.Kind.{Kind}
 use Rattle.er_event.specs.declared.steps.Reply.{Reply}
 use Rattle.er_event.specs.declared.steps.Reply.TheVariants.{Done}
-use Rattle.er_journal.specs.Entries.{Call}
-use Rattle.er_journal.specs.declared.entries.What.TheVariants.{Access as Stamped}
+use Rattle.er_journal.specs.Entries.{Call, Access as Stamped}
 use Rattle.er_journal.specs.Merges.{shard_of}
 use Rattle.er_settle.specs.Seats.{SeatList}
 use Rattle.er_seat.specs.Seats.{with_call, ticketed, ignored, access_stamp}

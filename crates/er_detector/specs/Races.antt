@@ -1,7 +1,7 @@
 -- Which entries of a journal tell of a race.
 use Rattle.std.specs.Prelude.{◌≡◌, Bool}
 use Rattle.er_event.specs.declared.steps.Reply.TheVariants.{Race}
-use Rattle.er_journal.specs.declared.entries.Entry.{Entry}
+use Rattle.er_journal.specs.Entries.{Entry}
 use Rattle.er_settle.specs.Runs.{answers_race}
 
 -- the entry's reply is a race

@@ -14,7 +14,7 @@ ghost use Rattle.er_detector.specs.Races.{IsRace, is_race};
 use crate::Config;
 use crossbeam_utils::CachePadded;
 use er_event::{Kind, PageRange, Refusal, Reply, Site, ThreadId, Word, WordRange};
-use er_journal::{Entry, What};
+use er_journal::Entry;
 use er_seat::{Seat, VacantSeat};
 use er_shard::Shard;
 use er_table::LocksetTable;
@@ -334,24 +334,9 @@ pub(crate) fn add_races(races: &mut Vec<Entry>, journal: &[Entry]) -> Result<(),
     ensures { OnOk result (races.new.items ≡ races.old.items ++ filter is_race journal.now) }
 {
     for entry in journal {
-        if let Reply::Race = entry.reply.reply() {
-            races.push(copy_of(entry)?)?;
+        if let Reply::Race = entry.reply().reply() {
+            races.push(entry.copy()?)?;
         }
     }
     Ok(())
-}
-
-fn copy_of(entry: &Entry) -> Result<Entry, AllocError>
-    ensures { IfOk result (λ copied. copied ≡ entry.now) }
-{
-    let what = match &entry.what {
-        What::Access(stamp) => What::Access(stamp.copy()?),
-        What::Reset(range) => What::Reset(*range),
-    };
-    Ok(Entry {
-        ticket: entry.ticket,
-        what,
-        thread: entry.thread,
-        reply: entry.reply.copy(),
-    })
 }

@@ -1,2 +1,3 @@
 pub mod AnswerListLemmas
 pub mod Merges
+mod RangeLemmas

@@ -7,7 +7,7 @@ use Rattle.er_event.specs.declared.addresses.PageRange.{PageRange}
 use Rattle.er_event.specs.declared.steps.Reply.{Reply}
 use Rattle.er_event.specs.declared.steps.Step.{Step}
 use Rattle.er_journal.specs.Entries.{Call}
-use Rattle.er_journal.specs.declared.entries.Entry.{Entry}
+use Rattle.er_journal.specs.Entries.{Entry}
 use Rattle.er_model.specs.Words.{Mark, Counted, Reused, Shown, Nothing, reuses, counts, is_within}
 use Rattle.er_model.specs.Threads.{refusal}
 use Rattle.er_model.specs.Holdings.{holdings, holdings_at}

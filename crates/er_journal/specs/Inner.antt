@@ -1,3 +1,4 @@
 pub mod Briefs
 pub mod KeptCalls
+pub mod KeptEntries
 pub mod Replies

@@ -3,10 +3,7 @@ use Rattle.std.specs.Prelude.{ℕ, List, map}
 use Rattle.er_event.specs.declared.steps.Kind.{Kind}
 use Rattle.er_event.specs.declared.steps.Kind.TheVariants.{Read as reading, Write as writing}
 use Rattle.er_event.specs.declared.steps.WordState.{WordState}
-use Rattle.er_journal.specs.Entries.{Stamp}
-use Rattle.er_journal.specs.declared.entries.What.{What}
-use Rattle.er_journal.specs.declared.entries.What.TheVariants.{Access, Reset}
-use Rattle.er_journal.specs.declared.entries.Entry.{Entry}
+use Rattle.er_journal.specs.Entries.{Stamp, What, Access, Reset, Entry}
 use Rattle.er_model.specs.Words.{Mark, Counted, Reused}
 use Rattle.er_model.specs.Parts.{Noted, IsLegal, state_of_notes}
 

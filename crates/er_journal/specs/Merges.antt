@@ -5,11 +5,7 @@ use Rattle.er_event.specs.declared.steps.Event.TheVariants.{Access}
 use Rattle.er_event.specs.declared.steps.Reply.{Reply}
 use Rattle.er_event.specs.declared.steps.Reply.TheVariants.{Done}
 use Rattle.er_event.specs.declared.steps.Step.{Step}
-use Rattle.er_journal.specs.Entries.{Call}
-use Rattle.er_journal.specs.declared.entries.Entry.{Entry}
-use Rattle.er_journal.specs.Entries.{Stamp}
-use Rattle.er_journal.specs.declared.entries.What.{What}
-use Rattle.er_journal.specs.declared.entries.What.TheVariants.{Access as Stamped, Reset}
+use Rattle.er_journal.specs.Entries.{Call, Stamp, What, Access as Stamped, Reset, Entry}
 use Rattle.er_model.specs.Words.{Mark, Counted, Reused, Shown, Nothing}
 use Rattle.er_model.specs.Holdings.{Holdings, holdings_at}
 use Rattle.er_model.specs.Answers.{reading_of, answer}

@@ -19,7 +19,7 @@
 
 pub use answers::{Answer, Answers, Outcome, Stopped};
 pub use calls::Call;
-pub use entries::{Entry, Stamp, What};
+pub use entries::{Entry, Stamp};
 pub use explanations::{Explanation, Uncovered};
 pub use laws::a_merge_is_legal;
 pub use locks::HeldLocks;

@@ -1,12 +1,12 @@
 //! Replies that tell no state, kept small.
-ghost use Rattle.std.specs.Prelude.{◌≡◌, ◌↔◌, cond, IsTrue};
+ghost use Rattle.std.specs.Prelude.{◌≡◌, cond};
 
 use er_event::Reply;
 use std::marker::Model;
 
 /// What a call or an entry is answered, in one byte: a `Reply` takes 72, since a show's state holds its locks in place, and no journal has
 /// a show. Contracts see the reply.
-#[derive(Drop)]
+#[derive(Clone, Copy, Debug, PartialEq, Eq)]
 pub struct BriefReply {
     plain: PlainReply,
 }
@@ -21,11 +21,13 @@ enum PlainReply {
 
 impl Model for BriefReply {
     ghost use Rattle.er_event.specs.declared.steps.Reply.{Reply};
-    ghost use Rattle.er_journal.specs.Inner.Replies.{reply_of};
+    ghost use Rattle.er_journal.specs.Inner.Replies.{reply_of, plain_of};
 
     ghost Value = { Reply };
 
     ghost view = { λ r. reply_of r.plain };
+
+    ghost inverse = { λ reply. record { plain = plain_of reply } };
 }
 
 impl BriefReply {
@@ -62,8 +64,8 @@ impl BriefReply {
 
     /// The reply.
     #[inline]
-    pub fn reply(&self) -> Reply
-        ensures { result ≡ self.now }
+    pub fn reply(self) -> Reply
+        ensures { result ≡ self }
     {
         match self.plain {
             PlainReply::Done => Reply::Done,
@@ -71,21 +73,5 @@ impl BriefReply {
             PlainReply::Race => Reply::Race,
             PlainReply::Ignored => Reply::Ignored,
         }
-    }
-
-    /// Whether both are the same.
-    #[inline]
-    pub fn is_same(&self, other: &BriefReply) -> bool
-        ensures { IsTrue result ↔ (self.now ≡ other.now) }
-    {
-        self.plain == other.plain
-    }
-
-    /// The same again.
-    #[inline]
-    pub fn copy(&self) -> BriefReply
-        ensures { result ≡ self.now }
-    {
-        BriefReply { plain: self.plain }
     }
 }

@@ -3,7 +3,7 @@
 
 ghost use Rattle.std.specs.Prelude.{◌≡◌, ◌≤◌, ◌<◌, ◌+◌, ◌↔◌, ◌⊎◌, [], ℕ, length, IsTrue, IsFalse, IsOk, IfOk, IsOkUnless, IsErrAnd, IsErrOf, OnOk, OnErr, None, Some, slice_get};
 ghost use Rattle.er_held.specs.Held.{nothing_held};
-ghost use Rattle.er_journal.specs.Entries.{Call as Calls};
+ghost use Rattle.er_journal.specs.Entries.{Access, Call as Calls, Reset};
 ghost use Rattle.er_model.specs.Events.{is_show};
 ghost use Rattle.er_model.specs.Holdings.{refused_by};
 ghost use Rattle.er_model.specs.Parts.{FitsEnd};
@@ -19,8 +19,8 @@ use er_event::{
     Word,
 };
 use er_held::Held;
-use er_journal::{BriefReply, Call, HeldLocks, Stamp, What};
-use er_shard::{ShardIn, in_brief};
+use er_journal::{BriefReply, Call, HeldLocks, Stamp};
+use er_shard::ShardIn;
 use er_table::{Grow, Store};
 use std::alloc::{AllocError, Global};
 use std::marker::Model;
@@ -258,8 +258,8 @@ impl Seat {
     ) -> Result<Reply, NoRoom>
         requires { (holdings_of self.old).depth ≡ 0 }
         ensures call { IfOk result (λ reply. self.new ≡ with_call self.old (ticketed (Event.Access kind word site) ticket reply)) }
-        ensures entry { IfOk result (λ reply. shard.new ≡ with_entry shard.old (entry_of ticket self.old.thread (What.Access (access_stamp self.old word kind site)) reply)) }
-        ensures reply { IfOk result (λ reply. FitsEnd (notes_of shard.old.journal) (mark_of_what (What.Access (access_stamp self.old word kind site))) reply) }
+        ensures entry { IfOk result (λ reply. shard.new ≡ with_entry shard.old (entry_of ticket self.old.thread (Access (access_stamp self.old word kind site)) reply)) }
+        ensures reply { IfOk result (λ reply. FitsEnd (notes_of shard.old.journal) (mark_of_what (Access (access_stamp self.old word kind site))) reply) }
         ensures race_or_quiet { IfOk result (λ reply. (reply ≡ Reply.Race) ⊎ (reply ≡ Reply.Quiet)) }
         ensures err { OnErr result (self.new ≡ self.old) }
         ensures err_shard { OnErr result (shard.new ≡ shard.old) }
@@ -271,11 +271,18 @@ impl Seat {
     {
         self.calls.reserve(1 + calls_to_unwind(&self.held))?;
         let locks = stamped_locks(self.alloc, &mut self.recent, &self.held)?;
-        let stamp = Stamp::new(self.thread, word, kind, site, locks);
+        let thread = self.thread;
+        let stamp = Stamp {
+            thread,
+            word,
+            kind,
+            site,
+            locks,
+        };
         let reply = shard.apply(rt, ticket, stamp)?;
         self.calls
-            .push_reserved(Call::counted(kind, word, site, in_brief(&reply), ticket));
-        Ok(reply)
+            .push_reserved(Call::counted(kind, word, site, reply, ticket));
+        Ok(reply.reply())
     }
 
     /// Makes one page part of a reuse in a shard, under a ticket, and lists it. Refused if there is no memory for the list (`OutOfMemory`), and then
@@ -287,7 +294,7 @@ impl Seat {
         range: PageRange,
     ) -> Result<(), NoRoom>
         ensures call { OnOk result (self.new ≡ with_call self.old (ticketed (Event.Reuse range) ticket Reply.Done)) }
-        ensures entry { OnOk result (shard.new ≡ with_entry shard.old (entry_of ticket self.old.thread (What.Reset range) Reply.Done)) }
+        ensures entry { OnOk result (shard.new ≡ with_entry shard.old (entry_of ticket self.old.thread (Reset range) Reply.Done)) }
         ensures err { OnErr result (self.new ≡ self.old) }
         ensures err_shard { OnErr result (shard.new ≡ shard.old) }
         ensures full { shard.old.limit ≤ length shard.old.journal → IsErrAnd result (λ cause. (cause ≡ NoRoom.JournalFull) ⊎ (cause ≡ NoRoom.OutOfMemory)) }

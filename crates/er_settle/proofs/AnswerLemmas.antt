@@ -5,8 +5,7 @@ use Rattle.std.specs.Option.{is_some}
 use Rattle.std.proofs.lemmas.Bool.{eqb-true, eq-eqb, cases_order}
 use Rattle.std.proofs.lemmas.Option.{slice_get_within, slice_get_read}
 use Rattle.er_event.specs.declared.steps.Event.{Event}
-use Rattle.er_journal.specs.Entries.{Call}
-use Rattle.er_journal.specs.declared.entries.Entry.{Entry}
+use Rattle.er_journal.specs.Entries.{Call, Entry, event_of}
 use Rattle.er_model.specs.Threads.{accepted}
 use Rattle.er_model.specs.Holdings.{Holdings, changed_unless, refused_by, after_step}
 use Rattle.er_model.specs.Locality.{steps_by}
@@ -15,7 +14,7 @@ use Rattle.er_model.proofs.Threads.{holdings-step}
 use Rattle.er_model.proofs.Prefixes.{holdings-empty}
 use Rattle.er_held.specs.Held.{nothing_held}
 use Rattle.er_settle.specs.Seats.{SeatList, holdings_by}
-use Rattle.er_settle.specs.Faults.{IsAlike, IsAnswered, AreAnswered, event_of, Not}
+use Rattle.er_settle.specs.Faults.{IsAlike, IsAnswered, AreAnswered, Not}
 use Rattle.er_settle.specs.Inner.JournalOrder.{EntryAt, entries_by, IsOrder}
 use Rattle.er_settle.specs.Inner.EntryMatches.{ticketed_calls, ticketed_entries, AllAgree, AreInTurn, AreGrouped}
 use Rattle.er_settle.specs.Inner.ReplyMatches.{AreAlikeBelow, AreAlike, AllAlike}

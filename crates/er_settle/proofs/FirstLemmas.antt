@@ -1,7 +1,7 @@
 -- Why a fault of the entries or of the answers is the first, and that there is none.
 use Rattle.std.proofs.Common.{◌≡◌, ℕ, List, inl, inr, length, subst, sym}
 use Rattle.std.specs.Prelude.{Result, Ok, Err, IfErr, IsErrAnd}
-use Rattle.er_journal.specs.declared.entries.Entry.{Entry}
+use Rattle.er_journal.specs.Entries.{Entry}
 use Rattle.er_settle.specs.Seats.{SeatList}
 use Rattle.er_settle.specs.declared.unsettled.Unsettled.{Unsettled}
 use Rattle.er_settle.specs.declared.unsettled.Unsettled.TheVariants.{Entries, Answer}

@@ -13,11 +13,7 @@ use Rattle.er_event.specs.declared.steps.Kind.TheVariants.{Read as reading, Writ
 use Rattle.er_event.specs.declared.steps.Reply.{Reply}
 use Rattle.er_event.specs.declared.steps.Reply.TheVariants.{Done}
 use Rattle.er_event.specs.declared.steps.Step.{Step}
-use Rattle.er_journal.specs.Entries.{Call}
-use Rattle.er_journal.specs.declared.entries.Entry.{Entry}
-use Rattle.er_journal.specs.Entries.{Stamp}
-use Rattle.er_journal.specs.declared.entries.What.{What}
-use Rattle.er_journal.specs.declared.entries.What.TheVariants.{Access, Reset}
+use Rattle.er_journal.specs.Entries.{Call, Entry, Stamp, What, Access, Reset, event_of}
 use Rattle.er_model.specs.Words.{Counted, Nothing}
 use Rattle.er_model.specs.Holdings.{Holdings, holdings_at}
 use Rattle.er_model.specs.Answers.{reading_of}
@@ -30,7 +26,7 @@ use Rattle.er_model.proofs.AnswersLemmas.{reading-step}
 use Rattle.er_model.proofs.Locality.{holdings-local}
 use Rattle.er_model.proofs.Seats.{events-within}
 use Rattle.er_settle.specs.Seats.{SeatList, holdings_by, calls_by}
-use Rattle.er_settle.specs.Faults.{AreDistinct, AreAnswered, IsAlike, event_of, place_of}
+use Rattle.er_settle.specs.Faults.{AreDistinct, AreAnswered, IsAlike, place_of}
 use Rattle.er_settle.specs.Inner.JournalOrder.{EntryAt, IsOrder, entries_at}
 use Rattle.er_settle.specs.Inner.EntryMatches.{AreInTurn}
 use Rattle.er_settle.specs.Inner.CallOrder.{ticketed_turns, entry_turns}

@@ -7,7 +7,7 @@ use Rattle.std.proofs.lemmas.List.{map-append}
 use Rattle.std.proofs.lemmas.List.Elements.{filter-append}
 use Rattle.std.proofs.lemmas.Option.{slice_get_within, slice_get_read}
 use Rattle.er_settle.proofs.ListLemmas.{get_push}
-use Rattle.er_journal.specs.declared.entries.Entry.{Entry}
+use Rattle.er_journal.specs.Entries.{Entry}
 use Rattle.er_settle.proofs.ListLemmas.{index_same, index_other, number_read}
 use Rattle.er_settle.specs.Faults.{EachTwo, EntriesRise, JournalsRise, IsEntry, Not}
 use Rattle.er_settle.specs.Inner.SeatChecks.{IsAbove}

@@ -14,14 +14,11 @@ use Rattle.std.proofs.lemmas.List.{map-append, length-map}
 use Rattle.std.proofs.lemmas.List.Elements.{filter-append}
 use Rattle.std.proofs.lemmas.Option.{slice_get_within}
 use Rattle.er_settle.proofs.ListLemmas.{take_next, all_taken}
-use Rattle.er_event.specs.declared.addresses.PageRange.{PageRange}
 use Rattle.er_event.specs.declared.steps.Event.{Event}
-use Rattle.er_event.specs.declared.steps.Event.TheVariants.{Reuse}
-use Rattle.er_journal.specs.Entries.{Call}
-use Rattle.er_journal.specs.declared.entries.Entry.{Entry}
+use Rattle.er_journal.specs.Entries.{Call, Entry, event_of}
 use Rattle.er_settle.specs.Seats.{SeatList}
 use Rattle.er_settle.specs.Faults.{place_of}
-use Rattle.er_settle.specs.Faults.{EachTwo, AreDistinct, ListsRise, CallsRise, IsSooner, IsEntry, ArePaired, event_of, Not}
+use Rattle.er_settle.specs.Faults.{EachTwo, AreDistinct, ListsRise, CallsRise, IsSooner, IsEntry, ArePaired, Not}
 use Rattle.er_settle.specs.Inner.SeatChecks.{IsIndex}
 use Rattle.er_settle.specs.Inner.JournalOrder.{EntryAt, OrderRises, entries_by, IsOrder}
 use Rattle.er_settle.specs.Inner.EntryMatches.{ticketed_calls, ticketed_entries, AreInTurn, AreGrouped, AllGiven}
@@ -355,7 +352,3 @@ pub deal-not : (seats : List SeatList) (order : List EntryAt) (index : BTreeMap 
 deal-not seats order index k d at here none given =
     let seat = given k d here in
     some_is (get nat_cmp index d.entry.thread) (rw (← seat.3) (at.found seat.0 seat.1 seat.2)) (rw none refl)
-
--- equal reuses are of equal ranges
-pub reuse-parts : (r s : PageRange) → Reuse r ≡ Reuse s → r ≡ s
-reuse-parts r s same = cc

@@ -13,9 +13,9 @@ use Rattle.std.proofs.lemmas.Map.Entries.{btree_map_get_place, place_from_lookup
 use Rattle.std.proofs.lemmas.List.{take-append-drop, append_cancel_left}
 use Rattle.std.proofs.lemmas.Option.{slice_get_within, get_or_from_slice_get}
 use Rattle.er_event.specs.declared.steps.Event.{Event}
-use Rattle.er_journal.specs.Entries.{Call}
+use Rattle.er_journal.specs.Entries.{Call, event_of}
 use Rattle.er_settle.specs.Seats.{SeatList, calls_by}
-use Rattle.er_settle.specs.Faults.{EachTwo, AreDistinct, IsGiven, IsSooner, event_of, Not}
+use Rattle.er_settle.specs.Faults.{EachTwo, AreDistinct, IsGiven, IsSooner, Not}
 use Rattle.er_settle.specs.Inner.SeatChecks.{IsIndex}
 use Rattle.er_settle.specs.Inner.JournalOrder.{EntryAt, OrderRises, entries_by}
 use Rattle.er_settle.specs.Inner.EntryMatches.{ticketed_calls, ticketed_entries, AllAgree}

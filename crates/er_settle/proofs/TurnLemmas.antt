@@ -12,9 +12,9 @@ use Rattle.std.proofs.Math.Seq.{take-add}
 use Rattle.std.proofs.Math.ListN.{drop_of_length-le}
 use Rattle.std.proofs.lemmas.Option.{slice_get_within, slice_get_read, get_or_from_slice_get}
 use Rattle.er_event.specs.declared.steps.Event.{Event}
-use Rattle.er_journal.specs.Entries.{Call}
+use Rattle.er_journal.specs.Entries.{Call, event_of}
 use Rattle.er_settle.specs.Seats.{SeatList}
-use Rattle.er_settle.specs.Faults.{AreDistinct, event_of, Not}
+use Rattle.er_settle.specs.Faults.{AreDistinct, Not}
 use Rattle.er_settle.specs.Inner.SeatChecks.{IsIndex}
 use Rattle.er_settle.specs.Inner.JournalOrder.{EntryAt, entries_by}
 use Rattle.er_settle.specs.Inner.EntryMatches.{ticketed_calls, ticketed_entries, AllAgree}

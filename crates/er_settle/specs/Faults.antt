@@ -1,11 +1,6 @@
 -- What must hold of seats and journals, and which fault is the first if something doesn't.
 use Rattle.std.specs.Prelude.{◌≡◌, ◌<◌, ℕ, List, [], ◌∷◌, length, slice_get, Some, IsSome}
-use Rattle.er_event.specs.declared.steps.Event.{Event}
-use Rattle.er_event.specs.declared.steps.Event.TheVariants as event
-use Rattle.er_journal.specs.Entries.{Call}
-use Rattle.er_journal.specs.declared.entries.Entry.{Entry}
-use Rattle.er_journal.specs.declared.entries.What.{What}
-use Rattle.er_journal.specs.declared.entries.What.TheVariants.{Access, Reset}
+use Rattle.er_journal.specs.Entries.{Call, Entry, What, event_of, first_word_of}
 use Rattle.er_model.specs.Holdings.{Holdings}
 use Rattle.er_journal.specs.Merges.{shard_of, stamp_by, stamps_in}
 use Rattle.er_settle.specs.Seats.{SeatList, holdings_by}
@@ -69,15 +64,9 @@ pub record JournalsRise (journals : List (List Entry)) : Type 0 where
 abbrev pub AreOrdered : List SeatList → List (List Entry) → Type 0
 AreOrdered seats journals = ListsRise seats × JournalsRise journals
 
--- the event that this entry records
-abbrev pub event_of : What → Event
-event_of (Access stamp) = event.Access stamp.kind stamp.word stamp.site
-event_of (Reset range) = event.Reuse range
-
 -- the place of the shard that has the entry's words
 abbrev pub place_of : ℕ → What → ℕ
-place_of shards (Access stamp) = shard_of shards stamp.word
-place_of shards (Reset range) = shard_of shards range.lo
+place_of shards what = shard_of shards (first_word_of what)
 
 -- a call of this thread and an entry at this place have one ticket, one thread and one event, on words of the place
 pub record IsPair (shards : ℕ) (own : ℕ) (c : Call) (p : ℕ) (e : Entry) : Type 0 where

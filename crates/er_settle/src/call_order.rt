@@ -8,7 +8,7 @@ ghost use Rattle.er_settle.specs.Inner.JournalOrder.{OrderRises, IsOrder, IsLeas
 ghost use Rattle.er_settle.specs.Inner.EntryMatches.{AllGiven, AllAgree};
 ghost use Rattle.er_settle.specs.Inner.CallOrder.{turns_by, next_turn, ticketed_turns, entry_turns, AreTaken};
 ghost use Rattle.er_settle.specs.Runs.{calls_of, IsInOrder};
-ghost use Rattle.er_journal.specs.declared.entries.Entry.{Entry as EntryShown};
+ghost use Rattle.er_journal.specs.Entries.{Entry as EntryShown};
 
 use crate::seat_checks::{Index, is_above};
 use crate::{JournalView, Made, SeatView, Unsettled};
@@ -51,14 +51,15 @@ pub(crate) fn merge_journals<'a>(
         let count = journal.len();
         prove!(at < count);
         let entry = &journal[at];
-        if !is_above(last, entry.ticket) {
+        let ticket = entry.ticket();
+        if !is_above(last, ticket) {
             return Err(Unsettled::Order);
         }
         let Ok(()) = order.push(PlacedEntry { place, entry }) else {
             return Err(Unsettled::Memory);
         };
         read[place] = at + 1;
-        last = Some(entry.ticket);
+        last = Some(ticket);
     }
     Ok(order)
 }
@@ -77,7 +78,7 @@ fn next_journal(journals: &[JournalView], read: &[usize]) -> Option<usize>
             continue;
         }
         let entry = &journal[at];
-        least = sooner(least, entry.ticket, place);
+        least = sooner(least, entry.ticket(), place);
     }
     match least {
         Some((_, place)) => Some(place),
@@ -159,7 +160,7 @@ fn take_ticketed<'a>(
     let mut next = vec![in alloc; 0; seats.len()]?;
     let mut turns = Vec::new(alloc);
     for placed in order {
-        let number = placed.entry.thread.number();
+        let number = placed.entry.thread().number();
         let Some(at) = index.get(&number).copied() else {
             unreachable!()
         };

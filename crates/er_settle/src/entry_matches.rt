@@ -1,8 +1,8 @@
 //! Whether each call with a ticket has its entry, and each entry its call.
 ghost use Rattle.std.specs.Prelude.{◌≡◌, ◌<◌, ◌↔◌, List, IsTrue, [], ◌∷◌, Some, IfOk, IfErr};
-ghost use Rattle.er_settle.specs.Faults.{AreDistinct, event_of, place_of, IsAlike};
+ghost use Rattle.er_settle.specs.Faults.{AreDistinct, place_of, IsAlike};
 ghost use Rattle.er_settle.specs.Inner.EntryMatches.{AreGrouped, AllAgree, AllInPlace, ticketed_calls, ticketed_entries, AllGiven, IsUngiven};
-ghost use Rattle.er_journal.specs.declared.entries.Entry.{Entry};
+ghost use Rattle.er_journal.specs.Entries.{event_of};
 ghost use Rattle.er_settle.specs.Inner.SeatChecks.{IsIndex};
 ghost use Rattle.er_held.specs.Held.{nothing_held};
 ghost use Rattle.er_journal.specs.Merges.{stamp_by, stamps_in};
@@ -11,9 +11,9 @@ ghost use Rattle.er_settle.specs.Inner.ReplyMatches.{AreAlike, AllAlike};
 use crate::call_order::PlacedEntry;
 use crate::seat_checks::Index;
 use crate::{Made, SeatView, Unsettled};
-use er_event::{Event, ThreadId};
+use er_event::ThreadId;
 use er_held::Held;
-use er_journal::{Call, Entry, What};
+use er_journal::{Call, Entry};
 use std::alloc::Global;
 use std::marker::Model;
 
@@ -48,7 +48,7 @@ pub(crate) fn group_by_thread<'a>(
     let mut groups = empty_groups(alloc, seats)?;
     for placed in order {
         let (place, entry) = (placed.place, placed.entry);
-        let thread = entry.thread.number();
+        let thread = entry.thread().number();
         let Some(at) = index.get(&thread).copied() else {
             return Err(Unsettled::Entries);
         };
@@ -85,24 +85,12 @@ fn is_matched<'a>(calls: &[Call], group: &[PlacedEntry<'a>]) -> bool
         }
         let placed = &group[at];
         let entry = placed.entry;
-        if ticket != entry.ticket || !is_event_of(call.event(), &entry.what) {
+        if ticket != entry.ticket() || !entry.records(call.event()) {
             return false;
         }
         at += 1;
     }
     at == group.len()
-}
-
-fn is_event_of(event: Event, what: &What) -> bool
-    ensures { IsTrue result ↔ (event ≡ event_of what.now) }
-{
-    match (what, event) {
-        (What::Access(stamp), Event::Access(kind, word, site)) => {
-            kind == stamp.kind() && word == stamp.word() && site == stamp.site()
-        }
-        (What::Reset(range), Event::Reuse(reused)) => reused == *range,
-        _ => false,
-    }
 }
 
 /// Whether each seat's calls with tickets and the entries of its thread agree, one after the other.
@@ -134,11 +122,7 @@ fn is_in_place(shards: usize, placed: &PlacedEntry) -> bool
     requires { 0 < shards }
     ensures { IsTrue result ↔ (place_of shards placed.now.entry.what ≡ placed.now.place) }
 {
-    let word = match &placed.entry.what {
-        What::Access(stamp) => stamp.word(),
-        What::Reset(range) => range.lo,
-    };
-    word.page() as usize % shards == placed.place
+    placed.entry.first_word().page() as usize % shards == placed.place
 }
 
 /// Whether each seat's calls have the replies and the locks of their entries.
@@ -188,19 +172,18 @@ fn is_alike(held: &Held, thread: ThreadId, call: &Call, entry: &Entry) -> bool
     requires { call.now.event ≡ event_of entry.now.what }
     ensures { IsTrue result ↔ IsAlike held.now thread call.now entry.now }
 {
-    entry.reply.is_same(&call.reply()) && is_stamped(held, thread, entry)
+    entry.reply() == call.reply() && is_stamped(held, thread, entry)
 }
 
 fn is_stamped(held: &Held, thread: ThreadId, entry: &Entry) -> bool
     ensures { IsTrue result ↔ (stamp_by held.now thread (event_of entry.now.what) ≡ stamps_in (entry.now ∷ [])) }
 {
-    match &entry.what {
-        What::Access(stamp) => {
+    match entry.locks() {
+        Some(locks) => {
             !held.ignoring()
-                && stamp.thread() == thread
-                && *stamp.held() == *held.held()
-                && *stamp.write_held() == *held.write_held()
+                && entry.thread() == thread
+                && locks.are(held.held(), held.write_held())
         }
-        What::Reset(_) => true,
+        None => true,
     }
 }

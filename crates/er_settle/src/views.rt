@@ -69,7 +69,7 @@ pub struct JournalView<'a> {
 
 impl<'a> Model for JournalView<'a> {
     ghost use Rattle.std.specs.Prelude.{List};
-    ghost use Rattle.er_journal.specs.declared.entries.Entry.{Entry as EntryShown};
+    ghost use Rattle.er_journal.specs.Entries.{Entry as EntryShown};
     ghost use Rattle.er_journal.specs.Journals.{IsLegalJournal};
 
     ghost Value = { List EntryShown };

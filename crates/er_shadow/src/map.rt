@@ -11,8 +11,8 @@ ghost use Rattle.er_table.specs.Sets.{most_sets};
 use crate::Hints;
 use crate::page::{Page, WORDS};
 use crate::refining::{is_settled, named, step};
-use er_event::{Event, Kind, Lockset, NoRoom, PageRange, Reply, Step, ThreadId, Word, WordState};
-use er_journal::Stamp;
+use er_event::{Event, Kind, Lockset, NoRoom, PageRange, Step, ThreadId, Word, WordState};
+use er_journal::{BriefReply, Stamp};
 use er_keys::{HashKeys, NumberHasher, index_of};
 use er_owner::Shadow;
 use er_table::{Grow, Known, KnownIn, LocksetTable, OwnKnown, Owned, Shared, Store};
@@ -214,7 +214,7 @@ impl<S: Store> Words<S> {
     }
 
     /// The access of a stamp, as `access_noting` takes it. Returns whether it is reported as a race.
-    pub fn apply<R>(&mut self, rt: &R, stamp: &Stamp) -> Result<Reply, NoRoom>
+    pub fn apply<R>(&mut self, rt: &R, stamp: &Stamp) -> Result<BriefReply, NoRoom>
     where
         S: Grow<R>,
         ensures ok { OnOk result ((w : ℕ) → states self.new w ≡ moved (states self.old w) w (Counted stamp.now.thread stamp.now.kind stamp.now.word (stamped stamp.now stamp.now.kind))) }
@@ -224,16 +224,12 @@ impl<S: Store> Words<S> {
         ensures own { states self.old stamp.now.word ≡ Exclusive stamp.now.thread → IsOk result }
         ensures refusals { ¬ IsErrOf result NoRoom.JournalFull }
     {
-        let locks = match stamp.kind() {
-            Kind::Read => stamp.held(),
-            Kind::Write => stamp.write_held(),
+        let locks = match stamp.kind {
+            Kind::Read => stamp.locks.held(),
+            Kind::Write => stamp.locks.write_held(),
         };
-        let noted = self.access_noting(rt, stamp.thread(), stamp.word(), stamp.kind(), locks)?;
-        Ok(if noted.is_race {
-            Reply::Race
-        } else {
-            Reply::Quiet
-        })
+        let noted = self.access_noting(rt, stamp.thread, stamp.word, stamp.kind, locks)?;
+        Ok(BriefReply::of_access(noted.is_race))
     }
 
     /// Reads what stands for the words that these steps access, the first [`AHEAD`](ShadowMap::AHEAD) at most. Nothing waits for what is read, so the words

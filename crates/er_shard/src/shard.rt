@@ -1,14 +1,14 @@
 //! A shard: its words, and the journal of which they are the replay.
 ghost use Rattle.std.specs.Prelude.{ℕ, ◌≡◌, ◌≤◌, ◌<◌, ◌⊎◌, ◌+◌, [], Bool, length, IsTrue, IfOk, IsErrOf, OnOk, OnErr, vec_capacity};
 ghost use Rattle.er_event.specs.declared.steps.WordState.TheVariants.{Virgin};
+ghost use Rattle.er_journal.specs.Entries.{Access, Reset};
 ghost use Rattle.er_journal.specs.Journals.{IsLegalJournal, journal_state, notes_of, mark_of_what};
 ghost use Rattle.er_model.specs.Parts.{FitsEnd};
-ghost use Rattle.er_shadow.specs.Replies.{reply_if};
 ghost use Rattle.er_shadow.specs.Shadows.{needs_set, states};
 ghost use Rattle.er_shard.specs.Journaled.{entry_of};
 
 use er_event::{NoRoom, PageRange, Reply, ThreadId, Word, WordState};
-use er_journal::{BriefReply, Entry, Stamp, What};
+use er_journal::{BriefReply, Entry, Stamp};
 use er_shadow::{OwnWords, ShadowMap, Words};
 use er_table::{Grow, LocksetTable, Owned, Shared, Store};
 use std::alloc::{AllocError, Global};
@@ -127,11 +127,11 @@ impl<S: Store> ShardIn<S> {
 
     /// Takes a counted access, and returns `Race` if it is reported, else `Quiet`. Refused if the journal is full (`JournalFull`), if a set of locks
     /// finds no place in the table (`TableFull`), and if there is no memory (`OutOfMemory`).
-    pub fn apply<R>(&mut self, rt: &R, ticket: u64, stamp: Stamp) -> Result<Reply, NoRoom>
+    pub fn apply<R>(&mut self, rt: &R, ticket: u64, stamp: Stamp) -> Result<BriefReply, NoRoom>
     where
         S: Grow<R>,
-        ensures entry { IfOk result (λ reply. self.new ≡ with_entry self.old (entry_of ticket stamp.thread (What.Access stamp) reply)) }
-        ensures reply { IfOk result (λ reply. FitsEnd (notes_of self.old.journal) (mark_of_what (What.Access stamp)) reply) }
+        ensures entry { IfOk result (λ reply. self.new ≡ with_entry self.old (entry_of ticket stamp.thread (Access stamp) reply)) }
+        ensures reply { IfOk result (λ reply. FitsEnd (notes_of self.old.journal) (mark_of_what (Access stamp)) reply) }
         ensures race_or_quiet { IfOk result (λ reply. (reply ≡ Reply.Race) ⊎ (reply ≡ Reply.Quiet)) }
         ensures err { OnErr result (self.new ≡ self.old) }
         ensures full { self.old.limit ≤ length self.old.journal → IsErrOf result NoRoom.JournalFull }
@@ -142,18 +142,14 @@ impl<S: Store> ShardIn<S> {
     {
         reserve_entry(&mut self.journal, self.limit)?;
         let reply = self.words.apply(rt, &stamp)?;
-        self.journal.push_reserved(Entry {
-            ticket,
-            thread: stamp.thread(),
-            what: What::Access(stamp),
-            reply: in_brief(&reply),
-        });
+        self.journal
+            .push_reserved(Entry::access(ticket, stamp, reply));
         Ok(reply)
     }
 
     /// Makes the words of a range virgin. Refused if the journal is full (`JournalFull`), and if there is no memory (`OutOfMemory`).
     pub fn reset(&mut self, ticket: u64, thread: ThreadId, range: PageRange) -> Result<(), NoRoom>
-        ensures entry { OnOk result (self.new ≡ with_entry self.old (entry_of ticket thread (What.Reset range) Reply.Done)) }
+        ensures entry { OnOk result (self.new ≡ with_entry self.old (entry_of ticket thread (Reset range) Reply.Done)) }
         ensures err { OnErr result (self.new ≡ self.old) }
         ensures full { self.old.limit ≤ length self.old.journal → IsErrOf result NoRoom.JournalFull }
         ensures full_only { IsErrOf result NoRoom.JournalFull → self.old.limit ≤ length self.old.journal }
@@ -162,12 +158,8 @@ impl<S: Store> ShardIn<S> {
         reserve_entry(&mut self.journal, self.limit)?;
         let range = &range;
         self.words.reset(*range);
-        self.journal.push_reserved(Entry {
-            ticket,
-            what: What::Reset(*range),
-            thread,
-            reply: BriefReply::done(),
-        });
+        self.journal
+            .push_reserved(Entry::reset(ticket, thread, *range));
         Ok(())
     }
 }
@@ -186,11 +178,4 @@ fn reserve_entry(journal: &mut Vec<Entry>, limit: u32) -> Result<(), NoRoom>
     }
     journal.reserve(1)?;
     Ok(())
-}
-
-/// The reply to a counted access, a race or quiet, in one byte.
-pub fn in_brief(reply: &Reply) -> BriefReply
-    ensures { (reported : Bool) → reply.now ≡ reply_if reported → result ≡ reply.now }
-{
-    BriefReply::of_access(matches!(reply, Reply::Race))
 }

@@ -3,7 +3,7 @@ use Rattle.std.proofs.Common.{◌≡◌, ◌∙◌, ℕ, ◌+◌, ◌<◌, List,
 use Rattle.std.proofs.lemmas.List.{map-append, take-append-drop, append_assoc, take-map, map_more, map-set, take_more_set, drop-set-lt, length-map, drop_more}
 use Rattle.std.proofs.lemmas.Grind.{drop_more_same}
 use Rattle.std.specs.Prelude.{Option, Some, None, Result, Ok, Err, IfOk, IfErr, IfSome, IfNone, IsErrAnd, slice_get, ◌==◌}
-use Rattle.er_journal.specs.declared.entries.Entry.{Entry}
+use Rattle.er_journal.specs.Entries.{Entry}
 use Rattle.er_settle.proofs.ListLemmas.{take_next}
 use Rattle.er_settle.specs.Faults.{IsFirst}
 use Rattle.er_settle.specs.Seats.{SeatList}

@@ -6,7 +6,7 @@ use Rattle.er_event.specs.declared.steps.Event.TheVariants as event
 use Rattle.er_event.specs.declared.steps.Kind.{Kind}
 use Rattle.er_event.specs.declared.steps.Reply.TheVariants.{Done}
 use Rattle.er_journal.specs.Journals.{journal_state, mark_of_what, notes_of}
-use Rattle.er_journal.specs.declared.entries.What.TheVariants.{Access, Reset}
+use Rattle.er_journal.specs.Entries.{Access, Reset}
 use Rattle.er_model.specs.Parts.{FitsEnd}
 use Rattle.er_seat.specs.Seats.{access_stamp, holdings_of, ticketed, with_call}
 use Rattle.er_settle.specs.Seats.{SeatList}

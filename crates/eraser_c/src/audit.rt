@@ -50,12 +50,8 @@ pub extern "C" fn eraser_seat_new(alloc: Global, thread: &mut Handle, name: u64,
     let Ok(made) = VacantSeat::new(alloc, name) else {
         return Status::Refused(Refusal::OutOfMemory).number();
     };
-    fill(
-        alloc,
-        thread,
-        Kept::Seat(made.into_seat(ThreadId::new(number))),
-    )
-    .number()
+    let seat = Kept::Seat(made.into_seat(ThreadId::new(number)));
+    fill(alloc, thread, seat).number()
 }
 
 /// The seat's thread reads the word at an address, or writes it if `writes`, under a ticket: the seat's list and the shard's journal get it. An access in
@@ -75,14 +71,10 @@ pub extern "C" fn eraser_record(
     ensures thread { 2 ^ 48 ≤ address → thread.new.kept_box.kept ≡ thread.old.kept_box.kept }
 {
     match Word::of_address(address) {
-        Ok(word) => record(
-            alloc,
-            shard,
-            thread,
-            ticket,
-            Use::Access(kind_of(writes), word),
-        )
-        .number(),
+        Ok(word) => {
+            let access = Use::Access(kind_of(writes), word);
+            record(alloc, shard, thread, ticket, access).number()
+        }
         Err(_) => Status::Refused(Refusal::AddressOutOfRange).number(),
     }
 }
@@ -106,13 +98,10 @@ pub extern "C" fn eraser_record_reset(
     ensures none { bytes ≡ 0 → address < 2 ^ 48 → (result ≡ number_of Status.Quiet) × ((thread.new.kept_box.kept ≡ thread.old.kept_box.kept) × (shard.new.kept_box.kept ≡ shard.old.kept_box.kept)) }
 {
     match words_of(address, bytes) {
-        Ok(words) if words.parts() == 1 => record(
-            alloc,
-            shard,
-            thread,
-            ticket,
-            Use::Reset(words.part(0)),
-        ).number(),
+        Ok(words) if words.parts() == 1 => {
+            let reset = Use::Reset(words.part(0));
+            record(alloc, shard, thread, ticket, reset).number()
+        }
         Ok(_) => Status::Refused(Refusal::SizeTooLarge).number(),
         Err(status) => status.number(),
     }

@@ -70,12 +70,8 @@ pub extern "C" fn eraser_thread_free(alloc: Global, thread: &mut Handle) -> u32
 pub extern "C" fn eraser_acquire(alloc: Global, thread: &mut Handle, lock: u32, writes: bool) -> u32
     ensures { IsChanged thread.old.kept_box.kept thread.new.kept_box.kept (Event.Acquire lock (mode_of writes)) result }
 {
-    change(
-        alloc,
-        thread,
-        Event::Acquire(LockId::new(lock), mode_of(writes)),
-    )
-    .number()
+    let acquire = Event::Acquire(LockId::new(lock), mode_of(writes));
+    change(alloc, thread, acquire).number()
 }
 
 /// The thread gives up a lock, which it holds in write mode if `writes`, else in read mode.
@@ -83,12 +79,8 @@ pub extern "C" fn eraser_acquire(alloc: Global, thread: &mut Handle, lock: u32, 
 pub extern "C" fn eraser_release(alloc: Global, thread: &mut Handle, lock: u32, writes: bool) -> u32
     ensures { IsChanged thread.old.kept_box.kept thread.new.kept_box.kept (Event.Release lock (mode_of writes)) result }
 {
-    change(
-        alloc,
-        thread,
-        Event::Release(LockId::new(lock), mode_of(writes)),
-    )
-    .number()
+    let release = Event::Release(LockId::new(lock), mode_of(writes));
+    change(alloc, thread, release).number()
 }
 
 /// Opens an ignore bracket of the thread, in which its accesses don't count. Brackets may nest.

@@ -31,13 +31,8 @@ pub(crate) fn settle(
         put_back(alloc, shards, kept_shards);
         return Err(Status::Refused(Refusal::OutOfMemory));
     };
-    let told = settle_kept(
-        alloc,
-        name,
-        opened,
-        kept_shards.as_slice(),
-        kept_seats.as_slice(),
-    );
+    let (journals, lists) = (kept_shards.as_slice(), kept_seats.as_slice());
+    let told = settle_kept(alloc, name, opened, journals, lists);
     put_back(alloc, shards, kept_shards);
     put_back(alloc, seats, kept_seats);
     told

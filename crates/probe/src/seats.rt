@@ -4,7 +4,7 @@ use crate::work::{Detectors, Fault, Found, Made, Work, World, count_of, made};
 use crate::writing::{put_reply, put_run, put_seat};
 use er_detector::{Config, Detector, settle};
 use er_event::{Event, Kind, LockId, Lockset, Mode, NoRoom, Refusal, Reply, Site, ThreadId, Word};
-use er_journal::{HeldLocks, Stamp, What};
+use er_journal::{HeldLocks, Stamp};
 use er_seat::Seat;
 use er_shard::Shard;
 use std::alloc::Global;
@@ -108,24 +108,27 @@ pub(crate) fn enter<R: Host>(rt: &R, detectors: &Detectors, work: &mut Work) -> 
     let ticket = work.ticket()?;
     work.take("thread")?;
     let thread = work.thread()?;
-    let what = what_of(rt.alloc(), thread, work)?;
-    let mut shard = detectors.shard(rt, place)?;
-    let reply = match what {
-        What::Access(stamp) => shard.apply(rt, ticket, stamp),
-        What::Reset(range) => shard.reset(ticket, thread, range).map(|_| Reply::Done),
+    let reply = if work.take("reset").is_ok() {
+        let range = work.part()?;
+        let mut shard = detectors.shard(rt, place)?;
+        shard.reset(ticket, thread, range).map(|_| Reply::Done)
+    } else {
+        let stamp = stamp_of(rt.alloc(), thread, work)?;
+        let mut shard = detectors.shard(rt, place)?;
+        shard.apply(rt, ticket, stamp).map(|reply| reply.reply())
     };
-    drop(shard);
     Ok(put_reply(&mut work.answer, reply.map_err(NoRoom::refusal)?)?)
 }
 
-// `KIND ADDRESS holding LOCK ..` or `reset ADDRESS SIZE`.
-fn what_of(alloc: Global, thread: ThreadId, work: &mut Work) -> Found<What> {
-    if work.take("reset").is_ok() {
-        return Ok(What::Reset(work.part()?));
-    }
-    let (kind, word) = (work.kind()?, work.word()?);
-    let locks = held_of(alloc, work)?;
-    Ok(What::Access(Stamp::new(thread, word, kind, Site::MISSING, locks)))
+// `KIND ADDRESS holding LOCK ..`.
+fn stamp_of(alloc: Global, thread: ThreadId, work: &mut Work) -> Found<Stamp> {
+    Ok(Stamp {
+        thread,
+        kind: work.kind()?,
+        word: work.word()?,
+        site: Site::MISSING,
+        locks: held_of(alloc, work)?,
+    })
 }
 
 // `holding LOCK ..`: the locks that a thread holds, in which `LOCKr` is held in read mode alone.

@@ -2,7 +2,7 @@
 use er_detector::Run;
 use er_event::{Event, Kind, LockId, Lockset, Mode, PageRange, Reply, Site, WordState};
 use er_explain::Explanation;
-use er_journal::{Answer, Answers, Entry, Stamp, What};
+use er_journal::{Answer, Answers, Entry};
 use er_seat::Seat;
 use std::alloc::AllocError;
 use std::fmt::Write;
@@ -78,19 +78,16 @@ pub(crate) fn put_reply(out: &mut String, reply: Reply) -> Put {
     put_view(out, view(&reply))
 }
 
-fn kind_text(kind: Kind) -> &'static str {
-    match kind {
-        Kind::Read => "read",
-        Kind::Write => "write",
-    }
-}
-
 fn put_event(out: &mut String, event: Event) -> Put {
     match event {
         Event::Acquire(lock, mode) => put_lock_event(out, "acquire", lock, mode),
         Event::Release(lock, mode) => put_lock_event(out, "release", lock, mode),
         Event::Access(kind, word, site) => {
-            write!(out, "{} {:#x}", kind_text(kind), word.address())?;
+            out.push_str(match kind {
+                Kind::Read => "read ",
+                Kind::Write => "write ",
+            })?;
+            write!(out, "{:#x}", word.address())?;
             if site != Site::MISSING {
                 write!(out, " {}", site.number())?;
             }
@@ -142,22 +139,21 @@ pub(crate) fn put_entries(out: &mut String, entries: &[Entry]) -> Put {
 }
 
 fn put_entry(out: &mut String, entry: &Entry) -> Put {
-    let (ticket, thread) = (entry.ticket, entry.thread.number());
+    let (ticket, thread) = (entry.ticket(), entry.thread().number());
     write!(out, "ticket {ticket} thread {thread} ")?;
-    match &entry.what {
-        What::Access(stamp) => put_stamp(out, stamp)?,
-        What::Reset(range) => put_range(out, "reset", range)?,
+    match entry.event() {
+        Event::Reuse(range) => put_range(out, "reset", &range)?,
+        access => {
+            write!(out, "by {thread} ")?;
+            put_event(out, access)?;
+        }
+    }
+    if let Some(locks) = entry.locks() {
+        put_locks(out, " holding ", locks.held())?;
+        put_locks(out, " to write ", locks.write_held())?;
     }
     out.push_str(" ")?;
-    put_reply(out, entry.reply.reply())
-}
-
-fn put_stamp(out: &mut String, stamp: &Stamp) -> Put {
-    let (thread, kind) = (stamp.thread().number(), kind_text(stamp.kind()));
-    let address = stamp.word().address();
-    write!(out, "by {thread} {kind} {address:#x}")?;
-    put_locks(out, " holding ", stamp.held())?;
-    put_locks(out, " to write ", stamp.write_held())
+    put_reply(out, entry.reply().reply())
 }
 
 /// A settled run.

@@ -2,9 +2,9 @@
 use Rattle.std.specs.Prelude.{◌≡◌, ◌<◌, ◌≤◌, ℕ, cond, List, [], ◌∷◌, length, take, map, filter, slice_get, slice_index, Option, Some, None}
 use Rattle.std.specs.Option.{is_some}
 use Rattle.er_event.specs.declared.steps.Event.{Event}
-use Rattle.er_journal.specs.Entries.{Call}
+use Rattle.er_journal.specs.Entries.{Call, event_of}
 use Rattle.er_settle.specs.Seats.{SeatList}
-use Rattle.er_settle.specs.Faults.{IsGiven, event_of}
+use Rattle.er_settle.specs.Faults.{IsGiven}
 use Rattle.er_settle.specs.Inner.JournalOrder.{EntryAt}
 use Rattle.er_settle.specs.Runs.{TurnShown, turn_of, calls_of, HasNext, HasTicketLater}
 

@@ -1,7 +1,7 @@
 -- What the checks of names, numbers and tickets find.
 use Rattle.std.specs.Prelude.{ℕ, List}
 use Rattle.std.specs.BTreeMap.{BTreeMap}
-use Rattle.er_journal.specs.declared.entries.Entry.{Entry}
+use Rattle.er_journal.specs.Entries.{Entry}
 use Rattle.er_settle.specs.Seats.{SeatList}
 use Rattle.er_settle.specs.Faults.{AreOfDetector, AreDistinct, AreComplete, AreOrdered}
 use Rattle.er_settle.specs.Inner.SeatChecks.{AreLegal, IsIndex}

@@ -2,11 +2,10 @@
 use Rattle.std.specs.Prelude.{◌≡◌, ℕ, List, length, map, filter, slice_get, Option, Some, ◌⊎◌}
 use Rattle.std.specs.Option.{is_some}
 use Rattle.er_event.specs.declared.steps.Event.{Event}
-use Rattle.er_journal.specs.Entries.{Call}
-use Rattle.er_journal.specs.declared.entries.Entry.{Entry}
+use Rattle.er_journal.specs.Entries.{Call, Entry, event_of}
 use Rattle.er_settle.specs.Seats.{SeatList}
 use Rattle.er_settle.specs.Faults.{place_of}
-use Rattle.er_settle.specs.Faults.{IsGiven, event_of, Not}
+use Rattle.er_settle.specs.Faults.{IsGiven, Not}
 use Rattle.er_settle.specs.declared.unsettled.Unsettled.{Unsettled}
 use Rattle.er_settle.specs.declared.unsettled.Unsettled.TheVariants.{Entries, Memory}
 use Rattle.er_settle.specs.Inner.JournalOrder.{EntryAt, entries_by}

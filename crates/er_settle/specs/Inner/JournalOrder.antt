@@ -1,6 +1,6 @@
 -- All entries in the order of their tickets.
 use Rattle.std.specs.Prelude.{◌≡◌, ◌<◌, ◌≤◌, ◌+◌, ℕ, List, [], ◌==◌, length, take, map, filter, slice_get, slice_index, Option, Some, None, nat_le, if◌then◌else◌, ◌-◌, ◌^◌, ◌⊎◌}
-use Rattle.er_journal.specs.declared.entries.Entry.{Entry}
+use Rattle.er_journal.specs.Entries.{Entry}
 use Rattle.er_settle.specs.Faults.{IsEntry, EachTwo, Not, JournalsRise}
 use Rattle.er_settle.specs.declared.unsettled.Unsettled.{Unsettled}
 use Rattle.er_settle.specs.declared.unsettled.Unsettled.TheVariants.{Order, Memory}

@@ -2,8 +2,7 @@
 use Rattle.std.specs.Prelude.{◌≡◌, ◌<◌, ◌≤◌, ◌⊎◌, ℕ, List, slice_get, Option, Some, None, IsSome}
 use Rattle.std.specs.Ordering.{nat_cmp}
 use Rattle.std.specs.BTreeMap.{get, BTreeMap}
-use Rattle.er_journal.specs.Entries.{Call}
-use Rattle.er_journal.specs.declared.entries.Entry.{Entry}
+use Rattle.er_journal.specs.Entries.{Call, Entry}
 use Rattle.er_journal.specs.Journals.{IsLegalJournal}
 use Rattle.er_settle.specs.Seats.{SeatList, IsSeatList}
 use Rattle.er_settle.specs.Faults.{AreDistinct, Not}

@@ -1,7 +1,7 @@
 use Rattle.std.proofs.Common.{◌≡◌, refl, arith, List}
 use Rattle.std.specs.Prelude.{slice_get, slice_index, Some}
 use Rattle.std.proofs.lemmas.Option.{slice_get_read, slice_get_within}
-use Rattle.er_journal.specs.declared.entries.Entry.{Entry}
+use Rattle.er_journal.specs.Entries.{Entry}
 use Rattle.er_journal.specs.Journals.{IsLegalJournal}
 use Rattle.er_settle.proofs.ListLemmas.{each_next}
 use Rattle.er_settle.proofs.OrderLemmas.{soonest-past, soonest-more, least-some, least-none}
@@ -13,7 +13,7 @@ loop-place-preserved c =
     let next : slice_get c.index-journals-place.result (slice_index c.args.read.now c.loop-place.place) ≡ Some c.index-journal-at.result =
     rw (← c.entries-journal.ensures.entries) (slice_get_read _ _ _ _ refl c.if-at-journal.false c.index-journal-at.is) in
     record {
-      soonest = soonest-more c.args.journals.now c.args.read.now c.loop-place.place c.index-journals-place.result c.index-journal-at.result c.loop-place.least _ here next c.sooner-least.ensures c.loop-place.invariant.soonest;
+      soonest = soonest-more c.args.journals.now c.args.read.now c.loop-place.place c.index-journals-place.result c.index-journal-at.result c.loop-place.least _ here next (rw c.ticket.ensures at c.sooner-least.ensures) c.loop-place.invariant.soonest;
       legal = each_next (List Entry) IsLegalJournal c.args.journals.now c.loop-place.place c.index-journals-place.result here c.entries-journal.ensures.legal c.loop-place.invariant.legal;
     }
 

@@ -1,6 +1,6 @@
 use Rattle.std.proofs.Common.{◌≡◌, ◌<◌, ℕ, List}
 use Rattle.std.specs.Prelude.{slice_get, Some}
-use Rattle.er_journal.specs.declared.entries.Entry.{Entry}
+use Rattle.er_journal.specs.Entries.{Entry}
 use Rattle.er_journal.specs.Journals.{IsLegalJournal}
 use Rattle.er_settle.specs.Inner.JournalOrder.{IsSoonest}
 use Rattle.er_settle.proofs.call_order.next_journal.Given as goal

@@ -4,14 +4,14 @@ use Rattle.std.proofs.lemmas.Bool.{and_parts, and_from, eqb-true, eq-eqb}
 use Rattle.er_event.specs.declared.addresses.PageRange.{PageRange}
 use Rattle.er_event.specs.declared.steps.Event.TheVariants.{Reuse}
 use Rattle.er_event.proofs.SpanLemmas.{same_range}
-use Rattle.er_settle.proofs.PairLemmas.{reuse-parts}
-use Rattle.er_settle.proofs.entry_matches.is_event_of.Goals as goal
+use Rattle.er_journal.proofs.RangeLemmas.{reuse-parts}
+use Rattle.er_journal.proofs.entries.Entry.records.Goals as goal
 
 pub returns-in-Reset-Reuse : goal.returns-in-Reset-Reuse
 returns-in-Reset-Reuse c =
     let range = c.in-Reset-Reuse.range in
     let reused = c.in-Reset-Reuse.reused in
-    rw (c.in-Reset-Reuse.is-0, c.in-Reset-Reuse.is-1) (
+    rw (← c.self.view_is, c.in-Reset-Reuse.is-0, c.in-Reset-Reuse.is-1) (
       λ yes. (let both = and_parts _ _ (sym c.eq-in-Reset-Reuse.ensures ∙ yes) in
           ap Reuse (same_range reused range (eqb-true reused.lo range.lo both.0) (eqb-true reused.hi range.hi both.1))),
       λ same. (let parts = reuse-parts reused range same in
