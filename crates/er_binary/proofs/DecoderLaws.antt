@@ -1,5 +1,5 @@
 -- What a decoder still gives, where its text is given, and piece by piece.
-use Rattle.std.proofs.Common.{◌≡◌, ◌==◌, ℕ, ◌+◌, ◌-◌, ◌/◌, ◌<◌, ◌≤◌, List, [], ◌++◌, length, take, drop, vec_items, vec_len, Option, Some, None, option_map, if◌then◌else◌, refl, sym, ap, ◌∙◌, append_assoc, arith, rules}
+use Rattle.std.proofs.Common.{◌≡◌, ◌==◌, ℕ, ◌+◌, ◌<◌, ◌≤◌, List, [], ◌++◌, length, take, drop, vec_items, vec_len, Option, Some, None, option_map, if◌then◌else◌, refl, sym, ap, ◌∙◌, append_assoc, rules}
 use Rattle.std.proofs.lemmas.List.{drop-drop, drop_all, drop_at, take_at, take-append-drop, take-append-le}
 use Rattle.std.specs.Io.KnownBytes.{Consumes, IsAtEnd, Keeps, prepend_known}
 use Rattle.er_binary.specs.Meaning.{Making, as_text, Taken, damaged, past, spot_at, take_record}
@@ -7,29 +7,20 @@ use Rattle.er_binary.specs.Numbers.{number, number_in, plus}
 use Rattle.er_binary.specs.States.{at_block}
 use Rattle.er_binary.specs.declared.decoder.Phase.{Phase}
 use Rattle.er_binary.proofs.MeaningLaws.{record_end, record_none, record_some}
-use Rattle.er_binary.specs.Inner.Words.{AreTaken, words_text}
-use Rattle.er_binary.specs.declared.state.Words.{Words}
-use Rattle.er_binary.proofs.LineLemmas.{lines_none}
-use Rattle.er_binary.specs.Inner.Decoders.{HasGiven, IsGiven, all_blocks, all_content, all_records, still, undecoded}
+use Rattle.er_binary.specs.Inner.Decoders.{HasGiven, all_blocks, all_content, all_records, still, undecoded}
 use Rattle.er_binary.specs.declared.decoder.Decoder.{Decoder}
 use Rattle.er_binary.specs.declared.state.State.{State}
 use Rattle.er_binary.specs.declared.decoder.Phase.TheVariants as phase
 
--- where the text is given, the words of the last access and what is undecoded are left
-pub words_left : (d : Decoder) (rest : List ℕ) → HasGiven d → still d rest ≡ words_text d.state d.words ++ undecoded as_text d.phase d rest
+-- where the text is given, what is undecoded is left
+pub given_is : (d : Decoder) (rest : List ℕ) → HasGiven d → still d rest ≡ undecoded as_text d.phase d rest
 unfolding still
-words_left d rest given =
+given_is d rest given =
     let all : length (vec_items d.text) ≤ d.given = search rules in
-    ap (λ (t : List ℕ). t ++ (words_text d.state d.words ++ undecoded as_text d.phase d rest)) (drop_all d.given (vec_items d.text) all)
-
-pub words_none : (s : State) (w : Words) → AreTaken w → words_text s w ≡ []
-words_none s w none = lines_none s _ w.node (w.at / 4) (w.end - w.at / 4) (omega arith)
-
-pub given_is : (d : Decoder) (rest : List ℕ) → IsGiven d → still d rest ≡ undecoded as_text d.phase d rest
-given_is d rest given = words_left d rest given.0 ∙ ap (λ (t : List ℕ). t ++ undecoded as_text d.phase d rest) (words_none d.state d.words given.1)
+    ap (λ (t : List ℕ). t ++ undecoded as_text d.phase d rest) (drop_all d.given (vec_items d.text) all)
 
 -- two decoders whose text is given still give the same, if the same is undecoded
-pub same_undecoded : (d e : Decoder) (rest : List ℕ) → IsGiven d → IsGiven e → undecoded as_text d.phase d rest ≡ undecoded as_text e.phase e rest → still d rest ≡ still e rest
+pub same_undecoded : (d e : Decoder) (rest : List ℕ) → HasGiven d → HasGiven e → undecoded as_text d.phase d rest ≡ undecoded as_text e.phase e rest → still d rest ≡ still e rest
 same_undecoded d e rest given done same = given_is d rest given ∙ same ∙ sym (given_is e rest done)
 
 -- a piece of a text is given, and the rest is left
@@ -40,18 +31,18 @@ piece_given text buffer rest given n is =
     rw (is, back) (ap (λ (t : List ℕ). t ++ rest) (sym (take-append-drop n left)) ∙ append_assoc (take n left) (drop n left) rest)
 
 -- what is left in each phase
-pub header_is : (d : Decoder) (rest : List ℕ) → IsGiven d → d.phase ≡ phase.Header → still d rest ≡ all_blocks as_text d.spot.block d.spot.start d.state (take d.header_held d.header ++ rest)
+pub header_is : (d : Decoder) (rest : List ℕ) → HasGiven d → d.phase ≡ phase.Header → still d rest ≡ all_blocks as_text d.spot.block d.spot.start d.state (take d.header_held d.header ++ rest)
 header_is d rest given at = given_is d rest given ∙ ap (λ (p : Phase). undecoded as_text p d rest) at
 
-pub content_is : (d : Decoder) (rest : List ℕ) → IsGiven d → d.phase ≡ phase.Content → still d rest ≡ all_content as_text d.spot (vec_len d.bytes) d.state (take d.held (vec_items d.bytes) ++ rest)
+pub content_is : (d : Decoder) (rest : List ℕ) → HasGiven d → d.phase ≡ phase.Content → still d rest ≡ all_content as_text d.spot (vec_len d.bytes) d.state (take d.held (vec_items d.bytes) ++ rest)
 content_is d rest given at = given_is d rest given ∙ ap (λ (p : Phase). undecoded as_text p d rest) at
 
-pub record_is : (d : Decoder) (rest : List ℕ) → IsGiven d → d.phase ≡ phase.Record
+pub record_is : (d : Decoder) (rest : List ℕ) → HasGiven d → d.phase ≡ phase.Record
     → still d rest ≡ all_records as_text (plus d.spot.start (16 + vec_len d.bytes)) d.spot d.state (drop d.next (vec_items d.bytes)) rest
 record_is d rest given at = given_is d rest given ∙ ap (λ (p : Phase). undecoded as_text p d rest) at
 
 -- behind the last record of a block
-pub end_is : (d : Decoder) (rest : List ℕ) → IsGiven d → d.phase ≡ phase.Record → d.next ≡ vec_len d.bytes
+pub end_is : (d : Decoder) (rest : List ℕ) → HasGiven d → d.phase ≡ phase.Record → d.next ≡ vec_len d.bytes
     → still d rest ≡ (if d.spot.found == d.spot.count then all_blocks as_text (plus d.spot.block 1) (plus d.spot.start (16 + vec_len d.bytes)) d.state rest else damaged d.spot.start)
 end_is d rest given at whole =
     let all : length (vec_items d.bytes) ≤ d.next = search rules in
@@ -68,35 +59,35 @@ pub at_end : (known : Option (List ℕ)) (bytes : List ℕ) → known ≡ Some b
 at_end known bytes is end = rw is at end
 
 -- a decoder that changed in its text alone, which is given before and after
-pub emptied : (d e : Decoder) (rest : List ℕ) → IsGiven d → IsGiven e → e.phase ≡ d.phase → e.state ≡ d.state → e.spot ≡ d.spot → e.header_held ≡ d.header_held → e.header ≡ d.header
+pub emptied : (d e : Decoder) (rest : List ℕ) → HasGiven d → HasGiven e → e.phase ≡ d.phase → e.state ≡ d.state → e.spot ≡ d.spot → e.header_held ≡ d.header_held → e.header ≡ d.header
     → e.bytes ≡ d.bytes → e.held ≡ d.held → e.next ≡ d.next → still d rest ≡ still e rest
 emptied d e rest given done phase state spot header_held header bytes held next =
     same_undecoded d e rest given done (sym (rw (phase, state, spot, header_held, header, bytes, held, next) refl))
 
 -- a decoder that took one record
-pub taken_is : (d e : Decoder) (rest : List ℕ) (t : Taken) → IsGiven d → d.phase ≡ phase.Record → d.next < length (vec_items d.bytes)
+pub taken_is : (d e : Decoder) (rest : List ℕ) (t : Taken) → HasGiven d → d.phase ≡ phase.Record → d.next < length (vec_items d.bytes)
     → take_record d.state (drop d.next (vec_items d.bytes)) ≡ Some t → 1 ≤ t.len
-    → AreTaken e.words → e.phase ≡ phase.Record → e.given ≡ 0 → vec_items e.text ≡ t.text → e.state ≡ t.state → e.spot ≡ past d.spot t.len → e.bytes ≡ d.bytes → e.next ≡ d.next + t.len
+    → e.phase ≡ phase.Record → e.given ≡ 0 → vec_items e.text ≡ t.text → e.state ≡ t.state → e.spot ≡ past d.spot t.len → e.bytes ≡ d.bytes → e.next ≡ d.next + t.len
     → still d rest ≡ still e rest
 unfolding still
-taken_is d e rest t given at less some len taken phase none text state spot bytes next =
+taken_is d e rest t given at less some len phase none text state spot bytes next =
     record_is d rest given at
     ∙ record_some as_text (plus d.spot.start (16 + vec_len d.bytes)) d.spot d.state (vec_items d.bytes) rest d.next t less some len
-    ∙ sym (ap (λ (w : List ℕ). drop e.given (vec_items e.text) ++ (w ++ undecoded as_text e.phase e rest)) (words_none e.state e.words taken) ∙ rw (phase, none, text, state, spot, bytes, next) refl)
+    ∙ sym (rw (phase, none, text, state, spot, bytes, next) refl)
 
 -- or met one that may not come
-pub refused_is : (d : Decoder) (rest : List ℕ) → IsGiven d → d.phase ≡ phase.Record → d.next < length (vec_items d.bytes)
+pub refused_is : (d : Decoder) (rest : List ℕ) → HasGiven d → d.phase ≡ phase.Record → d.next < length (vec_items d.bytes)
     → take_record d.state (drop d.next (vec_items d.bytes)) ≡ None → still d rest ≡ damaged d.spot.at
 refused_is d rest given at less none =
     record_is d rest given at ∙ record_none as_text (plus d.spot.start (16 + vec_len d.bytes)) d.spot d.state (vec_items d.bytes) rest d.next less none
 
 -- the blocks that are left, by the bytes that were read since
-pub header_from : (d : Decoder) (before bytes : List ℕ) → IsGiven d → d.phase ≡ phase.Header → bytes ≡ take d.header_held d.header ++ before
+pub header_from : (d : Decoder) (before bytes : List ℕ) → HasGiven d → d.phase ≡ phase.Header → bytes ≡ take d.header_held d.header ++ before
     → still d before ≡ all_blocks as_text d.spot.block d.spot.start d.state bytes
 header_from d before bytes given at same = header_is d before given at ∙ ap (λ (t : List ℕ). all_blocks as_text d.spot.block d.spot.start d.state t) (sym same)
 
 -- and what is left of a block
-pub content_from : (d : Decoder) (before bytes : List ℕ) → IsGiven d → d.phase ≡ phase.Content → bytes ≡ take d.held (vec_items d.bytes) ++ before
+pub content_from : (d : Decoder) (before bytes : List ℕ) → HasGiven d → d.phase ≡ phase.Content → bytes ≡ take d.held (vec_items d.bytes) ++ before
     → still d before ≡ all_content as_text d.spot (vec_len d.bytes) d.state bytes
 content_from d before bytes given at same = content_is d before given at ∙ ap (λ (t : List ℕ). all_content as_text d.spot (vec_len d.bytes) d.state t) (sym same)
 
@@ -113,7 +104,7 @@ good_parts made block start s header rest len sixteen is =
     ∙ ap (λ (t : List ℕ). all_content made (spot_at block start header) len s t) (drop_at header rest 16 sixteen)
 
 -- a decoder that read on in a block
-pub content_now : (d e : Decoder) (h rest : List ℕ) → IsGiven e → e.phase ≡ phase.Content → e.spot ≡ d.spot → e.state ≡ d.state → vec_len e.bytes ≡ vec_len d.bytes → vec_items e.bytes ≡ h
+pub content_now : (d e : Decoder) (h rest : List ℕ) → HasGiven e → e.phase ≡ phase.Content → e.spot ≡ d.spot → e.state ≡ d.state → vec_len e.bytes ≡ vec_len d.bytes → vec_items e.bytes ≡ h
     → still e rest ≡ all_content as_text d.spot (vec_len d.bytes) d.state (take e.held h ++ rest)
 content_now d e h rest given at spot state len items =
     content_is e rest given at
@@ -121,7 +112,7 @@ content_now d e h rest given at spot state len items =
     ∙ ap (λ (xs : List ℕ). all_content as_text e.spot (vec_len d.bytes) e.state (take e.held xs ++ rest)) items ∙ rw (spot, state) refl
 
 -- or began to take its records
-pub content_done : (d e : Decoder) (h rest : List ℕ) → IsGiven e → e.phase ≡ phase.Record → e.spot ≡ d.spot → e.state ≡ at_block d.state → e.next ≡ 0 → vec_len e.bytes ≡ length h → vec_items e.bytes ≡ h
+pub content_done : (d e : Decoder) (h rest : List ℕ) → HasGiven e → e.phase ≡ phase.Record → e.spot ≡ d.spot → e.state ≡ at_block d.state → e.next ≡ 0 → vec_len e.bytes ≡ length h → vec_items e.bytes ≡ h
     → still e rest ≡ all_records as_text (plus d.spot.start (16 + length h)) d.spot (at_block d.state) h rest
 content_done d e h rest given at spot state next len items =
     record_is e rest given at

@@ -2,7 +2,7 @@
 ghost use Rattle.std.specs.Prelude.{◌≡◌, ◌<◌, ◌≤◌, ◌^◌, ◌+◌, ◌/◌, ◌++◌, ℕ, List, OnOk, OnErr, IfOk, IfNone, IfSome, length, vec_len, min, take, option_map, false, true};
 ghost use Rattle.std.specs.Io.{ReadsAtMost};
 ghost use Rattle.er_lines.specs.Ready.{IsRight, KeepsNames, line_text};
-ghost use Rattle.er_binary.specs.Inner.Words.{AreNamed, AreTaken};
+ghost use Rattle.er_binary.specs.Inner.Words.{AreNamed};
 ghost use Rattle.er_binary.specs.Meaning.{checksum, is_bad_len, last_line, mixed, past};
 ghost use Rattle.er_binary.specs.Records.{record_at};
 ghost use Rattle.er_binary.specs.States.{names_in};
@@ -12,7 +12,7 @@ ghost use Rattle.std.specs.Io.KnownBytes.{IsAtEnd, Keeps, ReadConsumes, prepend_
 use crate::decoded::Listener;
 use crate::names::{Names, Put, number};
 use crate::records::{Record, record_at};
-use crate::state::{State, Words};
+use crate::state::State;
 use crate::touches::{Notes, Said};
 use er_lines::{ReadyLine, put_number};
 use std::alloc::{AllocError, Global};
@@ -66,8 +66,6 @@ pub(crate) struct Decoder {
     // The text that was made last, of which `given` bytes were given.
     text: Vec<u8>,
     given: usize,
-    // The words of the access before it that are still to come.
-    words: Words,
     // Whether lines are taken: then a read gives the text of one record.
     is_taken: bool,
     // What accesses touch, if that is noted: those of all records that are decoded.
@@ -77,14 +75,11 @@ pub(crate) struct Decoder {
     ghost decoded: { next ≤ vec_len bytes },
     ghost small: { vec_len bytes ≤ 2 ^ 20 },
     ghost some: { given ≤ vec_len text },
-    ghost words_end: { words.end ≤ 2 ^ 46 },
-    ghost words_few: { words.end ≤ words.at / 4 + 5 },
-    ghost first: { words.at / 4 < words.end → vec_len text ≤ given },
     ghost named: { AreNamed state },
 }
 
 impl Decoder {
-    ghost use Rattle.er_binary.specs.Inner.Decoders.{GoesOn, HasGiven, IsGiven, NotesOn, Takes, left, still, to_note};
+    ghost use Rattle.er_binary.specs.Inner.Decoders.{GoesOn, HasGiven, NotesOn, Takes, left, still, to_note};
     ghost use Rattle.er_lines.specs.Touches.{StaysKnown};
     ghost use Rattle.er_binary.specs.Meaning.{text_behind, touches_behind};
     ghost use Rattle.er_binary.specs.declared.decoder.Phase.TheVariants as phase;
@@ -113,12 +108,6 @@ impl Decoder {
             next: 0,
             text: Vec::from_slice(alloc, b"eraser trace 3\n")?,
             given: 0,
-            words: Words {
-                writes: false,
-                node: 0,
-                at: 0,
-                end: 0,
-            },
             is_taken: false,
             notes: Notes::new(alloc, is_noting),
         })
@@ -173,33 +162,14 @@ impl Decoder {
         ensures noted { NotesOn self.old self.new }
     {
         self.is_taken = true;
-        if self.words.end <= self.words.at / 4
-            && let Some(line) = self.find_words()?
-        {
-            return Some(line);
-        }
-        self.take_words()
+        self.find_lines()
     }
 
-    // Takes the lines of the words that are still to come.
+    // Passes over records without text up to an access or a lock event, and takes the lines of that. None: neither comes next.
     #[inline(always)]
-    fn take_words(&mut self) -> Option<ReadyLine>
-        requires some { self.old.words.at / 4 < self.old.words.end }
+    fn find_lines(&mut self) -> Option<ReadyLine>
         ensures none { IfNone result (GoesOn self.old self.new) }
         ensures takes { IfSome result (Takes self.old self.new) }
-    {
-        let line = self.state.line_of(&self.words)?;
-        self.words.end = 0;
-        Some(line)
-    }
-
-    // Goes on to the words of the next access, or takes the line of a lock event, and gives that. None: neither comes next.
-    #[inline(always)]
-    fn find_words(&mut self) -> Option<Option<ReadyLine>>
-        requires taken { AreTaken self.old.words }
-        ensures none { IfNone result (GoesOn self.old self.new) }
-        ensures words { IfSome result (λ found. IfNone found (GoesOn self.old self.new × (self.new.words.at / 4 < self.new.words.end))) }
-        ensures takes { IfSome result (λ found. IfSome found (Takes self.old self.new)) }
     {
         for _ in 0..8u8 {
             if self.given < self.text.len() || self.phase != Phase::Record {
@@ -210,15 +180,15 @@ impl Decoder {
             match head.says {
                 Record::Access(access) => {
                     let words = self.state.words_of(access)?;
+                    let line = self.state.line_of(&words)?;
                     let is_on = self.notes.is_on;
                     if is_on && !self.notes.note(Said::access(words.at, access.size)) {
                         return None;
                     }
                     self.state.pass(&words);
-                    self.words = words;
                     self.next += head.len;
                     self.spot.pass(head.len);
-                    return Some(None);
+                    return Some(line);
                 }
                 Record::Other(kind, number) => {
                     if let Some(line) = self.state.lock_line(kind, number) {
@@ -226,7 +196,7 @@ impl Decoder {
                         self.state.events = self.state.events.wrapping_add(1);
                         self.next += head.len;
                         self.spot.pass(head.len);
-                        return Some(Some(line));
+                        return Some(line);
                     }
                     if self.state.goes_to(kind, number) {
                         self.next += head.len;
@@ -244,9 +214,8 @@ impl Decoder {
     #[inline(never)]
     fn makes_next(&mut self) -> bool
         requires phase { self.old.phase ≡ phase.Record }
-        requires given { IsGiven self.old }
+        requires given { HasGiven self.old }
         ensures goes { GoesOn self.old self.new }
-        ensures words { self.new.words ≡ self.old.words }
     {
         self.next_record(&mut ()).is_ok()
     }
@@ -255,12 +224,11 @@ impl Decoder {
     fn give_all<L: Listener>(&mut self, buffer: &mut [u8], listener: &mut L) -> io::Result<usize>
         ensures bound { IfOk result (λ n. n ≤ length buffer.new) }
         ensures gives { IfOk result (λ n. (rest : List ℕ) → still self.old rest ≡ take n buffer.new ++ still self.new rest) }
-        ensures given { IfOk result (λ n. n ≡ 0 → 0 < length buffer.new → IsGiven self.new) }
+        ensures given { IfOk result (λ n. n ≡ 0 → 0 < length buffer.new → HasGiven self.new) }
         ensures err { OnErr result ((rest : List ℕ) → still self.old rest ≡ still self.new rest) }
         ensures kept { KeepsNames (names_in self.old.state) (names_in self.new.state) }
         ensures noted { NotesOn self.old self.new }
     {
-        self.put_rest()?;
         let mut count = self.give(buffer);
         while count < buffer.len() && self.phase == Phase::Record && !(self.is_taken && count > 0) {
             if let Err(refused) = self.next_record(listener) {
@@ -271,33 +239,12 @@ impl Decoder {
         Ok(count)
     }
 
-    // Makes the text of the words that are still to come.
-    fn put_rest(&mut self) -> io::Result<()>
-        ensures same { (rest : List ℕ) → still self.old rest ≡ still self.new rest }
-        ensures taken { OnOk result (AreTaken self.new.words) }
-        ensures state { self.new.state ≡ self.old.state }
-        ensures noted { NotesOn self.old self.new }
-    {
-        if self.words.end <= self.words.at / 4 {
-            return Ok(());
-        }
-        self.given = 0;
-        self.text.clear();
-        if let Err(refused) = self.state.put_words(&mut self.text, &self.words) {
-            self.text.clear();
-            return Err(io::Error::from(refused));
-        }
-        self.words.end = 0;
-        Ok(())
-    }
-
     // Gives the rest of the text that was made.
     fn give(&mut self, buffer: &mut [u8]) -> usize
         ensures bound { result ≤ length buffer.new }
         ensures gives { (rest : List ℕ) → still self.old rest ≡ take result buffer.new ++ still self.new rest }
         ensures given { result < length buffer.new → HasGiven self.new }
         ensures state { self.new.state ≡ self.old.state }
-        ensures words { self.new.words ≡ self.old.words }
         ensures phase { self.new.phase ≡ self.old.phase }
         ensures bytes { self.new.bytes ≡ self.old.bytes }
         ensures next { self.new.next ≡ self.old.next }
@@ -312,11 +259,10 @@ impl Decoder {
     // Makes the text of the next record, or ends the block.
     fn next_record<L: Listener>(&mut self, listener: &mut L) -> io::Result<()>
         requires phase { self.old.phase ≡ phase.Record }
-        requires given { IsGiven self.old }
+        requires given { HasGiven self.old }
         ensures same { (rest : List ℕ) → still self.old rest ≡ still self.new rest }
         ensures less { OnOk result (left self.new.phase self.new < left self.old.phase self.old) }
         ensures kept { KeepsNames (names_in self.old.state) (names_in self.new.state) }
-        ensures words { self.new.words ≡ self.old.words }
         ensures noted { NotesOn self.old self.new }
     {
         if self.next == self.bytes.len() {
@@ -346,12 +292,11 @@ impl Decoder {
 
     fn end_block(&mut self) -> io::Result<()>
         requires phase { self.old.phase ≡ phase.Record }
-        requires given { IsGiven self.old }
+        requires given { HasGiven self.old }
         requires next { self.old.next ≡ vec_len self.old.bytes }
         ensures same { (rest : List ℕ) → still self.old rest ≡ still self.new rest }
         ensures less { OnOk result (left self.new.phase self.new < left self.old.phase self.old) }
         ensures state { self.new.state ≡ self.old.state }
-        ensures words { self.new.words ≡ self.old.words }
         ensures noted { NotesOn self.old self.new }
     {
         if self.spot.found != u64::from(self.spot.count) {
@@ -367,7 +312,7 @@ impl Decoder {
     // Reads the first bytes of the next block.
     fn read_header<R: Read>(&mut self, reader: &mut R) -> io::Result<()>
         requires phase { self.old.phase ≡ phase.Header }
-        requires given { IsGiven self.old }
+        requires given { HasGiven self.old }
         ensures same { Keeps (option_map (still self.old) (R.remaining reader.old)) (option_map (still self.new) (R.remaining reader.new)) }
         ensures kept { KeepsNames (names_in self.old.state) (names_in self.new.state) }
         ensures on { self.new.notes.is_on ≡ self.old.notes.is_on }
@@ -405,7 +350,7 @@ impl Decoder {
     // Reads the records of a block.
     fn read_content<R: Read>(&mut self, reader: &mut R) -> io::Result<()>
         requires phase { self.old.phase ≡ phase.Content }
-        requires given { IsGiven self.old }
+        requires given { HasGiven self.old }
         ensures same { Keeps (option_map (still self.old) (R.remaining reader.old)) (option_map (still self.new) (R.remaining reader.new)) }
         ensures kept { KeepsNames (names_in self.old.state) (names_in self.new.state) }
         ensures on { self.new.notes.is_on ≡ self.old.notes.is_on }
@@ -427,12 +372,11 @@ impl Decoder {
 
     // Ends the text by a line with this byte.
     fn stop(&mut self, what: &[u8], byte: u64) -> io::Result<()>
-        requires { IsGiven self.old }
+        requires { HasGiven self.old }
         ensures ok { OnOk result ((rest : List ℕ) → still self.new rest ≡ last_line what.now byte) }
         ensures phase { OnOk result (self.new.phase ≡ phase.Nothing) }
         ensures err { OnErr result ((rest : List ℕ) → still self.old rest ≡ still self.new rest) }
         ensures state { self.new.state ≡ self.old.state }
-        ensures words { self.new.words ≡ self.old.words }
         ensures touches { OnOk result ((rest : List ℕ) → to_note self.new rest ≡ self.old.notes.touches.items) }
         ensures same { OnErr result (NotesOn self.old self.new) }
         ensures on { self.new.notes.is_on ≡ self.old.notes.is_on }

@@ -1,7 +1,6 @@
 -- What a decoder still gives, and what is still to be noted of it.
 use Rattle.std.specs.Prelude.{◌≡◌, ℕ, ◌+◌, ◌-◌, ◌≤◌, Bool, true, false, List, ◌++◌, drop, take, length, vec_items, vec_len}
 use Rattle.er_binary.specs.Numbers.{plus}
-use Rattle.er_binary.specs.Inner.Words.{AreTaken, words_text}
 use Rattle.er_binary.specs.Meaning.{Making, as_text, as_touches, blocks, content, records}
 use Rattle.er_binary.specs.declared.decoder.Spot.{Spot}
 use Rattle.er_binary.specs.declared.decoder.Decoder.{Decoder}
@@ -42,7 +41,7 @@ undecoded made q d rest =
 
 -- the text that is still to be given
 unfoldable pub still : Decoder → List ℕ → List ℕ
-still d rest = drop d.given (vec_items d.text) ++ (words_text d.state d.words ++ undecoded as_text d.phase d rest)
+still d rest = drop d.given (vec_items d.text) ++ undecoded as_text d.phase d rest
 
 -- what accesses touch that was noted and not handed out, and what is still to be noted
 unfoldable pub to_note : Decoder → List ℕ → List Touch
@@ -69,10 +68,6 @@ pub record Takes (old new : Decoder) (line : ReadyLine) : Type 0 where
 -- the text that was made is given
 abbrev pub HasGiven : Decoder → Type 0
 HasGiven d = vec_len d.text ≤ d.given
-
--- and the words of the last access are
-abbrev pub IsGiven : Decoder → Type 0
-IsGiven d = HasGiven d × AreTaken d.words
 
 -- how much of the block is left to decode
 abbrev pub left : Phase → Decoder → ℕ

@@ -1,5 +1,5 @@
 -- Words of an access that are still to come, and lines that are taken without their text.
-use Rattle.std.specs.Prelude.{◌≡◌, Bool, ℕ, ◌+◌, ◌-◌, ◌/◌, ◌≤◌, ◌<◌, true, List, Option, Some, None, length, slice_set, codes, if◌then◌else◌}
+use Rattle.std.specs.Prelude.{◌≡◌, Bool, ℕ, ◌+◌, ◌-◌, ◌/◌, ◌<◌, true, List, Option, Some, None, length, slice_set, codes, if◌then◌else◌}
 use Rattle.std.specs.List.{list_all}
 use Rattle.er_lines.specs.Naming.{is_name, is_lock_name}
 use Rattle.er_lines.specs.Ready.{is_maybe_site, name_by, name_word}
@@ -29,10 +29,6 @@ passed s w = record s { node = w.node; last = slice_set s.last (slot s) w.at; ev
 -- behind a lock event
 abbrev pub counted : State → State
 counted s = record s { events = plus s.events 1 }
-
--- no word is left
-abbrev pub AreTaken : Words → Type 0
-AreTaken w = w.end ≤ w.at / 4
 
 -- all names that are known are names of their kind, and the thread's is known
 abbrev pub AreNamed : State → Type 0

@@ -1,10 +1,6 @@
--- What is still to be given stays the same until words or a line are found.
+-- What is still to be given stays the same until a line is found.
 use Rattle.er_binary.specs.Inner.Decoders.{GoesOn}
-use Rattle.er_binary.specs.Inner.Words.{AreTaken}
-use Rattle.er_binary.proofs.decoder.Decoder.find_words.Given as goal
+use Rattle.er_binary.proofs.decoder.Decoder.find_lines.Given as goal
 
 abbrev pub invariant-loop : goal.invariant-loop
-invariant-loop l = record {
-  goes : GoesOn l.fn.self l.self;
-  taken : AreTaken l.self.words;
-}
+invariant-loop l = record { goes : GoesOn l.fn.self l.self }

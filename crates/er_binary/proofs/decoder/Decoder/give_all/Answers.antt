@@ -21,7 +21,6 @@ loop-count-preserved g c =
           ∙ ap (λ (t : List ℕ). take count buffer ++ t) (c.next_record.ensures.same rest ∙ c.give.ensures.gives rest)
           ∙ sym (append_assoc (take count buffer) (take n buf) _)
           ∙ ap (λ (t : List ℕ). t ++ still c.give.new.self rest) (sym (filled buffer buf tail count n c.loop-count.invariant.within c.give.ensures.bound));
-      taken = search rules;
       given = λ less. c.give.ensures.given (omega arith);
       kept = kept_on _ _ _ c.loop-count.invariant.kept (kept_on _ _ _ c.next_record.ensures.kept (kept_alike _ _ c.give.ensures.state));
       noted = notes_trans _ _ _ c.loop-count.invariant.noted (notes_trans _ _ _ c.next_record.ensures.noted c.give.ensures.noted);
@@ -30,9 +29,8 @@ loop-count-preserved g c =
 pub loop-count-init : goal.loop-count-init
 loop-count-init g c = record {
   within = c.give-count.ensures.bound;
-  gives = λ rest. c.put_rest.ensures.same rest ∙ c.give-count.ensures.gives rest;
+  gives = λ rest. c.give-count.ensures.gives rest;
   given = λ less. c.give-count.ensures.given less;
-  taken = search rules;
-  kept = kept_alike _ _ (c.give-count.ensures.state ∙ c.put_rest.ensures.state);
-  noted = notes_trans _ _ _ c.put_rest.ensures.noted c.give-count.ensures.noted;
+  kept = kept_alike _ _ c.give-count.ensures.state;
+  noted = c.give-count.ensures.noted;
 }

@@ -20,7 +20,7 @@ returns-in-Ok-Some-clause-same g c = λ rest.
     let all : length (vec_items d.bytes) ≡ vec_len d.bytes = search rules in
     let less : d.next < length (vec_items d.bytes) = omega arith in
     let some : 1 ≤ h.0.len = omega (arith, h.2, within.0) in
-    taken_is d _ rest h.0 c.requires.given c.requires.phase less (sym (ap (λ (t : List ℕ). take_record d.state t) back) ∙ h.1) some c.requires.given.1 c.requires.phase refl (h.3 ∙ ap (λ (t : List ℕ). t ++ h.0.text) c.clear.ensures.items) h.4
+    taken_is d _ rest h.0 c.requires.given c.requires.phase less (sym (ap (λ (t : List ℕ). take_record d.state t) back) ∙ h.1) some c.requires.phase refl (h.3 ∙ ap (λ (t : List ℕ). t ++ h.0.text) c.clear.ensures.items) h.4
     (c.pass.ensures ∙ ap (λ (k : ℕ). past d.spot k) h.2) refl (ap (λ (k : ℕ). d.next + k) h.2)
 
 pub returns-in-Ok-None-clause-same : goal.returns-in-Ok-None-clause-same
