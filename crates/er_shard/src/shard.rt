@@ -7,7 +7,7 @@ ghost use Rattle.er_model.specs.Parts.{FitsEnd};
 ghost use Rattle.er_shadow.specs.Shadows.{needs_set, states};
 ghost use Rattle.er_shard.specs.Journaled.{entry_of};
 
-use er_event::{NoRoom, PageRange, Reply, ThreadId, Word, WordState};
+use er_event::{Kind, NoRoom, PageRange, Reply, ThreadId, Word, WordState};
 use er_journal::{BriefReply, Entry, Stamp};
 use er_shadow::{OwnWords, ShadowMap, Words};
 use er_table::{Grow, LocksetTable, Owned, Shared, Store};
@@ -61,8 +61,7 @@ impl<'t> ShardIn<Shared<'t>> {
 }
 
 impl ShardIn<Owned> {
-    /// A shard with an empty journal that takes `limit` entries. Its words take `max_sets` sets of locks, and never more than 1,048,576. The only error is
-    /// that there is no memory.
+    /// A shard with no entry yet. It takes `limit` entries, and `max_sets` sets of locks, at most 1,048,576. The only error is that there is no memory.
     pub fn new(
         alloc: Global,
         max_sets: u32,
@@ -127,6 +126,7 @@ impl<S: Store> ShardIn<S> {
 
     /// Takes a counted access, and returns `Race` if it is reported, else `Quiet`. Refused if the journal is full (`JournalFull`), if a set of locks
     /// finds no place in the table (`TableFull`), and if there is no memory (`OutOfMemory`).
+    #[inline(always)]
     pub fn apply<R>(&mut self, rt: &R, ticket: u64, stamp: Stamp) -> Result<BriefReply, NoRoom>
     where
         S: Grow<R>,
@@ -141,7 +141,17 @@ impl<S: Store> ShardIn<S> {
         ensures table_full { IsErrOf result NoRoom.TableFull → IsTrue (needs_set (journal_state self.old.journal stamp.word) stamp.thread) }
     {
         reserve_entry(&mut self.journal, self.limit)?;
-        let reply = self.words.apply(rt, &stamp)?;
+        let locks = match stamp.kind {
+            Kind::Read => stamp.locks.held(),
+            Kind::Write => stamp.locks.write_held(),
+        };
+        // Most accesses leave their word as it is, and these are found first.
+        let (thread, word, kind) = (stamp.thread, stamp.word, stamp.kind);
+        let quick = self.words.access_quickly(thread, word, kind, locks);
+        let reply = match quick {
+            Some(_) => BriefReply::of_access(false),
+            None => self.words.apply(rt, &stamp)?,
+        };
         self.journal
             .push_reserved(Entry::access(ticket, stamp, reply));
         Ok(reply)
