@@ -64,6 +64,7 @@ impl VacantSeat {
             thread,
             held: Held::new(alloc),
             recent: None,
+            stamped: 0,
             calls,
             alloc,
         }
@@ -77,8 +78,9 @@ pub struct Seat {
     name: u64,
     thread: ThreadId,
     held: Held,
-    // The locks that the last stamp had.
+    // The locks that the last stamp had, and how many calls there were then. If no call came since, the thread holds just these.
     recent: Option<HeldLocks>,
+    stamped: usize,
     calls: Vec<Call>,
     alloc: Global,
 }
@@ -86,13 +88,13 @@ pub struct Seat {
 impl Model for Seat {
     ghost use Rattle.std.specs.Prelude.{vec_capacity};
     ghost use Rattle.er_settle.specs.Seats.{SeatList};
-    ghost use Rattle.er_seat.specs.Seats.{IsSeat};
+    ghost use Rattle.er_seat.specs.Seats.{IsSeat, IsStamped};
 
     ghost Value = { SeatList };
 
     ghost view = { λ s. record { name = s.name; thread = s.thread; calls = s.calls.items } };
 
-    ghost invariant = { λ s. IsSeat s.thread s.calls.items s.held (vec_capacity s.calls) };
+    ghost invariant = { λ s. IsSeat s.thread s.calls.items s.held (vec_capacity s.calls) × IsStamped s.stamped s.recent s.calls.items s.held };
 }
 
 impl Seat {
@@ -162,8 +164,7 @@ impl Seat {
         ensures memory { refused_by (holdings_of self.old) (Event.Acquire lock mode) ≡ None → IsOkUnless result Refusal.OutOfMemory }
     {
         self.held.acquire(lock, mode)?;
-        let with_release = 1 + calls_to_unwind(&self.held);
-        if let Err(refused) = self.calls.reserve(with_release) {
+        if let Err(refused) = self.calls.reserve(1 + calls_to_unwind(&self.held)) {
             let released: Result<(), Refusal> = self.held.release(lock, mode);
             released.unwrap();
             return Err(refused.into());
@@ -195,8 +196,7 @@ impl Seat {
         ensures memory { refused_by (holdings_of self.old) Event.IgnoreOn ≡ None → IsOkUnless result Refusal.OutOfMemory }
     {
         self.held.ignore_on()?;
-        let with_close = 1 + calls_to_unwind(&self.held);
-        if let Err(refused) = self.calls.reserve(with_close) {
+        if let Err(refused) = self.calls.reserve(1 + calls_to_unwind(&self.held)) {
             let closed: Result<(), Refusal> = self.held.ignore_off();
             closed.unwrap();
             return Err(refused.into());
@@ -218,8 +218,7 @@ impl Seat {
         Ok(())
     }
 
-    /// Goes to an interrupt level, which may be the present one. Refused if there is no memory (`OutOfMemory`): the call's own entry may take some,
-    /// even if the level doesn't rise.
+    /// Goes to an interrupt level, which may be the present one. Refused if there is no memory (`OutOfMemory`), which the list may need at any level.
     pub fn set_level(&mut self, level: Level) -> Result<(), Refusal>
         ensures ok { OnOk result (self.new ≡ with_call self.old (done (Event.Level level))) }
         ensures err { OnErr result (self.new ≡ self.old) }
@@ -238,15 +237,14 @@ impl Seat {
         ensures err { OnErr result (self.new ≡ self.old) }
     {
         self.calls.reserve(1 + calls_to_unwind(&self.held))?;
-        let event = Event::Access(kind, word, site);
-        self.calls
-            .push_reserved(Call::own(event, BriefReply::ignored()));
+        let call = Call::own(Event::Access(kind, word, site), BriefReply::ignored());
+        self.calls.push_reserved(call);
         Ok(())
     }
 
-    /// Makes an access outside any bracket in a shard, under a ticket, and lists it. Refused if there is no memory for the list and the stamp
-    /// (`OutOfMemory`), and then if the shard refuses it.
+    /// Makes an access outside any bracket in a shard, under a ticket, and lists it. Refused if there is no memory (`OutOfMemory`), and as by the shard.
     #[tactic(auto, unfolding(crate::specs::Seats::with_call, crate::specs::Seats::access_stamp))]
+    #[inline(always)]
     pub fn record_access<R, S: Grow<R>>(
         &mut self,
         rt: &R,
@@ -265,15 +263,15 @@ impl Seat {
         ensures err_shard { OnErr result (shard.new ≡ shard.old) }
         ensures full { shard.old.limit ≤ length shard.old.journal → IsErrAnd result (λ cause. (cause ≡ NoRoom.JournalFull) ⊎ (cause ≡ NoRoom.OutOfMemory)) }
         ensures full_only { IsErrOf result NoRoom.JournalFull → shard.old.limit ≤ length shard.old.journal }
-
-        // The table isn't asked for a set while one thread alone has accessed the word.
         ensures table_full { IsErrOf result NoRoom.TableFull → IsTrue (needs_set (journal_state shard.old.journal word) self.old.thread) }
     {
         self.calls.reserve(1 + calls_to_unwind(&self.held))?;
-        let locks = stamped_locks(self.alloc, &mut self.recent, &self.held)?;
-        let thread = self.thread;
+        let locks = match &self.recent {
+            Some(last) if self.stamped == self.calls.len() => last.share()?,
+            _ => stamped_locks(self.alloc, &mut self.recent, &self.held)?,
+        };
         let stamp = Stamp {
-            thread,
+            thread: self.thread,
             word,
             kind,
             site,
@@ -282,11 +280,11 @@ impl Seat {
         let reply = shard.apply(rt, ticket, stamp)?;
         self.calls
             .push_reserved(Call::counted(kind, word, site, reply, ticket));
+        self.stamped = self.calls.len();
         Ok(reply.reply())
     }
 
-    /// Makes one page part of a reuse in a shard, under a ticket, and lists it. Refused if there is no memory for the list (`OutOfMemory`), and then
-    /// if the shard refuses it.
+    /// Makes one page part of a reuse in a shard, under a ticket, and lists it. Refused if there is no memory (`OutOfMemory`), and as by the shard.
     pub fn reuse<S: Store>(
         &mut self,
         shard: &mut ShardIn<S>,
@@ -325,13 +323,13 @@ fn calls_to_unwind(held: &Held) -> usize
 }
 
 // The locks that are held. They are copied only if the last stamp had others: most accesses are made under the same locks as the one before.
-#[inline]
 fn stamped_locks(
     alloc: Global,
     recent: &mut Option<HeldLocks>,
     held: &Held,
 ) -> Result<HeldLocks, AllocError>
-    ensures { IfOk result (λ locks. locks ≡ record { held = held.now.held; write_held = held.now.write_held }) }
+    ensures locks { IfOk result (λ locks. (locks ≡ record { held = held.now.held; write_held = held.now.write_held }) × (recent.new ≡ Some locks)) }
+    ensures err { OnErr result (recent.new ≡ recent.old) }
 {
     match recent {
         Some(last) if last.are(held.held(), held.write_held()) => last.share(),
