@@ -160,7 +160,7 @@ impl<'t> Detector<'t> {
         if seat.ignoring() {
             return ignored(seat, word, kind, site);
         }
-        let ticket = self.next_ticket();
+        let ticket = self.tickets.fetch_add(1, Ordering::SeqCst);
         Ok(seat.record_access(rt, shard, ticket, word, kind, site)?)
     }
 
@@ -192,11 +192,12 @@ impl<'t> Detector<'t> {
             return ignored(seat, word, kind, site);
         }
         // A caller of `shard` may have put another shard behind the lock. `access_in` would look at names and brackets again.
-        let mut shard = self.shard(rt, self.shard_of(word));
-        if !self.has(&shard, word) {
+        let number = self.shard_of(word);
+        let mut shard = self.shard(rt, number);
+        if shard.name() != self.config.name || shard.number() != number {
             return Err(Refusal::ForeignSeat);
         }
-        let ticket = self.next_ticket();
+        let ticket = self.tickets.fetch_add(1, Ordering::SeqCst);
         Ok(seat.record_access(rt, &mut shard, ticket, word, kind, site)?)
     }
 
@@ -278,7 +279,7 @@ impl<'t> Detector<'t> {
         if !self.has(&shard, part.lo) {
             return Err(Refusal::ForeignSeat);
         }
-        let ticket = self.next_ticket();
+        let ticket = self.tickets.fetch_add(1, Ordering::SeqCst);
         Ok(seat.reuse(&mut shard, ticket, *part)?)
     }
 
@@ -286,10 +287,6 @@ impl<'t> Detector<'t> {
         ensures { result ≡ is_shard_of self.now shard.now word }
     {
         shard.name() == self.config.name && shard.number() == self.shard_of(word)
-    }
-
-    fn next_ticket(&self) -> u64 {
-        self.tickets.fetch_add(1, Ordering::SeqCst)
     }
 }
 
