@@ -289,7 +289,7 @@ impl<S: Store> Words<S> {
         ensures { IfOk result (λ state. state ≡ states self.now word) }
     {
         let shadow = self.shadow_of(word);
-        named(&self.known, shadow.state())
+        named(self.alloc, &self.known, shadow.state())
     }
 
     // What stands for a word.

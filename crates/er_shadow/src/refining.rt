@@ -10,7 +10,7 @@ use crate::Hints;
 use er_event::{Kind, LockId, Lockset, NoRoom, ThreadId, WordState};
 use er_owner::{Need, NumberedState, Shadow, advance, need};
 use er_table::{Grow, KnownIn, Store};
-use std::alloc::AllocError;
+use std::alloc::{AllocError, Global};
 
 /// The word after an access, and whether the access is reported as a race.
 pub(crate) fn step<R, S: Grow<R>>(
@@ -61,7 +61,7 @@ fn covers_all<S: Store>(known: &KnownIn<S>, candidates: u32, locks: &Lockset) ->
     ensures { IsTrue result → meet (set_at known.now candidates) locks.now ≡ set_at known.now candidates }
 {
     let set = known.set(candidates);
-    candidates == 0 || are_among(set.as_slice(), locks.as_slice())
+    candidates == 0 || are_among(set, locks.as_slice())
 }
 
 // Whether the locks of one list are in another, if both rise.
@@ -121,7 +121,7 @@ fn number_near<R, S: Grow<R>>(
 {
     let key = key_of(locks.as_slice());
     let hint = covers.hint(key);
-    if hint < known.count() as usize && known.set(hint as u32) == locks {
+    if hint < known.count() as usize && known.set(hint as u32) == locks.as_slice() {
         return Ok(hint as u32);
     }
     let number = known.number_of(rt, locks)?;
@@ -141,16 +141,24 @@ fn key_of(locks: &[LockId]) -> u64 {
 
 /// The state, with the set for its number.
 pub(crate) fn named<S: Store>(
+    alloc: Global,
     known: &KnownIn<S>,
     state: NumberedState,
 ) -> Result<WordState, AllocError>
     requires { IsNumbered known.now state }
     ensures { IfOk result (λ named. named ≡ state_in known.now state) }
 {
+    let mut candidates = Lockset::new(alloc);
     match state {
         NumberedState::Virgin => Ok(WordState::Virgin),
         NumberedState::Exclusive(thread) => Ok(WordState::Exclusive(thread)),
-        NumberedState::Shared(set) => Ok(WordState::Shared(known.set(set).copy()?)),
-        NumberedState::SharedModified(set) => Ok(WordState::SharedModified(known.set(set).copy()?)),
+        NumberedState::Shared(set) => {
+            candidates.extend(known.set(set))?;
+            Ok(WordState::Shared(candidates))
+        }
+        NumberedState::SharedModified(set) => {
+            candidates.extend(known.set(set))?;
+            Ok(WordState::SharedModified(candidates))
+        }
     }
 }

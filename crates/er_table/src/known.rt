@@ -4,6 +4,7 @@
 //! no search, and that a pair is looked up before its locks are compared, saves the comparison and the search for the set:
 //! a remembered pair takes about 12 ns.
 ghost use Rattle.std.specs.Prelude.{◌≡◌, ◌≢◌, ◌+◌, ◌<◌, ◌≤◌, [], ◌∷◌, length, IsOk, IfOk, IfSome, OnOk, OnErr, IsErrOf, Contains, Some};
+ghost use Rattle.std.specs.List.Sorted.{IsStrictlyIncreasing};
 ghost use Rattle.er_event.specs.Lockset.{meet};
 ghost use Rattle.std.specs.HashMap.{get, hash_map_len};
 ghost use Rattle.er_table.specs.Known.{IsMeet, RemembersMeets, same_pair, meet_of};
@@ -13,7 +14,7 @@ ghost use Rattle.er_table.specs.Sets.{with_set, set_at, AreDistinct, most_sets, 
 
 use crate::numbers::Numbers;
 use crate::{Grow, LocksetTable, Owned, Shared, Store};
-use er_event::{Lockset, NoRoom};
+use er_event::{LockId, Lockset, NoRoom};
 use er_keys::{HashKeys, NumberHasher};
 use std::alloc::{AllocError, Global};
 use std::collections::HashMap;
@@ -34,6 +35,8 @@ struct Pair {
 pub struct KnownIn<S: Store> {
     numbers: Numbers<S>,
     meets: HashMap<Pair, u32, NumberHasher>,
+    // What two sets had in common, in memory that is used again.
+    both: Lockset,
 }
 
 /// The numbers of an owner that shares its sets by a table.
@@ -61,8 +64,9 @@ impl<'t> KnownIn<Shared<'t>> {
         ensures { IfOk result (λ known. known ≡ [] ∷ []) }
     {
         Ok(KnownIn {
-            numbers: Numbers::new(alloc, Shared::new(alloc, table)?),
+            numbers: Numbers::new(Shared::new(alloc, table)?),
             meets: HashMap::with_hasher(alloc, NumberHasher::new(table.keys())),
+            both: Lockset::new(alloc),
         })
     }
 }
@@ -74,8 +78,9 @@ impl KnownIn<Owned> {
         ensures { result ≡ [] ∷ [] }
     {
         KnownIn {
-            numbers: Numbers::new(alloc, Owned::keyed(alloc, max_sets, keys)),
+            numbers: Numbers::new(Owned::keyed(alloc, max_sets, keys)),
             meets: HashMap::with_hasher(alloc, NumberHasher::new(keys)),
+            both: Lockset::new(alloc),
         }
     }
 }
@@ -93,11 +98,12 @@ impl<S: Store> KnownIn<S> {
     }
 
     /// The set of a number.
-    pub fn set(&self, number: u32) -> &Lockset
+    pub fn set(&self, number: u32) -> &[LockId]
         requires { number < length self.now }
         ensures set { result.now ≡ set_at self.now number }
         ensures empty { set_at self.now 0 ≡ [] }
         ensures only_empty { set_at self.now number ≡ [] → number ≡ 0 }
+        ensures rising { IsStrictlyIncreasing result.now }
     {
         self.numbers.set(number)
     }
@@ -145,7 +151,7 @@ impl<S: Store> KnownIn<S> {
         if let Some(number) = self.remembered(pair) {
             return Ok(number);
         }
-        number_anew(&mut self.numbers, &mut self.meets, rt, pair)
+        number_anew(&mut self.numbers, &mut self.meets, &mut self.both, rt, pair)
     }
 
     // The number that `intersect` gives, if it is plain or was found before.
@@ -165,6 +171,7 @@ impl<S: Store> KnownIn<S> {
 fn number_anew<R, S: Grow<R>>(
     numbers: &mut Numbers<S>,
     meets: &mut HashMap<Pair, u32, NumberHasher>,
+    both: &mut Lockset,
     rt: &R,
     pair: Pair,
 ) -> Result<u32, NoRoom>
@@ -179,10 +186,10 @@ fn number_anew<R, S: Grow<R>>(
     ensures remembered { hash_map_len meets.old < MOST_REMEMBERED → IfOk result (λ n. get same_pair meets.new pair ≡ Some n) }
 {
     if meets.len() >= MOST_REMEMBERED {
-        return numbers.number_of_meet(rt, pair.first, pair.second);
+        return numbers.number_of_meet(rt, pair.first, pair.second, both);
     }
     meets.reserve(1)?;
-    let number = numbers.number_of_meet(rt, pair.first, pair.second)?;
+    let number = numbers.number_of_meet(rt, pair.first, pair.second, both)?;
     let inserted: Result<_, _> = meets.insert(pair, number);
     inserted.unwrap();
     Ok(number)

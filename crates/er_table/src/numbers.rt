@@ -1,43 +1,39 @@
 //! Numbers for the sets of a store, as its owner gives them.
 ghost use Rattle.std.specs.Prelude.{◌≡◌, ◌+◌, ◌<◌, ◌≤◌, [], ◌∷◌, ◌++◌, length, IsTrue, IsFalse, IsOk, IfOk, IfSome, OnOk, OnErr, IsErrOf, Contains};
+ghost use Rattle.std.specs.List.Sorted.{IsStrictlyIncreasing};
 ghost use Rattle.er_event.specs.Lockset.{meet};
 ghost use Rattle.er_table.specs.Numbers.{IsNumbered};
 ghost use Rattle.er_table.specs.Sets.{set_at, AreDistinct, most_sets};
 
 use crate::{Grow, Store};
-use er_event::{Lockset, NoRoom};
-use std::alloc::Global;
+use er_event::{LockId, Lockset, NoRoom};
 use std::marker::Model;
 
 /// One owner's numbers for the sets of its store. Contracts see the sets, by number.
 #[derive(Drop)]
 pub(crate) struct Numbers<S: Store> {
-    empty: Lockset,
     others: S,
 }
 
 impl<S: Store> Model for Numbers<S> {
-    ghost use Rattle.std.specs.Prelude.{◌≡◌, List, ℕ, []};
+    ghost use Rattle.std.specs.Prelude.{List, ℕ};
     ghost use Rattle.er_table.specs.Numbers.{numbered, AreNumbers};
 
     ghost Value = { List (List ℕ) };
 
     ghost view = { λ n. numbered (S.kept n.others) };
 
-    ghost invariant = { λ n. (n.empty ≡ []) × AreNumbers (S.limit n.others) (numbered (S.kept n.others)) };
+    ghost invariant = { λ n. AreNumbers (S.limit n.others) (numbered (S.kept n.others)) };
 }
 
 impl<S: Store> Numbers<S> {
     /// The empty set alone has a number yet.
-    pub(crate) fn new(alloc: Global, others: S) -> Numbers<S>
+    pub(crate) fn new(others: S) -> Numbers<S>
         requires none { S.kept others ≡ [] }
         requires few { S.limit others ≤ most_sets }
         ensures { result ≡ [] ∷ [] }
     {
-        Numbers {
-            empty: Lockset::new(alloc),
-            others,
-        }
+        Numbers { others }
     }
 
     pub(crate) fn count(&self) -> u32
@@ -50,14 +46,15 @@ impl<S: Store> Numbers<S> {
         self.others.len() as u32 + 1
     }
 
-    pub(crate) fn set(&self, number: u32) -> &Lockset
+    pub(crate) fn set(&self, number: u32) -> &[LockId]
         requires { number < length self.now }
         ensures set { result.now ≡ set_at self.now number }
         ensures empty { set_at self.now 0 ≡ [] }
         ensures only_empty { set_at self.now number ≡ [] → number ≡ 0 }
+        ensures rising { IsStrictlyIncreasing result.now }
     {
         if number == 0 {
-            &self.empty
+            &[]
         } else {
             self.others.get(number as usize - 1)
         }
@@ -94,17 +91,24 @@ impl<S: Store> Numbers<S> {
             return Ok(0);
         }
         match others.place_of(set) {
-            Some(place) => Ok(place as u32 + 1),
-            None => self.add(rt, set),
+            Ok(place) => Ok(place as u32 + 1),
+            Err(_) if self.has_all(others.max_sets()) => Err(NoRoom::TableFull),
+            Err(hash) => {
+                let others = &mut self.others;
+                let number = others.len() as u32 + 1;
+                others.push(rt, set, hash)?;
+                Ok(number)
+            }
         }
     }
 
-    /// The number of the locks that two sets have in common.
+    /// The number of the locks that two sets have in common. They are written into `both`.
     pub(crate) fn number_of_meet<R>(
         &mut self,
         rt: &R,
         first: u32,
         second: u32,
+        both: &mut Lockset,
     ) -> Result<u32, NoRoom>
     where
         S: Grow<R>,
@@ -112,26 +116,8 @@ impl<S: Store> Numbers<S> {
         requires second { second < length self.old }
         ensures { IsNumbered self.old (meet (set_at self.old first) (set_at self.old second)) result self.new }
     {
-        let meet = self.set(first).intersect(self.set(second))?;
-        self.number_of(rt, &meet)
-    }
-
-    fn add<R>(&mut self, rt: &R, set: &Lockset) -> Result<u32, NoRoom>
-    where
-        S: Grow<R>,
-        requires { ¬ Contains self.old set.now }
-        ensures ok { OnOk result (self.new ≡ self.old ++ set.now ∷ []) }
-        ensures number { IfOk result (λ n. n ≡ length self.old) }
-        ensures err { OnErr result (self.new ≡ self.old) }
-        ensures refusals { ¬ IsErrOf result NoRoom.JournalFull }
-    {
-        if self.has_all(self.others.max_sets()) {
-            return Err(NoRoom::TableFull);
-        }
-        let others = &mut self.others;
-        let number = others.len() as u32 + 1;
-        others.push(rt, set)?;
-        Ok(number)
+        both.become_meet(self.set(first), self.set(second))?;
+        self.number_of(rt, both)
     }
 
     // Whether it has numbered so many sets, beside the empty one.
