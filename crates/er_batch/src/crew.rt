@@ -23,7 +23,6 @@ use er_parallel::{Crew, OpenGate, ReplayConfig, ReplayFault, Unusual, usual_answ
 use er_replay::OwnMachine;
 use er_report::{Report, ReportBuilder};
 use er_rules::Suppressions;
-use er_table::LocksetTable;
 use er_trace::Trace;
 use std::alloc::{AllocError, Global};
 use std::marker::Model;
@@ -32,15 +31,15 @@ use std::thread::{Threads, join_mut};
 
 /// Answers steps by the lockset rule and several workers, up to a batch that these can't answer.
 #[derive(Drop)]
-pub struct CrewAnalyst<'t, 'r> {
+pub struct CrewAnalyst<'r> {
     // Takes what each step makes of its thread's holdings, and no word, if reasons are wanted.
     holder: OwnMachine,
-    crew: Result<Crew<'t>, ReplayFault>,
+    crew: Result<Crew, ReplayFault>,
     items: Vec<Unusual>,
     builder: ReportBuilder<'r>,
 }
 
-impl<'t, 'r> Model for CrewAnalyst<'t, 'r> {
+impl<'r> Model for CrewAnalyst<'r> {
     ghost use Rattle.er_batch.specs.Analysts.{CrewRan};
 
     ghost Value = { CrewRan };
@@ -48,16 +47,15 @@ impl<'t, 'r> Model for CrewAnalyst<'t, 'r> {
     ghost view = { λ a. record { holder = a.holder; crew = a.crew; items = a.items.items; builder = a.builder } };
 }
 
-impl<'t, 'r> CrewAnalyst<'t, 'r> {
-    /// Before any step, with so many workers, and the shards and the keys of these options.
+impl<'r> CrewAnalyst<'r> {
+    /// Before any step, with so many workers, and the shards, sets and keys of these options.
     pub fn new<R: Threads + Wait + Sync>(
         rt: &R,
         alloc: Global,
-        table: &'t LocksetTable,
         suppressions: &'r Suppressions,
         options: &Options,
         workers: u32,
-    ) -> Result<CrewAnalyst<'t, 'r>, AllocError>
+    ) -> Result<CrewAnalyst<'r>, AllocError>
         requires { (1 ≤ workers) × (workers ≤ 16) }
         ensures stands { (asked : Asked) → asked.rules ≡ targets_of suppressions.now → asked.explain ≡ options.now.explain → IfOk result (λ analyst. HasCrewRun analyst asked no_steps) }
     {
@@ -69,7 +67,7 @@ impl<'t, 'r> CrewAnalyst<'t, 'r> {
             max_sets: options.max_sets,
             keys,
         };
-        let crew = Crew::new(rt, alloc, table, config, workers);
+        let crew = Crew::new(rt, alloc, config, workers);
         Ok(CrewAnalyst {
             holder,
             crew,
@@ -92,7 +90,7 @@ impl<'t, 'r> CrewAnalyst<'t, 'r> {
     }
 }
 
-impl<'t, 'r> Analyst for CrewAnalyst<'t, 'r> {
+impl<'r> Analyst for CrewAnalyst<'r> {
     ghost use Rattle.er_batch.specs.Analysts.{HasCrewRun, IsCrewReady};
     ghost use Rattle.er_report.specs.Reports.{asks_locks};
 
@@ -153,7 +151,7 @@ impl<'t, 'r> Analyst for CrewAnalyst<'t, 'r> {
 // The workers answer these steps while `beside` is called.
 fn take_beside<R: Threads + Wait + Sync, B, F: FnMut() -> B>(
     rt: &R,
-    crew: &mut Crew<'_>,
+    crew: &mut Crew,
     steps: &[Step],
     noting: bool,
     beside: &mut F,

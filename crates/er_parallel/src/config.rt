@@ -11,7 +11,7 @@ use std::alloc::AllocError;
 pub struct ReplayConfig {
     /// In how many shards the words are, 1 to 64.
     pub shards: u32,
-    /// How many sets of locks the table takes, 1 to 1,048,576.
+    /// How many sets of locks a worker keeps, 1 to 1,048,576.
     pub max_sets: u32,
     /// By which keys pages, threads and sets of locks are found. They change no answer.
     pub keys: HashKeys,
@@ -60,7 +60,7 @@ impl ReplayConfig {
 pub enum ReplayFault {
     /// There was no memory.
     Memory,
-    /// A set of locks found no place in the table.
+    /// A worker needed more sets of locks than it keeps.
     TableFull,
     /// A worker couldn't be started.
     WorkerNotStarted,

@@ -14,8 +14,6 @@ use crate::worker::{Fresh, Share, WorkFault, Worker};
 use crate::{ReplayConfig, ReplayFault, Unusual};
 use er_event::Step;
 use er_gate::Gate;
-use er_keys::HashKeys;
-use er_table::LocksetTable;
 use std::alloc::{AllocError, Global};
 use std::marker::Model;
 use std::sync::Wait;
@@ -24,13 +22,13 @@ use std::thread::{PromisedHandle, Threads};
 
 /// Workers that answer the steps of a list, one batch after another.
 #[derive(Drop)]
-pub struct Crew<'t> {
+pub struct Crew {
     alloc: Global,
     shards: u32,
-    workers: Vec<Worker<'t>>,
+    workers: Vec<Worker>,
 }
 
-impl<'t> Model for Crew<'t> {
+impl Model for Crew {
     ghost use Rattle.std.specs.Prelude.{◌≤◌, map, length};
     ghost use Rattle.er_parallel.specs.Crews.{Crewed};
     ghost use Rattle.er_parallel.specs.Limits.{IsShardCount};
@@ -42,8 +40,8 @@ impl<'t> Model for Crew<'t> {
     ghost invariant = { λ c. IsShardCount c.shards × (1 ≤ length c.workers.items) × (length c.workers.items ≤ 16) };
 }
 
-impl<'t> Crew<'t> {
-    /// Workers that have answered no step, 1 to 16, each with a machine of its own. The words are in shards by their pages, and worker
+impl Crew {
+    /// Workers that have answered no step, 1 to 16, each with a machine and sets of locks of its own. The words are in shards by their pages, and worker
     /// `w` answers the steps of the shards whose number is `w` modulo the number of workers.
     ///
     /// Each machine is made by a thread of its worker's. The fault is `WorkerNotStarted` if a thread for one of them can't be started,
@@ -51,19 +49,17 @@ impl<'t> Crew<'t> {
     pub fn new<R: Threads + Wait + Sync>(
         rt: &R,
         alloc: Global,
-        table: &'t LocksetTable,
         config: ReplayConfig,
         workers: u32,
-    ) -> Result<Crew<'t>, ReplayFault>
+    ) -> Result<Crew, ReplayFault>
         requires { (1 ≤ workers) × (workers ≤ 16) }
         ensures none { IfOk result (λ crew. HaveAnswered crew []) }
         ensures fault { IfErr result (λ why. (why ≡ ReplayFault.Memory) ⊎ (why ≡ ReplayFault.WorkerNotStarted)) }
     {
-        let ReplayConfig { shards, keys, .. } = config;
-        let workers = start(rt, alloc, table, keys, workers)?;
+        let workers = start(rt, alloc, config, workers)?;
         Ok(Crew {
             alloc,
-            shards,
+            shards: config.shards,
             workers,
         })
     }
@@ -98,13 +94,12 @@ impl<'t> Crew<'t> {
 }
 
 // Workers that have answered no step. A thread of each makes it. All threads that were started are joined.
-fn start<'t, R: Threads + Wait + Sync>(
+fn start<R: Threads + Wait + Sync>(
     rt: &R,
     alloc: Global,
-    table: &'t LocksetTable,
-    keys: HashKeys,
+    config: ReplayConfig,
     workers: u32,
-) -> Result<Vec<Worker<'t>>, ReplayFault>
+) -> Result<Vec<Worker>, ReplayFault>
     requires { (1 ≤ workers) × (workers ≤ 16) }
     ensures count { IfOk result (λ all. length all.items ≡ workers) }
     ensures fresh { IfOk result (λ all. AreFresh all.items) }
@@ -125,7 +120,7 @@ fn start<'t, R: Threads + Wait + Sync>(
                     Fresh,
                     move || -> Result<Worker, AllocError>
                         ensures { IfOk result (λ worker. Stands worker.machine []) }
-                    { Worker::new(alloc, table, keys) },
+                    { Worker::new(alloc, config) },
                 );
                 match started {
                     Ok(handle) => handles.push_reserved(handle),
@@ -143,12 +138,12 @@ fn start<'t, R: Threads + Wait + Sync>(
 }
 
 // Joins all threads that make workers, also if one of them has found no memory.
-fn join_all<'t, R: Threads>(
+fn join_all<R: Threads>(
     rt: &R,
     alloc: Global,
-    handles: Vec<PromisedHandle<Result<Worker<'t>, AllocError>, Fresh>>,
-) -> Result<Vec<Worker<'t>>, AllocError>
-    ensures count { IfOk result (λ all. length all.items ≡ length handles.entry.items) }
+    handles: Vec<PromisedHandle<Result<Worker, AllocError>, Fresh>>,
+) -> Result<Vec<Worker>, AllocError>
+    ensures count { IfOk result (λ all. length all.items ≡ length handles.items) }
     ensures fresh { IfOk result (λ all. AreFresh all.items) }
 {
     let mut all = Vec::new(alloc);
@@ -162,7 +157,7 @@ fn join_all<'t, R: Threads>(
 }
 
 // Adds a worker that was made, and says whether it is there.
-fn add<'t>(all: &mut Vec<Worker<'t>>, made: Result<Worker<'t>, AllocError>) -> bool
+fn add(all: &mut Vec<Worker>, made: Result<Worker, AllocError>) -> bool
     requires { IfOk made (λ worker. Stands worker.machine []) }
     ensures fresh { AreFresh all.old.items → AreFresh all.new.items }
     ensures count { IsTrue result → length all.new.items ≡ length all.old.items + 1 }
@@ -178,7 +173,7 @@ fn answer_each<R: Threads + Wait + Sync, G: Gate>(
     rt: &R,
     alloc: Global,
     shards: u32,
-    workers: &mut [Worker<'_>],
+    workers: &mut [Worker],
     steps: &[Step],
     noting: bool,
     gate: &G,
@@ -193,7 +188,7 @@ fn answer_each<R: Threads + Wait + Sync, G: Gate>(
         rt,
         workers,
         count,
-        &|at: usize, worker: &mut Worker<'_>|
+        &|at: usize, worker: &mut Worker|
             requires { (1 ≤ shards) × (shards ≤ 64) × (at < count) × (count ≤ 16) }
             ensures { (past : List Steps) → HasFollowed shards count at past worker.entry.now.machine → HasTaken past steps.entry.now (record { shards = shards; worker = at; workers = count; noting = noting }) worker.exit.now }
         {
@@ -208,13 +203,13 @@ fn answer_each<R: Threads + Wait + Sync, G: Gate>(
                     gate.enter(shard);
                 }
             }
-            worker.take(rt, alloc, steps, share);
+            worker.take(alloc, steps, share);
         },
     );
 }
 
 // Takes the items that the workers have found out of them, by rising position. The fault is that of the least shard that has one.
-fn merge(alloc: Global, workers: &mut [Worker<'_>]) -> Result<Vec<Unusual>, ReplayFault>
+fn merge(alloc: Global, workers: &mut [Worker]) -> Result<Vec<Unusual>, ReplayFault>
     ensures machines { machines_of workers.new ≡ machines_of workers.old }
     ensures merged { AreApart workers.old → IfOk result (λ items. AreMerged workers.old workers.new items.items) }
     ensures none_left { IfOk result (λ items. NoHeadBelow (length workers.new) workers.new) }
@@ -234,7 +229,7 @@ fn merge(alloc: Global, workers: &mut [Worker<'_>]) -> Result<Vec<Unusual>, Repl
 }
 
 // The fault of the least shard that has one. Of two faults of one shard it is the later worker's.
-fn least_fault(workers: &[Worker<'_>]) -> Option<WorkFault>
+fn least_fault(workers: &[Worker]) -> Option<WorkFault>
     ensures { MatchOption result (NoFaultBelow (length workers.now) workers.now) (λ fault. IsLeastFault (length workers.now) workers.now fault) }
 {
     let mut least = None;
@@ -257,7 +252,7 @@ fn lesser(known: Option<WorkFault>, other: WorkFault) -> WorkFault
 }
 
 // Takes the first item of the worker whose first item has the least position.
-fn take_least(workers: &mut [Worker<'_>]) -> Option<Unusual>
+fn take_least(workers: &mut [Worker]) -> Option<Unusual>
     ensures { MatchOption result ((workers.new ≡ workers.old) × NoHeadBelow (length workers.old) workers.old) (λ item. IsTaken workers.old item workers.new) }
 {
     let index = least_head(workers)?;
@@ -265,7 +260,7 @@ fn take_least(workers: &mut [Worker<'_>]) -> Option<Unusual>
 }
 
 // The worker whose first item has the least position, if a worker has an item.
-fn least_head(workers: &[Worker<'_>]) -> Option<usize>
+fn least_head(workers: &[Worker]) -> Option<usize>
     ensures { MatchOption result (NoHeadBelow (length workers.now) workers.now) (λ index. (at : ℕ) × IsLeastHead (length workers.now) workers.now index at) }
 {
     let mut least = None;

@@ -10,7 +10,6 @@ use crate::{Crew, ReplayConfig, ReplayFault, Unusual};
 use er_event::Step;
 use er_gate::Gate;
 use er_journal::{Answers, Outcome};
-use er_table::LocksetTable;
 use std::alloc::{AllocError, Global};
 use std::sync::Wait;
 use std::thread::Threads;
@@ -43,8 +42,7 @@ pub fn replay_parallel<G: Gate, R: Threads + Wait + Sync>(
     ensures table_full { IsErrOf result ReplayFault.TableFull → AsksForSet steps.now }
     ensures none_lost { ¬ IsErrOf result ReplayFault.WorkerLost }
 {
-    let table = LocksetTable::keyed(alloc, config.max_sets, config.keys)?;
-    let mut crew = Crew::new(rt, alloc, &table, config, workers)?;
+    let mut crew = Crew::new(rt, alloc, config, workers)?;
     let unusual = crew.take(rt, steps, false, gate)?;
     drop(crew);
     Ok(Outcome {

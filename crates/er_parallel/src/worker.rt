@@ -11,13 +11,11 @@ ghost use Rattle.er_event.specs.declared.steps.WordState.{WordState as WordState
 ghost use Rattle.er_replay.specs.Standing.{found_no_room, holding, in_full, Stands};
 ghost use Rattle.er_replay.specs.Wants.{is_access};
 
+use crate::ReplayConfig;
 use er_event::{Event, Lockset, NoRoom, Refusal, Reply, Step, ThreadId};
-use er_keys::HashKeys;
-use er_replay::{Brief, Machine, no_room};
-use er_table::LocksetTable;
+use er_replay::{Brief, OwnMachine, no_room};
 use std::alloc::{AllocError, Global};
 use std::collections::VecDeque;
-use std::sync::Wait;
 use std::thread::Promise;
 
 /// A step whose answer isn't the usual one. The usual answer to an access is `Quiet`, and to any other step `Done`. If changes are
@@ -46,7 +44,7 @@ pub(crate) struct Share {
 #[derive(Drop)]
 pub(crate) struct Fresh;
 
-impl<'t> Promise<Result<Worker<'t>, AllocError>> for Fresh {
+impl Promise<Result<Worker, AllocError>> for Fresh {
     ghost use Rattle.std.specs.Prelude.{[], IfOk};
     ghost use Rattle.er_replay.specs.Standing.{Stands};
 
@@ -62,46 +60,42 @@ pub(crate) struct WorkFault {
 
 /// A worker: its machine, and what it found in the last batch.
 #[derive(Drop)]
-pub(crate) struct Worker<'t> {
-    pub(crate) machine: Machine<'t>,
+pub(crate) struct Worker {
+    pub(crate) machine: OwnMachine,
     pub(crate) found: VecDeque<Unusual>,
     pub(crate) fault: Option<WorkFault>,
 }
 
-impl<'t> Worker<'t> {
-    /// A worker that has answered no step, and finds its pages by these keys.
-    pub(crate) fn new(
-        alloc: Global,
-        table: &'t LocksetTable,
-        keys: HashKeys,
-    ) -> Result<Worker<'t>, AllocError>
+impl Worker {
+    /// A worker that has answered no step, and keeps as many sets of locks as this configuration says.
+    pub(crate) fn new(alloc: Global, config: ReplayConfig) -> Result<Worker, AllocError>
         ensures { IfOk result (λ worker. Stands worker.machine []) }
     {
+        let ReplayConfig { max_sets, keys, .. } = config;
         Ok(Worker {
-            machine: Machine::keyed(alloc, table, keys)?,
+            machine: OwnMachine::keyed(alloc, max_sets, keys)?,
             found: VecDeque::new(alloc),
             fault: None,
         })
     }
 
     /// Answers the steps of a batch that are its own. Its unusual answers stay in `found`, or the reason why there are none in `fault`.
-    pub(crate) fn take<R: Wait>(&mut self, rt: &R, alloc: Global, steps: &[Step], share: Share)
+    pub(crate) fn take(&mut self, alloc: Global, steps: &[Step], share: Share)
         requires { IsShare share }
         ensures { (past : List Steps) → HasFollowed share.shards share.workers share.worker past self.old.machine → HasTaken past steps.now share self.new }
     {
         self.found.clear();
-        let answered = answer_all(rt, alloc, steps, share, &mut self.machine, &mut self.found);
+        let answered = answer_all(alloc, steps, share, &mut self.machine, &mut self.found);
         self.fault = answered.err();
     }
 }
 
 // Answers the steps of a batch that are the worker's own.
-fn answer_all<R: Wait>(
-    rt: &R,
+fn answer_all(
     alloc: Global,
     steps: &[Step],
     share: Share,
-    machine: &mut Machine<'_>,
+    machine: &mut OwnMachine,
     found: &mut VecDeque<Unusual>,
 ) -> Result<(), WorkFault>
     requires share { IsShare share }
@@ -110,12 +104,12 @@ fn answer_all<R: Wait>(
     ensures fault { (past : List Steps) → HasFollowed share.shards share.workers share.worker past machine.old → IfErr result (λ fault. MayBeFull (past ++ steps.now) fault) }
 {
     if share.workers == 1 {
-        return answer_alone(rt, alloc, steps, share, machine, found);
+        return answer_alone(alloc, steps, share, machine, found);
     }
     let mut at = next_busy(steps, share, 0);
     while at < steps.len() {
         let step = &steps[at];
-        if let Err(cause) = go_on(rt, alloc, steps, share, at, step, machine, found) {
+        if let Err(cause) = go_on(alloc, steps, share, at, step, machine, found) {
             let shard = shard_for(share.shards, step.event);
             return Err(WorkFault { shard, cause });
         }
@@ -125,12 +119,11 @@ fn answer_all<R: Wait>(
 }
 
 // The same for a worker that is the only one, so that all steps are its own. It looks at none twice, and reads the words of the next few ahead.
-fn answer_alone<R: Wait>(
-    rt: &R,
+fn answer_alone(
     alloc: Global,
     steps: &[Step],
     share: Share,
-    machine: &mut Machine<'_>,
+    machine: &mut OwnMachine,
     found: &mut VecDeque<Unusual>,
 ) -> Result<(), WorkFault>
     requires share { IsShare share }
@@ -142,7 +135,7 @@ fn answer_alone<R: Wait>(
     for at in 0..steps.len() {
         machine.look_ahead(steps, at);
         let step = &steps[at];
-        if let Err(cause) = answer_own(rt, alloc, steps, share, at, step, machine, found) {
+        if let Err(cause) = answer_own(alloc, steps, share, at, step, machine, found) {
             let shard = shard_for(share.shards, step.event);
             return Err(WorkFault { shard, cause });
         }
@@ -182,14 +175,13 @@ fn is_idle(share: Share, step: &Step) -> bool
 // Takes the next step of a batch, and keeps its answer unless it is another worker's step, or a plain one. It is called, so that the loop over the steps
 // stays short.
 #[inline(never)]
-fn go_on<R: Wait>(
-    rt: &R,
+fn go_on(
     alloc: Global,
     steps: &[Step],
     share: Share,
     at: usize,
     step: &Step,
-    machine: &mut Machine<'_>,
+    machine: &mut OwnMachine,
     found: &mut VecDeque<Unusual>,
 ) -> Result<(), NoRoom>
     requires share { IsShare share }
@@ -201,19 +193,18 @@ fn go_on<R: Wait>(
         machine.pass(*step)?;
         return Ok(());
     }
-    answer_own(rt, alloc, steps, share, at, step, machine, found)
+    answer_own(alloc, steps, share, at, step, machine, found)
 }
 
 // Takes the next step of a batch, which is the worker's own, and keeps its answer unless it is a plain one.
 #[inline(always)]
-fn answer_own<R: Wait>(
-    rt: &R,
+fn answer_own(
     alloc: Global,
     steps: &[Step],
     share: Share,
     at: usize,
     step: &Step,
-    machine: &mut Machine<'_>,
+    machine: &mut OwnMachine,
     found: &mut VecDeque<Unusual>,
 ) -> Result<(), NoRoom>
     requires there { slice_get steps.now at ≡ Some step.now }
@@ -221,7 +212,7 @@ fn answer_own<R: Wait>(
     ensures far { (past : List Steps) → HasCome at past steps.now share found.old.items machine.old → OnOk result (HasCome (at + 1) past steps.now share found.new.items machine.new) }
     ensures full { (past : List Steps) → HasCome at past steps.now share found.old.items machine.old → IsErrOf result NoRoom.TableFull → AsksForSet (past ++ steps.now) }
 {
-    let (brief, changed) = machine.take(rt, *step);
+    let (brief, changed) = machine.take(&(), *step);
     if is_passed_over(step, brief, share.noting, changed) {
         return Ok(());
     }
@@ -233,7 +224,7 @@ fn answer_own<R: Wait>(
 #[inline(never)]
 fn keep(
     alloc: Global,
-    machine: &Machine<'_>,
+    machine: &OwnMachine,
     thread: ThreadId,
     at: usize,
     answer: Result<Reply, Refusal>,

@@ -24,7 +24,6 @@ use er_event::NoRoom;
 use er_lines::Shortcut;
 use er_report::{Analysis, Report, Reports};
 use er_rules::Suppressions;
-use er_table::LocksetTable;
 use er_unordered::OrderAnalyst;
 use std::alloc::{AllocError, Global};
 use std::io::Read;
@@ -34,12 +33,11 @@ use std::thread::Threads;
 /// What answers the steps of a request: each rule that is asked for, and what looks for damage.
 type Analysts<'r> = Pair<Pair<Option<LocksetAnalyst<'r>>, Option<OrderAnalyst<'r>>>, Inspection>;
 
-/// The report by the lockset rule of a replay by several workers, over this table. A quarter of them answer while the others read, since of several that
+/// The report by the lockset rule of a replay by several workers. A quarter of them answer while the others read, since of several that
 /// answer each goes over all steps.
 pub(crate) fn report_by_crew<R: Threads + Wait + Sync, D: Read, S: Shortcut<D>, V: Watch>(
     rt: &R,
     alloc: Global,
-    table: &LocksetTable,
     reader: &mut Device<D>,
     shortcut: &S,
     suppressions: &Suppressions,
@@ -52,7 +50,7 @@ pub(crate) fn report_by_crew<R: Threads + Wait + Sync, D: Read, S: Shortcut<D>, 
 {
     let answering = (options.workers / 4).max(1);
     let readers = (options.workers - answering).max(1);
-    let crew = CrewAnalyst::new(rt, alloc, table, suppressions, options, answering)?;
+    let crew = CrewAnalyst::new(rt, alloc, suppressions, options, answering)?;
     let inspection = Inspection::new(alloc, looks_for_damage(options));
     let all = Pair {
         first: crew,
@@ -66,7 +64,7 @@ pub(crate) fn report_by_crew<R: Threads + Wait + Sync, D: Read, S: Shortcut<D>, 
 
 // The report of the text that was read, or its damage, if the replay is strict and there is any, or why the workers have stopped.
 fn end_crew(
-    found: Analysed<Pair<CrewAnalyst<'_, '_>, Inspection>>,
+    found: Analysed<Pair<CrewAnalyst<'_>, Inspection>>,
     options: &Options,
 ) -> Result<ReplayedTrace, RunFault>
     ensures outcome { (asked : Asked) (told : Option (List ℕ)) (limit : ℕ) → asked.analysis ≡ Lockset → (asked.strict ≡ true → options.now.part ≡ None) → IsAnswered (λ r. CrewStands found.entry.analyst.first found.entry.analyst.second.inspector asked r × HasCounted options.now.part found.entry.of_pages r.steps) options.now.part told limit found.entry.trace.names

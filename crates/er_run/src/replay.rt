@@ -22,7 +22,6 @@ use er_lines::{ByText, Shortcut};
 use er_print::write_report;
 use er_report::{Analysis, Report, Reports};
 use er_rules::Suppressions;
-use er_table::LocksetTable;
 use std::alloc::Global;
 use std::io::{Read, Write};
 use std::sync::Wait;
@@ -111,7 +110,7 @@ fn write_found<W: Write>(
 /// end. What it does changes nothing of what is returned.
 ///
 /// # Errors
-/// `Read`: the text has a fault, a read failed, or memory was refused to the reader or to a step. `Replay`: the table of locksets is full, or
+/// `Read`: the text has a fault, a read failed, or memory was refused to the reader or to a step. `Replay`: a worker needs more locksets than it may keep, or
 /// a worker couldn't be started. `Beyond`: happens-before has no room for a step. `Damaged`: the trace is, and the replay is
 /// strict. `Memory`: memory was refused elsewhere. Never `Write`.
 pub fn replay_reports<R, D, S, V>(
@@ -145,10 +144,9 @@ where
     ensures alone { options.now.workers ≡ 1 → options.now.part ≡ None → analysis ≡ Lockset → IfErr result IsOfReading }
     ensures one { options.now.workers ≡ 1 → analysis ≡ Lockset → IfErr result IsOfOneWorker }
 {
-    let table = LocksetTable::keyed(alloc, options.max_sets, options.keys)?;
     let found = if options.workers > 1 && !analysis.asks_order() {
         let rules = suppressions;
-        report_by_crew(rt, alloc, &table, reader, shortcut, rules, options, watcher)
+        report_by_crew(rt, alloc, reader, shortcut, rules, options, watcher)
     } else {
         reports_by_one(
             rt,
@@ -161,7 +159,6 @@ where
             watcher,
         )
     };
-    drop(table);
     watcher.end();
     found
 }

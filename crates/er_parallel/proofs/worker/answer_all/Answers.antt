@@ -4,7 +4,7 @@ use Rattle.er_parallel.proofs.TakingLemmas.{come-none, come-end, come-to}
 use Rattle.er_parallel.proofs.worker.answer_all.Goals as goal
 
 pub loop-at-init : goal.loop-at-init
-loop-at-init g c = record {
+loop-at-init c = record {
   within = c.next_busy-at.ensures.within;
   come = λ past follows. come-to past c.args.steps.now c.args.share 0 c.next_busy-at.result c.args.found.now.items c.args.machine.now
       c.next_busy-at.ensures.behind c.next_busy-at.ensures.within c.next_busy-at.ensures.idle
@@ -12,10 +12,10 @@ loop-at-init g c = record {
 }
 
 pub go_on-requires-clause-there : goal.go_on-requires-clause-there
-go_on-requires-clause-there g c = slice_get_read c.args.steps.now _ c.loop-at.at c.index-steps-at.result refl c.loop-at-test.true c.index-steps-at.is
+go_on-requires-clause-there c = slice_get_read c.args.steps.now _ c.loop-at.at c.index-steps-at.result refl c.loop-at-test.true c.index-steps-at.is
 
 pub loop-at-preserved : goal.loop-at-preserved
-loop-at-preserved g c =
+loop-at-preserved c =
     let next = c.next_busy-at-in-loop-at in record {
       within = next.ensures.within;
       come = λ past follows. come-to past c.args.steps.now c.args.share (c.loop-at.at + 1) next.result c.go_on.new.found.items c.go_on.new.machine
@@ -24,6 +24,6 @@ loop-at-preserved g c =
     }
 
 pub returns-clause-done : goal.returns-clause-done
-returns-clause-done g c past follows =
+returns-clause-done c past follows =
     let ended : c.loop-at.at ≡ length c.args.steps.now = omega (arith, c.loop-at-test.false, c.loop-at.invariant.within) in
     come-end past c.args.steps.now c.args.share c.loop-at.found.items c.loop-at.machine c.loop-at.at ended (c.loop-at.invariant.come past follows)

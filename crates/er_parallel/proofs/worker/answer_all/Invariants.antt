@@ -6,10 +6,10 @@ use Rattle.er_parallel.specs.Inner.Taking.{HasCome}
 use Rattle.er_parallel.proofs.worker.answer_all.Given as goal
 
 abbrev pub invariant-loop-at : goal.invariant-loop-at
-invariant-loop-at g l = record {
+invariant-loop-at l = record {
   within : l.at ≤ length l.steps;
   come : (past : List Step) → HasFollowed l.share.shards l.share.workers l.share.worker past l.initial.machine → HasCome l.at past l.steps l.share l.found.items l.machine;
 }
 
 abbrev pub decreases-loop-at : goal.decreases-loop-at
-decreases-loop-at g l = length l.steps - l.at
+decreases-loop-at l = length l.steps - l.at
