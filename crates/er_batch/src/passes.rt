@@ -1,5 +1,5 @@
 //! The pass over a text: each batch of lines is read, answered and forgotten.
-ghost use Rattle.std.specs.Prelude.{◌≡◌, ◌+◌, ◌++◌, ◌<◌, ◌≤◌, ◌^◌, [], ℕ, All, List, Option, false, true, filter, max, nat_le, IfSome, IfOk, IfErr, OnOk};
+ghost use Rattle.std.specs.Prelude.{◌≡◌, ◌+◌, ◌++◌, ◌<◌, ◌≤◌, ◌^◌, [], ℕ, All, List, Option, false, true, filter, max, nat_le, IfSome, IfOk, IfErr, IsTrue, OnOk};
 ghost use Rattle.std.specs.Thread.{IsSync};
 ghost use Rattle.er_batch.specs.Analysts.{Asked, HasCounted, IsAnswered, IsFaultOfReading};
 ghost use Rattle.er_batch.specs.Inner.Passes.{HasCome, HasEnded, StandsFor, Tells, TellsBetween};
@@ -298,8 +298,19 @@ fn last_between(lines: &[u64], from: u64, next: u64) -> Result<u64, AllocError>
     ensures between { OnOk result (All (λ line. (from ≤ line) × (line < next)) lines.now) }
     ensures last { IfOk result (λ line. from ≤ line) }
 {
-    if !lines.iter().all(|line| *line >= from && *line < next) {
+    if !are_between(lines, from, next) {
         return Err(AllocError);
     }
     Ok(lines.last().copied().unwrap_or(from).max(from))
+}
+
+// Whether all of these lines are between these bounds. Without a branch at each line several are compared at once.
+fn are_between(lines: &[u64], from: u64, next: u64) -> bool
+    ensures { IsTrue result → All (λ line. (from ≤ line) × (line < next)) lines.now }
+{
+    let mut between = true;
+    for at in 0..lines.len() {
+        between = between & (lines[at] >= from) & (lines[at] < next);
+    }
+    between
 }
