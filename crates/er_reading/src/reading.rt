@@ -31,9 +31,10 @@ const LINE_WINDOW_BYTES: usize = 65_536;
 /// How many lines the first batch has, before those that are cut into pieces. The header is mostly among them.
 const FIRST_LINES: u32 = 64;
 
-/// How many lines a batch has if one thread reads and answers. Of ready lines it has more, since each batch looks up its names anew.
+/// How many lines a batch has if one thread reads and answers.
 const LINES_OF_ONE: u32 = 1_024;
 
+/// The same of ready lines. They are more, since each batch looks up its names anew.
 const READY_LINES_OF_ONE: u32 = 4_096;
 
 /// How many lines a batch has if there are several threads and the lines aren't read in pieces.

@@ -350,7 +350,7 @@ impl TraceReader {
     }
 
     /// Reads the next `most_lines` lines, or those up to the end of the text, and adds their steps to the trace. It stops behind the line that
-    /// brings the trace to 131,072 steps, since a line of a long reuse has up to 1,025. The shortcut may have lines ready.
+    /// brings the trace to 131,072 steps, since a line of a long reuse has up to 1,025. The shortcut may have lines ready: those of one access count as one.
     ///
     /// A text that ends without a header has a fault at its end. After a fault the reader is not to be called again: nothing is known
     /// of what it would read.
