@@ -218,7 +218,8 @@ impl Seat {
         Ok(())
     }
 
-    /// Goes to an interrupt level, which may be the present one. Refused if there is no memory (`OutOfMemory`), which the list may need at any level.
+    /// Goes to an interrupt level, which may be the present one. Refused if there is no memory (`OutOfMemory`): the call's own entry may take some,
+    /// even if the level doesn't rise.
     pub fn set_level(&mut self, level: Level) -> Result<(), Refusal>
         ensures ok { OnOk result (self.new ≡ with_call self.old (done (Event.Level level))) }
         ensures err { OnErr result (self.new ≡ self.old) }
@@ -242,7 +243,8 @@ impl Seat {
         Ok(())
     }
 
-    /// Makes an access outside any bracket in a shard, under a ticket, and lists it. Refused if there is no memory (`OutOfMemory`), and as by the shard.
+    /// Makes an access outside any bracket in a shard, under a ticket, and lists it. Refused if there is no memory for the list and the stamp
+    /// (`OutOfMemory`), and then if the shard refuses it.
     #[tactic(auto, unfolding(crate::specs::Seats::with_call, crate::specs::Seats::access_stamp))]
     #[inline(always)]
     pub fn record_access<R, S: Grow<R>>(
@@ -263,6 +265,8 @@ impl Seat {
         ensures err_shard { OnErr result (shard.new ≡ shard.old) }
         ensures full { shard.old.limit ≤ length shard.old.journal → IsErrAnd result (λ cause. (cause ≡ NoRoom.JournalFull) ⊎ (cause ≡ NoRoom.OutOfMemory)) }
         ensures full_only { IsErrOf result NoRoom.JournalFull → shard.old.limit ≤ length shard.old.journal }
+
+        // The table isn't asked for a set while one thread alone has accessed the word.
         ensures table_full { IsErrOf result NoRoom.TableFull → IsTrue (needs_set (journal_state shard.old.journal word) self.old.thread) }
     {
         self.calls.reserve(1 + calls_to_unwind(&self.held))?;
@@ -284,7 +288,8 @@ impl Seat {
         Ok(reply.reply())
     }
 
-    /// Makes one page part of a reuse in a shard, under a ticket, and lists it. Refused if there is no memory (`OutOfMemory`), and as by the shard.
+    /// Makes one page part of a reuse in a shard, under a ticket, and lists it. Refused if there is no memory for the list (`OutOfMemory`), and then
+    /// if the shard refuses it.
     pub fn reuse<S: Store>(
         &mut self,
         shard: &mut ShardIn<S>,

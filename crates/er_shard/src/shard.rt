@@ -61,7 +61,8 @@ impl<'t> ShardIn<Shared<'t>> {
 }
 
 impl ShardIn<Owned> {
-    /// A shard with no entry yet. It takes `limit` entries, and `max_sets` sets of locks, at most 1,048,576. The only error is that there is no memory.
+    /// A shard with an empty journal that takes `limit` entries. Its words take `max_sets` sets of locks, and never more than 1,048,576. The only error is
+    /// that there is no memory.
     pub fn new(
         alloc: Global,
         max_sets: u32,
