@@ -1,9 +1,9 @@
 -- Workers go on with each batch, and its items say what is to be said of each of its steps.
-use Rattle.std.proofs.Common.{◌≡◌, ◌⊎◌, ◌<◌, ◌≤◌, ◌+◌, ◌==◌, ℕ, suc, add-one, nat_lt, Bool, true, false, cond, List, [], ◌++◌, length, length-append, slice_get, slice_index, Some, Result, Ok, Err, IfOk, IfErr, OnOk, is_some, refl, sym, ap, subst, ◌∙◌, inl, inr, arith}
+use Rattle.std.proofs.Common.{◌≡◌, ◌⊎◌, ◌<◌, ◌≤◌, ◌+◌, ◌-◌, ◌==◌, ℕ, suc, add-one, nat_lt, Bool, true, false, cond, List, [], ◌++◌, length, length-append, slice_get, slice_index, get_or, None, Some, Result, Ok, Err, IfOk, IfErr, OnOk, is_some, refl, sym, ap, subst, ◌∙◌, inl, inr, arith}
 use Rattle.std.specs.Prelude.{MatchResult}
 use Rattle.std.proofs.lemmas.Bool.{cases_lt, eqb-true}
 use Rattle.std.proofs.lemmas.List.Elements.{All-nil}
-use Rattle.std.proofs.lemmas.Option.{slice_get_within}
+use Rattle.std.proofs.lemmas.Option.{slice_get_cases, slice_get_within}
 use Rattle.er_batch.proofs.BatchLemmas.{goes-on, grown}
 use Rattle.er_batch.specs.Analysts.{Asked, CrewRan, HasCrewRun, IsCrewReady}
 use Rattle.er_batch.specs.Inner.Items.{AreItems, Holds, IsNext, is_reuse}
@@ -34,7 +34,7 @@ use Rattle.er_parallel.specs.declared.worker.Unusual.{Unusual}
 use Rattle.er_replay.specs.Standing.{Replayed, Stands, holding}
 use Rattle.er_replay.specs.Wants.{asks_by}
 use Rattle.er_report.proofs.GrowthLemmas.{reported-on}
-use Rattle.er_report.specs.Builder.{Built, IsReported, IsStepAt, KeepsState, is_plain}
+use Rattle.er_report.specs.Builder.{ArePlain, Built, IsReported, IsStepAt, KeepStates, KeepsState, is_plain}
 use Rattle.er_text.specs.Batches.{joined}
 use Rattle.er_text.specs.Named.{KeepsNames}
 use Rattle.er_trace.specs.Names.{NameTable}
@@ -149,6 +149,45 @@ module _ (past batch : List Step) (lines sites : List ℕ) (names : NameTable) (
           leaves-states (past ++ batch) (length past + k) (holdings_at (past ++ batch) step.thread (length past + k)) step.thread step.event still same w
           (state-step (past ++ batch) (length past + k) step w there)
       by (inr among) = absurd (among-none next before after among)
+
+-- the items from an index on stand behind the next one's position, and so behind each before that
+next-within : (items : List Unusual) (next from told k : ℕ) → IsNext items next from → IsNext items next told → from ≤ k → k ≤ told → IsNext items next k
+next-within items next from told k before after low high = record {
+  below = λ j item there under. (let behind : item.at < from = before.below j item there under in omega (arith, low));
+  above = λ j item there over. (let ahead : told ≤ item.at = after.above j item there over in omega (arith, high));
+}
+
+-- of the steps from one position to another, between which no item stands, each is plain; and if changes are noted and none is a reuse, each leaves
+-- every word as it was
+module _ (past batch : List Step) (names : NameTable) (items : List Unusual) (unusual : AreUnusual past batch items) (next from told : ℕ)
+    (before : IsNext items next from) (after : IsNext items next told) (within : told ≤ length batch) where
+  abbrev Here : ℕ → Type 0
+  Here k = ((x : Step) × (k < length batch) × (slice_get batch k ≡ Some x) × (get_or batch k x ≡ x)) ⊎ ((length batch ≤ k) × (slice_get batch k ≡ None))
+
+  one-plain : (k : ℕ) → from ≤ k → k < told → Here k → is_plain (answer (past ++ batch) (length past + k)) ≡ true
+  one-plain k low high (inl found) =
+      usual-plain past batch [] [] names items unusual k _ _ found.0 found.2 refl refl next
+      (next-within items next from told k before after low (omega (arith, high))) (next-within items next from told (k + 1) before after (omega (arith, low)) (omega (arith, high)))
+  one-plain k low high (inr past_end) = absurd (omega (arith, past_end.0, high, within))
+
+  pub run-plain : (plain : ℕ) → from + plain ≡ told → ArePlain (past ++ batch) (length past + from) plain
+  run-plain plain behind i low high =
+      let k : ℕ = i - length past in
+      let place : length past + k ≡ i = omega (arith, low) in
+      subst (λ (n : ℕ). is_plain (answer (past ++ batch) n) ≡ true) place (one-plain k (omega (arith, low)) (omega (arith, low, high, behind)) (slice_get_cases batch k).1)
+
+  module _ (noted : AreNoted past batch items) (still : (k : ℕ) (step : Step) → from ≤ k → k < told → slice_get batch k ≡ Some step → is_reuse step.event ≡ false) where
+    one-keeps : (k : ℕ) → from ≤ k → k < told → Here k → KeepsState (past ++ batch) (length past + k)
+    one-keeps k low high (inl found) =
+        unnoted past batch [] [] names items unusual k _ _ found.0 found.2 refl refl noted (still k found.0 low high found.2) next
+        (next-within items next from told k before after low (omega (arith, high))) (next-within items next from told (k + 1) before after (omega (arith, low)) (omega (arith, high)))
+    one-keeps k low high (inr past_end) = absurd (omega (arith, past_end.0, high, within))
+
+    pub run-keeps : (plain : ℕ) → from + plain ≡ told → KeepStates (past ++ batch) (length past + from) plain
+    run-keeps plain behind i low high =
+        let k : ℕ = i - length past in
+        let place : length past + k ≡ i = omega (arith, low) in
+        subst (KeepsState (past ++ batch)) place (one-keeps k (omega (arith, low)) (omega (arith, low, high, behind)) (slice_get_cases batch k).1)
 
 -- a step that asks for a set does so in every list that goes on from its own
 asks-still : (h other : Holdings) (states others : ℕ → WordState) (t : ℕ) (event : Event) → other ≡ h → ((w : ℕ) → others w ≡ states w)

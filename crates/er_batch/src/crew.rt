@@ -192,33 +192,67 @@ fn add_items(
     }
     let explains = builder.explains();
     let mut next = 0;
-    let mut plain = 0;
-    for (k, step) in steps.iter().enumerate() {
+    let mut k = 0;
+    while k < steps.len() {
+        let told = next_told(explains, steps, items, next, k);
         if explains {
-            holder.pass(*step)?;
+            pass_all(holder, steps, k, steps.len().min(told + 1))?;
         }
-        if says_nothing(explains, step, items, next, k) {
-            plain += 1;
-        } else {
-            next = add_next(builder, plain, trace, items, next, k, holder)?;
-            plain = 0;
+        let plain = (told - k) as u64;
+        if told == steps.len() {
+            builder.add_plain(plain);
+            return Ok(());
         }
+        next = add_next(builder, plain, trace, items, next, told, holder)?;
+        k = told + 1;
     }
-    builder.add_plain(plain);
     Ok(())
 }
 
-// Whether the report says nothing of the step at position k: its answer is the usual one, and if reasons are wanted it is no reuse and isn't
-// noted as an access that changed its word. Else the step itself isn't looked at, so that a batch that has left the cache isn't loaded again.
-#[inline(always)]
-fn says_nothing(explains: bool, step: &Step, items: &[Unusual], next: usize, k: usize) -> bool
-    ensures place { IsTrue result → Rise items.now → IsNext items.now next k → IsNext items.now next (k + 1) }
-    ensures still { IsTrue result → explains ≡ true → is_reuse step.now.event ≡ false }
+// The first position from here on of a step that the report may have something to say of, or the end of the batch: the next item's, or if reasons are
+// wanted a reuse's. Without reasons no step is looked at, so that a batch that has left the cache isn't loaded again.
+fn next_told(
+    explains: bool,
+    steps: &[Step],
+    items: &[Unusual],
+    next: usize,
+    from: usize,
+) -> usize
+    requires within { from ≤ length steps.now }
+    ensures behind { from ≤ result }
+    ensures within { result ≤ length steps.now }
+    ensures place { Rise items.now → IsNext items.now next from → IsNext items.now next result }
+    ensures still { explains ≡ true → (k : ℕ) (step : Steps) → from ≤ k → k < result → slice_get steps.now k ≡ Some step → is_reuse step.event ≡ false }
 {
-    if item_at(items, next, k).is_some() {
-        return false;
+    let end = match items.get(next) {
+        Some(item) => item.at.max(from).min(steps.len()),
+        None => steps.len(),
+    };
+    if !explains {
+        return end;
     }
-    !explains || !matches!(step.event, Event::Reuse(_))
+    for k in from..end {
+        if let Event::Reuse(_) = steps[k].event {
+            return k;
+        }
+    }
+    end
+}
+
+// What threads hold goes on by the steps at these positions, `from` included and `to` not.
+fn pass_all(
+    holder: &mut OwnMachine,
+    steps: &[Step],
+    from: usize,
+    to: usize,
+) -> Result<(), AllocError>
+    requires within { (from ≤ to) × (to ≤ length steps.now) }
+    ensures { (past : List Steps) → Holds true holder.old (past ++ steps.now) (length past + from) → OnOk result (Holds true holder.new (past ++ steps.now) (length past + to)) }
+{
+    for k in from..to {
+        holder.pass(steps[k])?;
+    }
+    Ok(())
 }
 
 // Adds `plain` steps at once that the report has no line for, and then the step at position k of a batch, with its item's answer or the

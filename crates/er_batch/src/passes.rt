@@ -1,5 +1,5 @@
 //! The pass over a text: each batch of lines is read, answered and forgotten.
-ghost use Rattle.std.specs.Prelude.{◌≡◌, ◌+◌, ◌++◌, ◌<◌, ◌≤◌, ◌^◌, [], ℕ, All, List, Option, false, true, filter, max, nat_le, IfSome, IfOk, IfErr, IsTrue, OnOk};
+ghost use Rattle.std.specs.Prelude.{◌≡◌, ◌+◌, ◌++◌, ◌<◌, ◌≤◌, ◌^◌, [], ℕ, All, List, Option, false, true, filter, max, nat_le, IfSome, IfOk, IfErr, IsOk, IsTrue, OnOk};
 ghost use Rattle.std.specs.Thread.{IsSync};
 ghost use Rattle.er_batch.specs.Analysts.{Asked, HasCounted, IsAnswered, IsFaultOfReading};
 ghost use Rattle.er_batch.specs.Inner.Passes.{HasCome, HasEnded, StandsFor, Tells, TellsBetween};
@@ -296,6 +296,7 @@ pub fn analyse<R: Threads + Wait + Sync, D: Read, S: Shortcut<D>, V: Watch, A: A
 // The last of these lines, or the one from which on they are to be. `AllocError`: one of them isn't from there on, or not before the next one.
 fn last_between(lines: &[u64], from: u64, next: u64) -> Result<u64, AllocError>
     ensures between { OnOk result (All (λ line. (from ≤ line) × (line < next)) lines.now) }
+    ensures only { All (λ line. (from ≤ line) × (line < next)) lines.now → IsOk result }
     ensures last { IfOk result (λ line. from ≤ line) }
 {
     if !are_between(lines, from, next) {
@@ -306,7 +307,8 @@ fn last_between(lines: &[u64], from: u64, next: u64) -> Result<u64, AllocError>
 
 // Whether all of these lines are between these bounds. Without a branch at each line several are compared at once.
 fn are_between(lines: &[u64], from: u64, next: u64) -> bool
-    ensures { IsTrue result → All (λ line. (from ≤ line) × (line < next)) lines.now }
+    ensures between { IsTrue result → All (λ line. (from ≤ line) × (line < next)) lines.now }
+    ensures only { All (λ line. (from ≤ line) × (line < next)) lines.now → IsTrue result }
 {
     let mut between = true;
     for at in 0..lines.len() {

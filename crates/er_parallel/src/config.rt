@@ -11,7 +11,7 @@ use std::alloc::AllocError;
 pub struct ReplayConfig {
     /// In how many shards the words are, 1 to 64.
     pub shards: u32,
-    /// How many sets of locks a worker keeps, 1 to 1,048,576.
+    /// How many sets of locks a worker keeps at most, 1 to 1,048,576.
     pub max_sets: u32,
     /// By which keys pages, threads and sets of locks are found. They change no answer.
     pub keys: HashKeys,
