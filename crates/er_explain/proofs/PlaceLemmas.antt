@@ -59,14 +59,14 @@ one_number ps count i n was within is = ap (number_at ps) (sym is) ∙ was.apart
 
 -- One book more
 
-module _ (ps left : List ℕ) (place count : ℕ) (was : AreApart ps count) (room : count < 32) (put : left ≡ slice_set ps count place) (new : count ≤ number_at ps place) where
+module _ (ps left : List ℕ) (place count : ℕ) (was : AreApart ps count) (room : count < 256) (put : left ≡ slice_set ps count place) (new : count ≤ number_at ps place) where
   put_here : place_at left count ≡ place
   put_here = ap (λ l. place_at l count) put ∙ get_or-set_same ps count place 0 (let long = was.long in omega (arith, room, long))
 
   put_other : (k : ℕ) → k ≢ count → place_at left k ≡ place_at ps k
   put_other k other = ap (λ l. place_at l k) put ∙ get_or-set_other ps count k place 0 other
 
-  as_long : length left ≡ 32
+  as_long : length left ≡ 256
   as_long = ap (λ l. length l) put ∙ length-set ps count place ∙ was.long
 
   new_number : number_at left place ≡ count
@@ -154,7 +154,7 @@ module _ (ps left : List ℕ) (number last : ℕ) (was : AreApart ps (last + 1))
   kept : (k : ℕ) → k ≢ number → place_at left k ≡ place_at ps k
   kept k other = ap (λ l. place_at l k) put ∙ get_or-set_other ps number k (place_at ps last) 0 other
 
-  long_still : length left ≡ 32
+  long_still : length left ≡ 256
   long_still = ap (λ l. length l) put ∙ length-set ps number (place_at ps last) ∙ was.long
 
   -- the place that moves has the last number
@@ -402,7 +402,7 @@ found_number ps books place n found past = by (below_or n (length books))
     by (inl below) = ap (λ m. slice_index_or books m Untouched) (found below)
     by (inr none) = past_end books n none ∙ sym (past_end books (number_at ps place) (past none))
 
-pub apart-none : (ps : List ℕ) (count : ℕ) → length ps ≡ 32 → count ≡ 0 → AreApart ps count
+pub apart-none : (ps : List ℕ) (count : ℕ) → length ps ≡ 256 → count ≡ 0 → AreApart ps count
 apart-none ps count long none = record { few = omega (arith, none); long = long; apart = λ n below. absurd (omega (arith, below, none)) }
 
 pub apart-as : (ps : List ℕ) (count more : ℕ) → count ≡ more → AreApart ps count → AreApart ps more

@@ -1,4 +1,4 @@
--- The books of all words, in blocks of 32 words.
+-- The books of all words, in blocks of 256 words.
 use Rattle.std.specs.Prelude.{ℕ, ◌/◌, ◌%◌, ◌&&◌, nat_eq, nat_le, Bool, List, slice_index_or, Option, Some, None}
 use Rattle.std.specs.Map.{lookup}
 use Rattle.er_explain.specs.Joined.{Joining}
@@ -19,7 +19,7 @@ book_in_block (Some books) place = book_at_place books place
 
 -- the book of word w
 unfoldable pub book_in : {A : Type 0} → Blocks A → ℕ → Book A
-book_in blocks w = book_in_block (lookup (nat_eq (w / 32)) blocks) (w % 32)
+book_in blocks w = book_in_block (lookup (nat_eq (w / 256)) blocks) (w % 256)
 
 -- what a book says of the joining, if a second thread has joined
 abbrev pub joining_in : {A : Type 0} → Book A → Option (Joining A)
@@ -29,4 +29,4 @@ joining_in (Joined joining) = Some joining
 
 -- the word stands in the block of this number, at one of these places
 abbrev pub is_place_in : ℕ → ℕ → ℕ → ℕ → Bool
-is_place_in number lo hi w = nat_eq number (w / 32) && (nat_le lo (w % 32) && nat_le (w % 32) hi)
+is_place_in number lo hi w = nat_eq number (w / 256) && (nat_le lo (w % 256) && nat_le (w % 256) hi)

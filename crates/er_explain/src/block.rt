@@ -22,10 +22,7 @@ pub(crate) struct Block<A> {
     books: Vec<Book<A>>,
     // The place of each book, in the same order. What stands behind them says nothing. They stand beside the books' address: so a look at a
     // block's books reads one piece of memory to find them.
-    places: [u8; 32],
-    // Says nothing. With it a block takes 64 bytes, a line of memory, so that a look at a block's places reads one line, if the list of blocks begins at
-    // the start of one.
-    gap: [u8; 8],
+    places: [u8; 256],
 }
 
 impl<A> Model for Block<A> {
@@ -48,8 +45,7 @@ impl<A: Copy> Block<A> {
     {
         Block {
             books: Vec::new(alloc),
-            places: [0; 32],
-            gap: [0; 8],
+            places: [0; 256],
         }
     }
 
@@ -62,7 +58,7 @@ impl<A: Copy> Block<A> {
         place: usize,
         access: Access<A>,
     ) -> Made<()>
-        requires { place < 32 }
+        requires { place < 256 }
         ensures { OnOk result ((i : ℕ) → book_at_place self.new i ≡ cond (nat_eq place i) (book_accessed (book_at_place self.old place) access access.thread access.kind cover.now) (book_at_place self.old i)) }
     {
         let count = self.books.len();
@@ -71,7 +67,7 @@ impl<A: Copy> Block<A> {
             return self.books[number].access(alloc, spare, cover, access);
         }
         // No two books have the same place, so there is room for this one, and this refusal never comes. That isn't proved.
-        if count >= 32 {
+        if count >= 256 {
             return Err(AllocError);
         }
         self.books.push(Book::begin(access))?;
@@ -81,14 +77,14 @@ impl<A: Copy> Block<A> {
 
     /// Empties the books from `lo` to `hi`, both included. Their joinings are spare.
     pub(crate) fn empty(&mut self, spare: &mut Vec<Joint<Access<A>>>, lo: usize, hi: usize)
-        requires { hi < 32 }
+        requires { hi < 256 }
         ensures { (i : ℕ) → book_at_place self.new i ≡ cond (nat_le lo i && nat_le i hi) Untouched (book_at_place self.old i) }
     {
         remove_between(&mut self.books, &mut self.places, spare, lo, hi);
     }
 
     pub(crate) fn joining(&self, place: usize) -> Option<&Joint<Access<A>>>
-        requires { place < 32 }
+        requires { place < 256 }
         ensures { option_copied result ≡ joining_in (book_at_place self.now place) }
     {
         let number = number_at(&self.places, self.books.len(), place as u8);
@@ -105,7 +101,7 @@ fn joining_at<A>(books: &[Book<A>], number: usize) -> Option<&Joint<Access<A>>>
 // Removes the books of the places from `lo` to `hi`, both included. It looks at the books and not at the places without one.
 fn remove_between<A: Copy>(
     books: &mut Vec<Book<A>>,
-    places: &mut [u8; 32],
+    places: &mut [u8; 256],
     spare: &mut Vec<Joint<Access<A>>>,
     lo: usize,
     hi: usize,
@@ -127,7 +123,7 @@ fn remove_between<A: Copy>(
 // Removes the book of this number. The last one gets its number.
 fn remove<A: Copy>(
     books: &mut Vec<Book<A>>,
-    places: &mut [u8; 32],
+    places: &mut [u8; 256],
     spare: &mut Vec<Joint<Access<A>>>,
     number: usize,
 )
@@ -144,15 +140,13 @@ fn remove<A: Copy>(
     book.keep_joining(spare);
 }
 
-const _: () = prove!(size_of::<Block<u64>>() == 64);
-
 /// How many places are looked at in one turn.
 const LANES: usize = 16;
 
 /// The number at which a place stands first, if that is one of the first `count`, and else one that isn't.
 #[inline]
-pub(crate) fn number_at(places: &[u8; 32], count: usize, place: u8) -> usize
-    requires { count ≤ 32 }
+pub(crate) fn number_at(places: &[u8; 256], count: usize, place: u8) -> usize
+    requires { count ≤ 256 }
     ensures found { result < count → result ≡ number_at places.now place }
     ensures none { count ≤ result → count ≤ number_at places.now place }
 {

@@ -17,7 +17,10 @@ use indexmap::IndexMap;
 use std::alloc::{AllocError, Global};
 use std::marker::Model;
 
-/// A book for each word, as steps go by. Contracts see the books by `book_in`. The books of 32 words that lie side by side are kept in one block,
+/// How many words a block has.
+const WORDS: u64 = 256;
+
+/// A book for each word, as steps go by. Contracts see the books by `book_in`. The books of 256 words that lie side by side are kept in one block,
 /// which is made at the first access of one of them. A step takes one look at them, and a reuse one look for each block of its range.
 #[derive(Drop)]
 pub struct WordBooks<A> {
@@ -72,8 +75,8 @@ impl<A: Copy> WordBooks<A> {
     fn access(&mut self, cover: &Lockset, word: Word, access: Access<A>) -> Made<()>
         ensures { OnOk result ((w : ℕ) → book_in self.new w ≡ cond (word == w) (book_accessed (book_in self.old word) access access.thread access.kind cover.now) (book_in self.old w)) }
     {
-        let number = word.block();
-        let place = word.place_in_block();
+        let at = word.number();
+        let (number, place) = (at / WORDS, (at % WORDS) as usize);
         match index_of(&self.blocks, self.hints.hint(number), number) {
             Some(index) => {
                 self.hints.note(number, index);
@@ -94,16 +97,17 @@ impl<A: Copy> WordBooks<A> {
     fn reuse(&mut self, range: PageRange)
         ensures { (w : ℕ) → book_in self.new w ≡ cond (is_within w range) Untouched (book_in self.old w) }
     {
-        let PageRange { lo, hi } = range;
-        let first = lo.block();
-        let last = hi.block();
-        for number in first..last + 1 {
-            self.empty(number, lo.first_in(number), hi.last_in(number));
+        let (lo, hi) = (range.lo.number(), range.hi.number());
+        for number in lo / WORDS..hi / WORDS + 1 {
+            let start = number * WORDS;
+            let from = (lo.max(start) - start) as usize;
+            let to = (hi.min(start + (WORDS - 1)) - start) as usize;
+            self.empty(number, from, to);
         }
     }
 
     fn empty(&mut self, number: u64, from: usize, to: usize)
-        requires { to < 32 }
+        requires { to < 256 }
         ensures { (w : ℕ) → book_in self.new w ≡ cond (is_place_in number from to w) Untouched (book_in self.old w) }
     {
         if let Some(index) = index_of(&self.blocks, self.hints.hint(number), number) {
@@ -115,9 +119,10 @@ impl<A: Copy> WordBooks<A> {
     pub fn joining(&self, word: Word) -> Option<&Joint<Access<A>>>
         ensures { option_copied result ≡ joining_in (book_in self.now word) }
     {
-        let number = word.block();
+        let at = word.number();
+        let number = at / WORDS;
         match index_of(&self.blocks, self.hints.hint(number), number) {
-            Some(index) => self.blocks[index].joining(word.place_in_block()),
+            Some(index) => self.blocks[index].joining((at % WORDS) as usize),
             None => None,
         }
     }

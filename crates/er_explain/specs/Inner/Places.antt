@@ -22,10 +22,10 @@ book_of places books place = slice_index_or books (number_at places place) Untou
 
 -- the books of all places
 unfoldable pub kept_books : {A : Type 0} → List ℕ → List (Book A) → List (Book A)
-kept_books places books = listed (book_of places books) 0 32
+kept_books places books = listed (book_of places books) 0 256
 
 -- no two of the books that are there have the same place
 pub record AreApart (places : List ℕ) (count : ℕ) : Type 0 where
-  pub few : count ≤ 32
-  pub long : length places ≡ 32
+  pub few : count ≤ 256
+  pub long : length places ≡ 256
   pub apart : (n : ℕ) → n < count → number_at places (place_at places n) ≡ n

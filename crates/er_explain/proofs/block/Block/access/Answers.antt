@@ -34,7 +34,7 @@ invariant_of-self-2 g c =
     apart-as (slice_set c.self.inside.places c.len-count.result c.args.place) (c.len-count.result + 1) (length c.push.new.self.items)
     (sym (ap (λ bs. length bs) c.in_ok-push.ensures.items ∙ one_longer c.self.inside.books.items c.begin.result c.len-count.result (sym count)))
     (apart-more c.self.inside.places (slice_set c.self.inside.places c.len-count.result c.args.place) c.args.place c.len-count.result (apart-as c.self.inside.places _ c.len-count.result (sym count) c.self.invariant)
-    (omega (arith, c.if-count-ge32.false)) refl (c.number_at-number.ensures.none (omega (arith, c.if-number-count.false))))
+    (omega (arith, c.if-count-ge256.false)) refl (c.number_at-number.ensures.none (omega (arith, c.if-number-count.false))))
 
 pub returns : goal.returns
 returns g c i =
@@ -45,6 +45,6 @@ returns g c i =
     (λ b. book_accessed b c.args.access c.args.access.thread c.args.access.kind c.args.cover.now)
     c.self.view_is c.requires
     (book_more c.self.inside.places (slice_set c.self.inside.places c.len-count.result c.args.place) c.args.place c.len-count.result (apart-as c.self.inside.places _ c.len-count.result (sym count) c.self.invariant)
-    (omega (arith, c.if-count-ge32.false)) refl none c.self.inside.books.items c.begin.result (sym count))
+    (omega (arith, c.if-count-ge256.false)) refl none c.self.inside.books.items c.begin.result (sym count))
     (c.begin.ensures ∙ ap (λ b. book_accessed b c.args.access c.args.access.thread c.args.access.kind c.args.cover.now)
     (sym (past_end c.self.inside.books.items (number_at c.self.inside.places c.args.place) (omega (arith, none, count))))) i
