@@ -160,7 +160,7 @@ impl<'t> Detector<'t> {
         if seat.ignoring() {
             return ignored(seat, word, kind, site);
         }
-        let ticket = self.tickets.fetch_add(1, Ordering::SeqCst);
+        let ticket = self.next_ticket();
         Ok(seat.record_access(rt, shard, ticket, word, kind, site)?)
     }
 
@@ -197,7 +197,7 @@ impl<'t> Detector<'t> {
         if shard.name() != self.config.name || shard.number() != number {
             return Err(Refusal::ForeignSeat);
         }
-        let ticket = self.tickets.fetch_add(1, Ordering::SeqCst);
+        let ticket = self.next_ticket();
         Ok(seat.record_access(rt, &mut shard, ticket, word, kind, site)?)
     }
 
@@ -279,8 +279,14 @@ impl<'t> Detector<'t> {
         if !self.has(&shard, part.lo) {
             return Err(Refusal::ForeignSeat);
         }
-        let ticket = self.tickets.fetch_add(1, Ordering::SeqCst);
+        let ticket = self.next_ticket();
         Ok(seat.reuse(&mut shard, ticket, *part)?)
+    }
+
+    // No clause says which number it is: settling compares tickets.
+    #[inline(always)]
+    fn next_ticket(&self) -> u64 {
+        self.tickets.fetch_add(1, Ordering::SeqCst)
     }
 
     fn has(&self, shard: &Shard<'t>, word: Word) -> bool

@@ -1,3 +1,4 @@
+pub mod Accesses
 pub mod Briefs
 pub mod KeptCalls
 pub mod KeptEntries

@@ -1,38 +1,49 @@
 //! What seats keep of the calls that they take.
-ghost use Rattle.std.specs.Prelude.{◌≡◌, Some, None};
+ghost use Rattle.std.specs.Prelude.{◌≡◌, ◌+◌, ◌-◌, ◌/◌, ◌<◌, ◌≤◌, ◌^◌, IsTrue, OnOk, is_some, Some, None};
+ghost use Rattle.er_event.specs.Span.{part_of};
 ghost use Rattle.er_event.specs.declared.steps.Reply.TheVariants.{Done};
 
 use crate::BriefReply;
+use crate::accesses::BriefAccess;
 use er_event::{Event, Kind, Level, LockId, Mode, PageRange, Site, Sync, Word};
+use std::alloc::{AllocError, Global};
 use std::marker::Model;
 
-/// One accepted call of a seat, in 24 bytes. Contracts see what its thread did, what it was answered, and its number if it stands in a journal.
+/// One accepted call of a seat, in 16 bytes. Contracts see what its thread did, what it was answered, and its number if it stands in a journal.
 #[derive(Drop)]
 pub struct Call {
     kept: KeptCall,
 }
 
-// The small fields lie first, so that each of them takes 24 bytes.
+/// What a counted access did, and a ticket that doesn't fit in place.
 #[derive(Drop)]
-enum KeptCall {
-    // What stands in no journal.
-    Own(BriefReply, OwnEvent),
-    OwnAccess(BriefReply, Kind, Site, Word),
-    OwnReuse(BriefReply, PageRange),
-    // A counted access.
-    Counted(BriefReply, Kind, Site, Word, u64),
-    // A reuse: how many words it has behind its first one, that one, and the ticket.
-    Reset(u16, Word, u64),
+pub struct LateCall {
+    event: Event,
+    ticket: u64,
 }
 
-// An event that is no access and no reuse.
+// The small fields lie first, so that each of them takes 16 bytes.
+#[derive(Drop)]
+enum KeptCall {
+    // What stands in no journal. A reuse has so many words behind its first one.
+    Own(BriefReply, OwnEvent),
+    OwnAccess(BriefReply, Kind, Site, Word),
+    OwnReuse(BriefReply, u16, Word),
+    OwnShow(BriefReply, Word),
+    // A counted access, and one whose ticket doesn't fit in place.
+    Counted(BriefReply, BriefAccess, Site, u32),
+    Late(BriefReply, Box<LateCall>),
+    // A reuse: 1,024 times its first word and how many words it has behind that one, in three parts, and the ticket.
+    Reset(u8, u16, u32, u64),
+}
+
+// An event that names no word.
 #[derive(Drop)]
 enum OwnEvent {
     Acquire(LockId, Mode),
     Release(LockId, Mode),
     IgnoreOn,
     IgnoreOff,
-    Show(Word),
     Level(Level),
     Sync(Sync),
 }
@@ -49,6 +60,9 @@ impl Model for Call {
 }
 
 impl Call {
+    /// Tickets below this one fit in place. A call with another one takes memory of its own.
+    pub const TICKETS_IN_PLACE: u64 = 1 << 32;
+
     /// A call that stands in no journal.
     pub fn own(event: Event, reply: BriefReply) -> Call
         ensures { result ≡ record { event = event; reply = reply; ticket = None } }
@@ -57,33 +71,69 @@ impl Call {
             Event::Acquire(lock, mode) => KeptCall::Own(reply, OwnEvent::Acquire(lock, mode)),
             Event::Release(lock, mode) => KeptCall::Own(reply, OwnEvent::Release(lock, mode)),
             Event::Access(kind, word, site) => KeptCall::OwnAccess(reply, kind, site, word),
-            Event::Reuse(range) => KeptCall::OwnReuse(reply, range),
+            Event::Reuse(range) => {
+                let more = range.hi.number() - range.lo.number();
+                KeptCall::OwnReuse(reply, more as u16, range.lo)
+            }
             Event::IgnoreOn => KeptCall::Own(reply, OwnEvent::IgnoreOn),
             Event::IgnoreOff => KeptCall::Own(reply, OwnEvent::IgnoreOff),
-            Event::Show(word) => KeptCall::Own(reply, OwnEvent::Show(word)),
+            Event::Show(word) => KeptCall::OwnShow(reply, word),
             Event::Level(level) => KeptCall::Own(reply, OwnEvent::Level(level)),
             Event::Sync(sync) => KeptCall::Own(reply, OwnEvent::Sync(sync)),
         };
         Call { kept }
     }
 
-    /// A counted access.
+    /// Memory for a call with this ticket, unless it fits in place or there is some. The only error is that there is none.
     #[inline]
-    pub fn counted(kind: Kind, word: Word, site: Site, reply: BriefReply, ticket: u64) -> Call
+    pub fn reserve(
+        alloc: Global,
+        spare: &mut Option<Box<LateCall>>,
+        ticket: u64,
+    ) -> Result<(), AllocError>
+        ensures { OnOk result (2 ^ 32 ≤ ticket → IsTrue (is_some spare.new)) }
+    {
+        if ticket >= Call::TICKETS_IN_PLACE && spare.is_none() {
+            let event = Event::IgnoreOn;
+            *spare = Some(Box::new(alloc, LateCall { event, ticket })?);
+        }
+        Ok(())
+    }
+
+    /// A counted access. It takes the spare memory, unless its ticket fits in place.
+    #[inline(always)]
+    pub fn counted(
+        kind: Kind,
+        word: Word,
+        site: Site,
+        reply: BriefReply,
+        ticket: u64,
+        spare: &mut Option<Box<LateCall>>,
+    ) -> Call
+        requires { 2 ^ 32 ≤ ticket → IsTrue (is_some spare.old) }
         ensures { result ≡ record { event = Event.Access kind word site; reply = reply; ticket = Some ticket } }
     {
-        Call {
-            kept: KeptCall::Counted(reply, kind, site, word, ticket),
-        }
+        let kept = if ticket < Call::TICKETS_IN_PLACE {
+            KeptCall::Counted(reply, BriefAccess::new(kind, word), site, ticket as u32)
+        } else {
+            let mut late = spare.take().unwrap();
+            let event = Event::Access(kind, word, site);
+            *late = LateCall { event, ticket };
+            KeptCall::Late(reply, late)
+        };
+        Call { kept }
     }
 
     /// A reuse of these words.
     pub fn reuse(range: PageRange, ticket: u64) -> Call
         ensures { result ≡ record { event = Event.Reuse range; reply = Done; ticket = Some ticket } }
     {
-        let more = (range.hi.number() - range.lo.number()) as u16;
+        let more = range.hi.number() - range.lo.number();
+        let packed = range.lo.number() * 1024 + more;
+        let high = (packed / 281_474_976_710_656) as u8;
+        let middle = (packed / 4_294_967_296 % 65_536) as u16;
         Call {
-            kept: KeptCall::Reset(more, range.lo, ticket),
+            kept: KeptCall::Reset(high, middle, (packed % 4_294_967_296) as u32, ticket),
         }
     }
 
@@ -97,15 +147,21 @@ impl Call {
             KeptCall::Own(_, OwnEvent::Release(lock, mode)) => Event::Release(*lock, *mode),
             KeptCall::Own(_, OwnEvent::IgnoreOn) => Event::IgnoreOn,
             KeptCall::Own(_, OwnEvent::IgnoreOff) => Event::IgnoreOff,
-            KeptCall::Own(_, OwnEvent::Show(word)) => Event::Show(*word),
             KeptCall::Own(_, OwnEvent::Level(level)) => Event::Level(*level),
             KeptCall::Own(_, OwnEvent::Sync(sync)) => Event::Sync(*sync),
-            KeptCall::OwnReuse(_, range) => Event::Reuse(*range),
-            KeptCall::OwnAccess(_, kind, site, word) | KeptCall::Counted(_, kind, site, word, _) =>
-                Event::Access(*kind, *word, *site),
-            KeptCall::Reset(more, lo, _) => {
-                let hi = Word::new(lo.number() + u64::from(*more));
-                Event::Reuse(PageRange::new(*lo, hi))
+            KeptCall::OwnShow(_, word) => Event::Show(*word),
+            KeptCall::OwnReuse(_, more, lo) => Event::Reuse(range_of(*lo, u64::from(*more))),
+            KeptCall::OwnAccess(_, kind, site, word) => Event::Access(*kind, *word, *site),
+            KeptCall::Counted(_, access, site, _) => Event::Access(
+                access.kind(),
+                access.word(),
+                *site,
+            ),
+            KeptCall::Late(_, late) => late.event,
+            KeptCall::Reset(high, middle, low, _) => {
+                let middle = u64::from(*middle) * 4_294_967_296 + u64::from(*low);
+                let packed = u64::from(*high) * 281_474_976_710_656 + middle;
+                Event::Reuse(range_of(Word::new(packed / 1024), packed % 1024))
             }
         }
     }
@@ -118,9 +174,11 @@ impl Call {
         match &self.kept {
             KeptCall::Own(reply, _)
             | KeptCall::OwnAccess(reply, _, _, _)
-            | KeptCall::OwnReuse(reply, _)
-            | KeptCall::Counted(reply, _, _, _, _) => *reply,
-            KeptCall::Reset(_, _, _) => BriefReply::done(),
+            | KeptCall::OwnReuse(reply, _, _)
+            | KeptCall::OwnShow(reply, _)
+            | KeptCall::Counted(reply, _, _, _)
+            | KeptCall::Late(reply, _) => *reply,
+            KeptCall::Reset(_, _, _, _) => BriefReply::done(),
         }
     }
 
@@ -130,10 +188,20 @@ impl Call {
         ensures { result ≡ self.now.ticket }
     {
         match &self.kept {
-            KeptCall::Counted(_, _, _, _, ticket) | KeptCall::Reset(_, _, ticket) => Some(*ticket),
+            KeptCall::Counted(_, _, _, ticket) => Some(u64::from(*ticket)),
+            KeptCall::Late(_, late) => Some(late.ticket),
+            KeptCall::Reset(_, _, _, ticket) => Some(*ticket),
             _ => None,
         }
     }
 }
 
-const _: () = prove!(size_of::<Call>() == 24);
+// The range with so many words behind its first one.
+fn range_of(lo: Word, more: u64) -> PageRange
+    requires { lo / 1024 ≡ (lo + more) / 1024 }
+    ensures { result ≡ part_of (record { first = lo; last = lo + more }) 0 }
+{
+    PageRange::new(lo, Word::new(lo.number() + more))
+}
+
+const _: () = prove!(size_of::<Call>() == 16);

@@ -18,13 +18,14 @@
 #![tactic(auto)]
 
 pub use answers::{Answer, Answers, Outcome, Stopped};
-pub use calls::Call;
+pub use calls::{Call, LateCall};
 pub use entries::{Entry, Stamp};
 pub use explanations::{Explanation, Uncovered};
 pub use laws::a_merge_is_legal;
 pub use locks::HeldLocks;
 pub use replies::BriefReply;
 
+mod accesses;
 mod answers;
 mod calls;
 mod entries;

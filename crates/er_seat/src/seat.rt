@@ -19,7 +19,7 @@ use er_event::{
     Word,
 };
 use er_held::Held;
-use er_journal::{BriefReply, Call, HeldLocks, Stamp};
+use er_journal::{BriefReply, Call, HeldLocks, LateCall, Stamp};
 use er_shard::ShardIn;
 use er_table::{Grow, Store};
 use std::alloc::{AllocError, Global};
@@ -66,6 +66,7 @@ impl VacantSeat {
             recent: None,
             stamped: 0,
             calls,
+            spare: None,
             alloc,
         }
     }
@@ -82,13 +83,15 @@ pub struct Seat {
     recent: Option<HeldLocks>,
     stamped: usize,
     calls: Vec<Call>,
+    spare: Option<Box<LateCall>>,
     alloc: Global,
 }
 
 impl Model for Seat {
     ghost use Rattle.std.specs.Prelude.{vec_capacity};
     ghost use Rattle.er_settle.specs.Seats.{SeatList};
-    ghost use Rattle.er_seat.specs.Seats.{IsSeat, IsStamped};
+    ghost use Rattle.er_seat.specs.Inner.Stamped.{IsStamped};
+    ghost use Rattle.er_seat.specs.Seats.{IsSeat};
 
     ghost Value = { SeatList };
 
@@ -270,6 +273,7 @@ impl Seat {
         ensures table_full { IsErrOf result NoRoom.TableFull → IsTrue (needs_set (journal_state shard.old.journal word) self.old.thread) }
     {
         self.calls.reserve(1 + calls_to_unwind(&self.held))?;
+        Call::reserve(self.alloc, &mut self.spare, ticket)?;
         let locks = match &self.recent {
             Some(last) if self.stamped == self.calls.len() => last.share()?,
             _ => stamped_locks(self.alloc, &mut self.recent, &self.held)?,
@@ -282,8 +286,8 @@ impl Seat {
             locks,
         };
         let reply = shard.apply(rt, ticket, stamp)?;
-        self.calls
-            .push_reserved(Call::counted(kind, word, site, reply, ticket));
+        let call = Call::counted(kind, word, site, reply, ticket, &mut self.spare);
+        self.calls.push_reserved(call);
         self.stamped = self.calls.len();
         Ok(reply.reply())
     }

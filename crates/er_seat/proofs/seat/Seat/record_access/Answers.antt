@@ -22,6 +22,6 @@ invariant_of-self-2 g c =
     let end : c.len-self-inside.result ≡ length c.push_reserved.new.self.items = search rules in (
       rw (thread, held)
           (seat-counted c.self.inside.thread c.self.inside.calls.items _ _ c.self.inside.held _ _ c.args.ticket c.args.word c.args.site c.args.kind _ c.self.invariant.0
-          c.reserve.ensures.items (rw (calls, c.counted.ensures) at c.push_reserved.ensures.items) flat (omega (arith, c.in_ok-reserve.ensures.ok, c.calls_to_unwind.ensures.count, room))),
+          c.reserve.ensures.items (rw (calls, c.counted-call.ensures) at c.push_reserved.ensures.items) flat (omega (arith, c.in_ok-reserve.ensures.ok, c.calls_to_unwind.ensures.count, room))),
       stamped-now _ _ _ _ end (rw held recent),
     )

@@ -1,0 +1,63 @@
+//! Accesses, kept small.
+ghost use Rattle.std.specs.Prelude.{◌≡◌};
+
+use er_event::{Kind, Word};
+use std::marker::Model;
+
+/// A word and whether an access reads or writes it, in six bytes. Contracts see both.
+#[derive(Drop)]
+pub(crate) struct BriefAccess {
+    high: u16,
+    middle: u16,
+    low: u16,
+}
+
+impl Model for BriefAccess {
+    ghost use Rattle.std.specs.Prelude.{◌<◌, ◌^◌};
+    ghost use Rattle.er_journal.specs.Inner.Accesses.{Touch, touch_of, packed_of};
+
+    ghost Value = { Touch };
+
+    ghost view = { λ a. touch_of (packed_of a.high a.middle a.low) };
+
+    ghost invariant = { λ a. a.high < 2 ^ 15 };
+}
+
+impl BriefAccess {
+    /// An access of this kind to this word.
+    #[inline]
+    pub(crate) fn new(kind: Kind, word: Word) -> BriefAccess
+        ensures { result ≡ record { kind = kind; word = word } }
+    {
+        let packed = match kind {
+            Kind::Read => word.number() * 2,
+            Kind::Write => word.number() * 2 + 1,
+        };
+        BriefAccess {
+            high: (packed / 4_294_967_296) as u16,
+            middle: (packed / 65_536 % 65_536) as u16,
+            low: (packed % 65_536) as u16,
+        }
+    }
+
+    /// Whether it reads or writes.
+    #[inline]
+    pub(crate) fn kind(&self) -> Kind
+        ensures { result ≡ self.now.kind }
+    {
+        if self.low % 2 == 0 {
+            Kind::Read
+        } else {
+            Kind::Write
+        }
+    }
+
+    /// The word.
+    #[inline]
+    pub(crate) fn word(&self) -> Word
+        ensures { result ≡ self.now.word }
+    {
+        let middle = u64::from(self.middle) * 65_536 + u64::from(self.low);
+        Word::new((u64::from(self.high) * 4_294_967_296 + middle) / 2)
+    }
+}

@@ -1,0 +1,10 @@
+-- What a seat knows of its last stamp. No public clause cites this file.
+use Rattle.std.specs.Prelude.{◌≡◌, ◌≤◌, ℕ, List, length, Some}
+use Rattle.std.specs.declared.option.Option.{Option}
+use Rattle.er_journal.specs.Entries.{Call, LocksHeld}
+use Rattle.er_model.specs.Holdings.{Holdings}
+
+-- how many calls there were at the last stamp; if no call came since, its locks are those that are held
+pub record IsStamped (stamped : ℕ) (recent : Option LocksHeld) (calls : List Call) (held : Holdings) : Type 0 where
+  pub before : stamped ≤ length calls
+  pub locks : (locks : LocksHeld) → recent ≡ Some locks → stamped ≡ length calls → locks ≡ record { held = held.held; write_held = held.write_held }
