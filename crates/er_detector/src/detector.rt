@@ -122,6 +122,7 @@ impl<'t> Detector<'t> {
     }
 
     /// A shard, under its lock. It waits until no other caller holds the lock.
+    #[inline]
     pub fn shard<R: Wait>(&self, rt: &R, number: u32) -> MutexGuard<'_, Shard<'t>>
         requires { number < self.now.shards }
     {
@@ -283,7 +284,7 @@ impl<'t> Detector<'t> {
         Ok(seat.reuse(&mut shard, ticket, *part)?)
     }
 
-    // No clause says which number it is: settling compares tickets.
+    // No clause rests on the number: settling compares tickets.
     #[inline(always)]
     fn next_ticket(&self) -> u64 {
         self.tickets.fetch_add(1, Ordering::SeqCst)

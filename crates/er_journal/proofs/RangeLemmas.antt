@@ -1,5 +1,5 @@
 -- A range is what its first word and the number of words behind it say.
-use Rattle.std.proofs.Common.{◌≡◌, ◌+◌, ◌-◌, ◌*◌, ◌/◌, ◌%◌, ◌<◌, ◌^◌, ℕ, arith}
+use Rattle.std.proofs.Common.{◌≡◌, ◌+◌, ◌-◌, ◌*◌, ◌/◌, ◌%◌, ℕ, arith}
 use Rattle.er_event.specs.Span.{part_of}
 use Rattle.er_event.specs.declared.addresses.PageRange.{PageRange}
 use Rattle.er_event.specs.declared.steps.Event.TheVariants.{Reuse}

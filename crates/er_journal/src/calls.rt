@@ -15,7 +15,10 @@ pub struct Call {
     kept: KeptCall,
 }
 
-/// What a counted access did, and a ticket that doesn't fit in place.
+/// Memory for one call whose ticket doesn't fit in place, if there is some.
+pub type Spare = Option<Box<LateCall>>;
+
+/// What a counted access did, and such a ticket.
 #[derive(Drop)]
 pub struct LateCall {
     event: Event,
@@ -86,11 +89,7 @@ impl Call {
 
     /// Memory for a call with this ticket, unless it fits in place or there is some. The only error is that there is none.
     #[inline]
-    pub fn reserve(
-        alloc: Global,
-        spare: &mut Option<Box<LateCall>>,
-        ticket: u64,
-    ) -> Result<(), AllocError>
+    pub fn reserve(alloc: Global, spare: &mut Spare, ticket: u64) -> Result<(), AllocError>
         ensures { OnOk result (2 ^ 32 ≤ ticket → IsTrue (is_some spare.new)) }
     {
         if ticket >= Call::TICKETS_IN_PLACE && spare.is_none() {
@@ -108,7 +107,7 @@ impl Call {
         site: Site,
         reply: BriefReply,
         ticket: u64,
-        spare: &mut Option<Box<LateCall>>,
+        spare: &mut Spare,
     ) -> Call
         requires { 2 ^ 32 ≤ ticket → IsTrue (is_some spare.old) }
         ensures { result ≡ record { event = Event.Access kind word site; reply = reply; ticket = Some ticket } }

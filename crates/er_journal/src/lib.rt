@@ -18,7 +18,7 @@
 #![tactic(auto)]
 
 pub use answers::{Answer, Answers, Outcome, Stopped};
-pub use calls::{Call, LateCall};
+pub use calls::{Call, LateCall, Spare};
 pub use entries::{Entry, Stamp};
 pub use explanations::{Explanation, Uncovered};
 pub use laws::a_merge_is_legal;

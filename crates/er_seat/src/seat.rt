@@ -19,7 +19,7 @@ use er_event::{
     Word,
 };
 use er_held::Held;
-use er_journal::{BriefReply, Call, HeldLocks, LateCall, Stamp};
+use er_journal::{BriefReply, Call, HeldLocks, Spare, Stamp};
 use er_shard::ShardIn;
 use er_table::{Grow, Store};
 use std::alloc::{AllocError, Global};
@@ -83,7 +83,7 @@ pub struct Seat {
     recent: Option<HeldLocks>,
     stamped: usize,
     calls: Vec<Call>,
-    spare: Option<Box<LateCall>>,
+    spare: Spare,
     alloc: Global,
 }
 

@@ -176,6 +176,7 @@ impl<S: Store> ShardIn<S> {
 }
 
 // Room for one more entry, in a journal that takes `limit` of them.
+#[inline(always)]
 fn reserve_entry(journal: &mut Vec<Entry>, limit: u32) -> Result<(), NoRoom>
     ensures room { OnOk result (length journal.new.items + 1 ≤ vec_capacity journal.new) }
     ensures below { OnOk result (length journal.old.items < limit) }

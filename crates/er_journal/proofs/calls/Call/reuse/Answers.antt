@@ -1,4 +1,4 @@
-use Rattle.std.proofs.Common.{◌≡◌, ◌+◌, ◌*◌, ◌-◌, ap, arith, refl, Some, ℕ}
+use Rattle.std.proofs.Common.{◌+◌, ◌*◌, ◌-◌, ap, arith, refl, Some}
 use Rattle.er_event.specs.declared.addresses.PageRange.{PageRange}
 use Rattle.er_event.specs.declared.steps.Event.TheVariants.{Reuse}
 use Rattle.er_event.specs.declared.steps.Reply.TheVariants.{Done}
