@@ -4,7 +4,7 @@ ghost use Rattle.er_event.specs.Refusal.{text_of};
 ghost use Rattle.er_report.specs.declared.report.Deed.TheVariants as deed;
 ghost use Rattle.er_print.specs.Printed.{HasEventNames, event_text, kind_text, name_at, HasNames, HasRaceNames, HasReasonNames, RacedView, line_view, told, bytes_between, deed_text, place_text, race_label, races_label, reason_text, line_text, stop_text, counts_text, lost_text, totals_text, end_text};
 
-use crate::naming::{put_address, put_event};
+use crate::naming::{put_address, put_event_behind};
 use crate::pieces::Piece::{Address, Label, NamedSite, Number, State, Text, Thread, Verb};
 use crate::styles::{Style, put_locks_in, put_site_in};
 use crate::{Put, put};
@@ -27,23 +27,20 @@ pub(crate) fn put_line(out: &mut Vec<u8>, of: ReportKind, names: &Names, line: &
     requires { HasNames names.now line.now }
     ensures { OnOk result (out.new.items ≡ out.old.items ++ line_text of names.now (line_view line.now)) }
 {
-    if let Some(race) = line.race() {
-        return put_race(out, of, names, &race);
-    }
     match line {
         Line::Refused {
             line,
             step,
             refusal,
-        } => {
-            put_place(out, *line)?;
-            put_refused(out, names, step, *refusal)
-        }
+        } => put_refused(out, names, *line, step, *refusal),
         Line::Shown { line, word, state } => put!(out, Style::Plain, names;
             Number(b"line ", *line), Address(b": state ", *word), State(b": ", state),
             Text(b"\n")
         ),
-        _ => Ok(()),
+        _ => match line.race() {
+            Some(race) => put_race(out, of, names, &race),
+            None => Ok(()),
+        },
     }
 }
 
@@ -70,20 +67,34 @@ fn put_deed(out: &mut Vec<u8>, names: &Names, race: &Race<'_>) -> Put
     }
 }
 
-// The commonest lines are put without a list of parts, which would cost as much again.
+// The commonest lines are put without a list of parts, which would cost as much again, and in few pieces.
 #[inline]
-fn put_refused(out: &mut Vec<u8>, names: &Names, step: &Step, refusal: Refusal) -> Put
+fn put_refused(out: &mut Vec<u8>, names: &Names, line: u64, step: &Step, refusal: Refusal) -> Put
     requires thread { step.now.thread < length names.now.threads }
     requires event { HasEventNames names.now step.now.event }
-    ensures { OnOk result (out.new.items ≡ out.old.items ++ (codes "refused: " ++ name_at names.now.threads step.now.thread ++ codes " " ++ event_text names.now step.now.event ++ codes ": " ++ text_of refusal ++ 10 ∷ [])) }
+    ensures { OnOk result (out.new.items ≡ out.old.items ++ (place_text line ++ codes "refused: " ++ name_at names.now.threads step.now.thread ++ codes " " ++ event_text names.now step.now.event ++ codes ": " ++ text_of refusal ++ 10 ∷ [])) }
 {
-    out.extend_from_slice(b"refused: ")?;
+    put_labelled(out, b"line ", line)?;
+    out.extend_from_slice(b": refused: ")?;
     put_thread(out, names, step.thread)?;
-    out.extend_from_slice(b" ")?;
-    put_event(out, names, step.event)?;
-    out.extend_from_slice(b": ")?;
-    out.extend_from_slice(refusal.text().as_bytes())?;
-    out.extend_from_slice(b"\n")
+    put_event_behind(out, names, step.event)?;
+    put_why(out, refusal)
+}
+
+// Puts what a refused line ends with.
+#[inline]
+fn put_why(out: &mut Vec<u8>, refusal: Refusal) -> Put
+    ensures { OnOk result (out.new.items ≡ out.old.items ++ (codes ": " ++ text_of refusal ++ 10 ∷ [])) }
+{
+    match refusal {
+        Refusal::AlreadyHeld => out.extend_from_slice(b": already held\n"),
+        Refusal::NotHeld => out.extend_from_slice(b": not held\n"),
+        _ => {
+            out.extend_from_slice(b": ")?;
+            out.extend_from_slice(refusal.text().as_bytes())?;
+            out.extend_from_slice(b"\n")
+        }
+    }
 }
 
 #[inline]

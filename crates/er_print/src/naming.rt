@@ -1,5 +1,5 @@
 //! Addresses, events and states as text. Each is put behind the bytes that are there, with no text of its own in memory.
-ghost use Rattle.std.specs.Prelude.{◌≡◌, ◌++◌, OnOk};
+ghost use Rattle.std.specs.Prelude.{◌≡◌, ◌++◌, OnOk, codes};
 ghost use Rattle.er_print.specs.Printed.{HasEventNames, HasLockNames, HasStateNames, address_text, candidates_text, event_text, event_verb, kind_text, state_text};
 
 use crate::Put;
@@ -60,6 +60,27 @@ pub(crate) fn put_event(out: &mut Vec<u8>, names: &Names, event: Event) -> Put
             put_lock_in(out, Style::Plain, names, *lock)
         }
         _ => Ok(()),
+    }
+}
+
+/// Puts a space, and what `put_event` puts. A lock event takes two pieces.
+#[inline]
+pub(crate) fn put_event_behind(out: &mut Vec<u8>, names: &Names, event: Event) -> Put
+    requires { HasEventNames names.now event }
+    ensures { OnOk result (out.new.items ≡ out.old.items ++ (codes " " ++ event_text names.now event)) }
+{
+    out.extend_from_slice(match event {
+        Event::Acquire(_, Mode::Write) => b" lock ".as_slice(),
+        Event::Acquire(_, Mode::Read) => b" rlock ".as_slice(),
+        Event::Release(_, Mode::Write) => b" unlock ".as_slice(),
+        Event::Release(_, Mode::Read) => b" runlock ".as_slice(),
+        _ => b" ".as_slice(),
+    })?;
+    match &event {
+        Event::Acquire(lock, _) | Event::Release(lock, _) => {
+            put_lock_in(out, Style::Plain, names, *lock)
+        }
+        _ => out.extend_from_slice(event_verb(event)),
     }
 }
 

@@ -144,6 +144,9 @@ impl<'r> ReportBuilder<'r> {
         ensures kept { OnOk result (self.new.kept ≡ self.old.kept) }
         ensures err { OnErr result (self.new ≡ self.old) }
     {
+        if let Answer::Refused(refusal) = answer {
+            return add_refused(&mut self.report, line, step, refusal);
+        }
         let rule = first_rule(self.rules, names, site, step.event, answer);
         let place = self.report.steps;
         if is_printed(answer, rule) {
@@ -247,6 +250,23 @@ fn is_printed(answer: Answer<'_>, rule: Option<usize>) -> bool
     ensures { result ≡ (is_race (shown answer.entry) && is_none rule) }
 {
     matches!((answer, rule), (Answer::Race, None))
+}
+
+// Adds a refused step of this line, as `add_step` does, and takes no room for the other lines.
+fn add_refused(report: &mut Report, line: u64, step: &Step, refusal: Refusal) -> Made<()>
+    requires room { HasRoom (told report.old) }
+    ensures ok { OnOk result (told report.new ≡ with_answer (told report.old) line 0 [] step.now (Err refusal) None) }
+    ensures err { OnErr result (told report.new ≡ told report.old) }
+{
+    let step = *step;
+    report.lines.push(Line::Refused {
+        refusal,
+        step,
+        line,
+    })?;
+    report.refused += 1;
+    report.steps += 1;
+    Ok(())
 }
 
 // Adds a step of this line and answer, whose race the rule takes, if there is one.
