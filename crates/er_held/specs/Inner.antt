@@ -1,1 +1,2 @@
+pub mod Halving
 pub mod Holding

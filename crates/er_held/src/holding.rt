@@ -1,5 +1,5 @@
 //! `Held`, what one thread holds.
-ghost use Rattle.std.specs.Prelude.{◌≡◌, ◌+◌, ◌-◌, ◌<◌, ◌≤◌, ◌↔◌, ℕ, false, IsTrue, IsFalse, IsOk, IfOk, IfErr, IsOkUnless, OnOk, OnErr, insert, length, slice_index, None, Some};
+ghost use Rattle.std.specs.Prelude.{◌≡◌, ◌+◌, ◌-◌, ◌<◌, ◌≤◌, ◌↔◌, ℕ, false, is_ok, IsTrue, IsFalse, IsOk, IfOk, IfErr, IsOkUnless, OnOk, OnErr, insert, length, slice_index, None, Some};
 ghost use Rattle.er_event.specs.Lockset.{has, level_locks, is_level_lock, with_lock};
 ghost use Rattle.er_model.specs.Following.{locks_for};
 ghost use Rattle.er_model.specs.Holdings.{acquired_among, refused_by, changed_by, changed_unless};
@@ -134,7 +134,7 @@ impl Held {
         if lock.is_level_lock() {
             return Err(Refusal::LevelLock);
         }
-        match self.any_mode.find(lock) {
+        match place_of(&self.any_mode, lock) {
             Ok(_) => Err(Refusal::AlreadyHeld),
             Err(_) if self.acquired() >= Held::MOST_LOCKS => Err(Refusal::HeldFull),
             Err(place) => Ok(place),
@@ -211,10 +211,10 @@ impl Held {
         if lock.is_level_lock() {
             return Err(Refusal::LevelLock);
         }
-        let Ok(place) = self.any_mode.find(lock) else {
+        let Ok(place) = place_of(&self.any_mode, lock) else {
             return Err(Refusal::NotHeld);
         };
-        let is_written = !self.is_apart || self.write_mode.contains(lock);
+        let is_written = !self.is_apart || place_of(&self.write_mode, lock).is_ok();
         match (is_written, mode) {
             (true, Mode::Write) | (false, Mode::Read) => Ok(place),
             (true, Mode::Read) | (false, Mode::Write) => Err(Refusal::WrongMode),
@@ -358,6 +358,32 @@ impl Held {
         self.level = level;
         Ok(())
     }
+}
+
+// Where the set has the lock, or else, as an error, where the lock belongs. Where there are many, at most seven steps are made without a jump that
+// depends on the locks, which nobody could foretell.
+#[inline]
+fn place_of(set: &Lockset, lock: LockId) -> Result<usize, usize>
+    ensures found { is_ok result ≡ has set.now lock }
+    ensures here { IfOk result (λ place. (place < length set.now) × (slice_index set.now place ≡ lock)) }
+    ensures belongs { IfErr result (λ place. (place ≤ length set.now) × (insert set.now place lock ≡ with_lock lock set.now)) }
+{
+    let locks = set.as_slice();
+    let (mut base, mut size, mut steps) = (0, locks.len(), 0usize);
+    while size > 1 && steps < 7 && locks.len() > 15 {
+        let half = size / 2;
+        let middle = base + half;
+        base = if locks[middle] <= lock { middle } else { base };
+        size -= half;
+        steps += 1;
+    }
+    if size != 1 {
+        return set.find(lock);
+    }
+    if locks[base] == lock {
+        return Ok(base);
+    }
+    Err(base + usize::from(locks[base] < lock))
 }
 
 // The locks of all levels, in order.
