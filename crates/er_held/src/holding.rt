@@ -201,7 +201,7 @@ impl Held {
     }
 
     // Where a lock stands that is released in this mode, or why that is refused.
-    #[inline]
+    #[inline(always)]
     fn place_to_release(&self, lock: LockId, mode: Mode) -> Result<usize, Refusal>
         ensures refused { IfErr result (λ why. refused_by self.now (Event.Release lock mode) ≡ Some why) }
         ensures accepted { OnOk result (refused_by self.now (Event.Release lock mode) ≡ None) }
