@@ -211,13 +211,7 @@ fn add_items(
 
 // The first position from here on of a step that the report may have something to say of, or the end of the batch: the next item's, or if reasons are
 // wanted a reuse's. Without reasons no step is looked at, so that a batch that has left the cache isn't loaded again.
-fn next_told(
-    explains: bool,
-    steps: &[Step],
-    items: &[Unusual],
-    next: usize,
-    from: usize,
-) -> usize
+fn next_told(explains: bool, steps: &[Step], items: &[Unusual], next: usize, from: usize) -> usize
     requires within { from ≤ length steps.now }
     ensures behind { from ≤ result }
     ensures within { result ≤ length steps.now }
