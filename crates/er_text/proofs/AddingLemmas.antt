@@ -37,7 +37,7 @@ numbered names name false e =
 pub number_below : (names : List (List ℕ)) (name : List ℕ) → number_of names name < length (with_name names name)
 number_below names name = numbered names name (is_known names name) refl
 
-mapped_more : {X Y : Type 0} (f : X → Y) (ys : List Y) (xs : List X) (x : X) → (ys ++ map f xs) ++ f x ∷ [] ≡ ys ++ map f (xs ++ x ∷ [])
+pub mapped_more : {X Y : Type 0} (f : X → Y) (ys : List Y) (xs : List X) (x : X) → (ys ++ map f xs) ++ f x ∷ [] ≡ ys ++ map f (xs ++ x ∷ [])
 mapped_more f ys xs x = append_assoc ys (map f xs) (f x ∷ []) ∙ ap (λ t. ys ++ t) (sym (map-append f xs (x ∷ [])))
 
 parts_more : (s : Span) (i : ℕ) → parts_below s (i + 1) ≡ parts_below s i ++ part_of s i ∷ []

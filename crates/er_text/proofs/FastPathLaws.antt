@@ -1,5 +1,5 @@
 -- Lines in their usual form say what the grammar says of their words.
-use Rattle.std.proofs.Common.{◌≡◌, ◌+◌, ◌<◌, ◌==◌, ℕ, Bool, zero, suc, append-nil, ◌^◌, ◌≤◌, true, false, not, ◌&&◌, cond, List, [], ◌∷◌, ◌++◌, length, take, drop, length-drop, get_or, filter, unwrap_or, Option, Some, None, Ok, nat_lt, nat_le, ◌/◌, codes, refl, sym, ap, ◌∙◌, subst, arith}
+use Rattle.std.proofs.Common.{◌≡◌, ◌+◌, ◌<◌, ◌==◌, ℕ, Bool, zero, suc, append-nil, ◌^◌, ◌≤◌, true, false, not, ◌&&◌, cond, List, [], ◌∷◌, ◌++◌, length, take, drop, length-drop, get_or, filter, unwrap_or, Option, Some, None, Ok, nat_lt, nat_le, ◌/◌, codes, map, refl, sym, ap, ◌∙◌, subst, arith}
 use Rattle.std.specs.List.{list_all, slice_split, position_or_len, All}
 use Rattle.std.specs.Char.{is_digit}
 use Rattle.std.specs.Str.{bytes_eq}
@@ -11,6 +11,10 @@ use Rattle.std.proofs.lemmas.List.Elements.{All-cons}
 use Rattle.std.proofs.lemmas.List.Folds.{list_all-append}
 use Rattle.std.proofs.lemmas.List.Splits.{slice_split_at, slice_split_none}
 use Rattle.std.proofs.lemmas.List.Sums.{AllPass-from_list_all, list_all-from_AllPass, passes_at_first}
+use Rattle.er_event.specs.Span.{Span, page_count, part_of, parts_below, span_of_bytes}
+use Rattle.er_event.specs.declared.addresses.PageRange.{PageRange}
+use Rattle.er_event.specs.declared.steps.Event.TheVariants.{Reuse}
+use Rattle.er_event.specs.declared.steps.Step.{Step}
 use Rattle.er_event.specs.declared.steps.Kind.{Kind}
 use Rattle.er_event.specs.declared.steps.Kind.TheVariants.{Read, Write}
 use Rattle.er_event.specs.declared.steps.Mode.{Mode}
@@ -20,7 +24,7 @@ use Rattle.er_lines.specs.Lines.{is_gap, is_space, before_space, behind_space, i
 use Rattle.er_lines.specs.Number.{number_of}
 use Rattle.er_lines.specs.Naming.{is_name_byte, is_name, is_lock_name, is_site_byte, name_of}
 use Rattle.er_text.specs.Naming.{is_site_word}
-use Rattle.er_text.specs.Events.{Operation, Acquires, Releases, Accesses, EventLine, with_operation, with_line}
+use Rattle.er_text.specs.Events.{Operation, Acquires, Releases, Accesses, Reuses, Shows, EventLine, run_of, with_operation, with_line, with_reuses}
 use Rattle.er_text.specs.declared.stages.Stage.{Stage}
 use Rattle.er_text.specs.declared.stages.Stage.TheVariants.{Events}
 use Rattle.er_trace.specs.Names.{number_of as place_of}
@@ -29,12 +33,15 @@ use Rattle.er_text.specs.Trace.{acquire_word, release_word, kind_word}
 use Rattle.er_text.specs.Inner.Parsing.{parsed_of}
 use Rattle.er_text.specs.Inner.Idle.{last_actor, without_idle, order_fault, waits_for, is_known_name}
 use Rattle.er_text.specs.Inner.Traces.{Progress, past_event, add_event, add_parsed, closed, read_words, plain_at}
-use Rattle.er_text.specs.Inner.FastPath.{IsLeadingName, AreLeadingDigits, IsLeadingWord, IsFastAccess, IsFastLockEvent, IsFastOperation, IsFastLine, lock_word}
+use Rattle.er_text.specs.Inner.FastPath.{IsLeadingName, AreLeadingDigits, IsLeadingAddress, IsFastAccess, IsFastLockEvent, IsFastShow, IsFastReuse, IsFastOperation, IsFastLine, lock_word, rare_word}
 use Rattle.er_lines.proofs.ByteLemmas.{name_ascii, site_ascii}
+use Rattle.er_lines.proofs.SaidLemmas.{number_found}
 use Rattle.er_text.proofs.SiteLemmas.{site_parts}
 use Rattle.er_text.proofs.ParsingAgain.{says_parsed}
 use Rattle.er_text.proofs.IdleLemmas.{no_fault, last_added}
 use Rattle.er_text.proofs.EventWords.{not_end}
+use Rattle.er_text.proofs.AddingLemmas.{mapped_more}
+use Rattle.er_text.proofs.ParsingLaws.{run_found}
 
 -- no byte of it is a gap
 abbrev IsGapless : List ℕ → Type 0
@@ -114,43 +121,43 @@ abbrev IsSiteWord : Version → List ℕ → Option (List ℕ) → Type 0
 IsSiteWord v site s = (is_site_word v site ≡ true) × (s ≡ cond (bytes_eq site (codes "-")) None (Some site))
 
 -- an address and no site
-pub access_alone : (v : Version) (k : Kind) (bytes : List ℕ) (word : ℕ) (rest : List ℕ) (operation : Operation) → IsLeadingWord bytes word rest → rest ≡ [] → operation ≡ Accesses k word None → IsFastAccess v k bytes operation
-access_alone v k bytes word rest operation led none told =
-    let hex = hex_word led.digits led.value led.len led.front led.some in
+pub access_alone : (v : Version) (k : Kind) (bytes : List ℕ) (value : ℕ) (rest : List ℕ) (operation : Operation) → IsLeadingAddress bytes value rest → rest ≡ [] → operation ≡ Accesses k (value / 4) None → IsFastAccess v k bytes operation
+access_alone v k bytes value rest operation led none told =
+    let hex = hex_word led.digits value led.len led.front led.some in
     let address = 48 ∷ 120 ∷ take led.len led.digits in
     let whole = addressed bytes led.digits [] led.len led.is (led.behind ∙ none) ∙ append-nil address in
     record {
       ascii = ap (list_all is_ascii) whole ∙ hex.ascii;
       address = address;
-      n = led.value;
+      n = value;
       behind = [];
       site = None;
       words_are = ap words whole ∙ word_alone address hex.gapless refl;
       number = hex.number;
       small = led.front.small;
       names = refl;
-      is = told ∙ ap (λ (w : ℕ). Accesses k w None) led.word_is;
+      is = told;
     }
 
 -- an address and the name of a site
-pub access_site : (v : Version) (k : Kind) (bytes : List ℕ) (word : ℕ) (rest site : List ℕ) (s : Option (List ℕ)) (operation : Operation) → IsLeadingWord bytes word rest → rest ≡ 32 ∷ site
-    → IsSiteWord v site s → operation ≡ Accesses k word s → IsFastAccess v k bytes operation
-access_site v k bytes word rest site s operation led spaced named told =
-    let hex = hex_word led.digits led.value led.len led.front led.some in
+pub access_site : (v : Version) (k : Kind) (bytes : List ℕ) (value : ℕ) (rest site : List ℕ) (s : Option (List ℕ)) (operation : Operation) → IsLeadingAddress bytes value rest → rest ≡ 32 ∷ site
+    → IsSiteWord v site s → operation ≡ Accesses k (value / 4) s → IsFastAccess v k bytes operation
+access_site v k bytes value rest site s operation led spaced named told =
+    let hex = hex_word led.digits value led.len led.front led.some in
     let address = 48 ∷ 120 ∷ take led.len led.digits in
     let whole = addressed bytes led.digits (32 ∷ site) led.len led.is (led.behind ∙ spaced) in
     let parts = site_parts v site named.0 in
     record {
       ascii = ap (list_all is_ascii) whole ∙ ascii_then address site hex.ascii (site_ascii site parts.printed);
       address = address;
-      n = led.value;
+      n = value;
       behind = site ∷ [];
       site = s;
       words_are = ap words whole ∙ word_then address site hex.gapless refl ∙ ap (λ (ws : List (List ℕ)). address ∷ ws) (word_alone site (site_gapless site parts.printed) parts.some);
       number = hex.number;
       small = led.front.small;
       names = named;
-      is = told ∙ ap (λ (w : ℕ). Accesses k w s) led.word_is;
+      is = told;
     }
 
 lock_is_name : (w : List ℕ) → is_lock_name w ≡ true → is_name w ≡ true
@@ -207,10 +214,94 @@ unlock_tells v m bytes rest operation ascii whole named told =
       one = λ line thread r. last_added r.steps _;
     })
 
+show_tells : (v : Version) (bytes rest : List ℕ) (operation : Operation) → list_all is_ascii bytes ≡ list_all is_ascii rest → words bytes ≡ codes "show" ∷ words rest
+    → IsFastShow rest operation → IsFastOperation v bytes operation
+show_tells v bytes rest operation ascii whole shown =
+    let led = shown.1 in
+    let hex = hex_word led.digits shown.0 led.len led.front led.some in
+    let address = 48 ∷ 120 ∷ take led.len led.digits in
+    let alone = addressed rest led.digits [] led.len led.is led.behind ∙ append-nil address in
+    subst (IsFastOperation v bytes) (sym shown.2) (record {
+      ascii = ascii ∙ ap (list_all is_ascii) alone ∙ hex.ascii;
+      says = λ thread. (
+        address,
+        shown.0,
+        ap (λ (w : List (List ℕ)). thread ∷ w) (whole ∙ ap (λ (w : List (List ℕ)). codes "show" ∷ w) (ap words alone ∙ word_alone address hex.gapless refl)),
+        hex.number,
+        led.front.small,
+        refl,
+      );
+      alone = refl;
+      one = λ line thread r. last_added r.steps _;
+    })
+
+-- the step of the last page
+last_part : (line thread : ℕ) (s : Span) (r : Recording) (n : ℕ) → 0 < n → last_actor (with_reuses r line thread 0 (parts_below s n)).steps ≡ Some thread
+unfolding parts_below
+last_part line thread s r zero some = absurd (omega (arith, some))
+last_part line thread s r (suc n) some =
+    let f : PageRange → Step = λ part. record { thread = thread; event = Reuse part } in
+    ap last_actor (sym (mapped_more f r.steps (parts_below s n) (part_of s n))) ∙ last_added (r.steps ++ map f (parts_below s n)) (f (part_of s n))
+
+span_pages : (a n : ℕ) → 0 < n → 0 < page_count (span_of_bytes a n)
+span_pages a n some = omega (arith, some)
+
+pages_tested : (none : Bool) (a n : ℕ) (s : Span) → (n == 0) ≡ none → Some s ≡ cond none None (Some (span_of_bytes a n)) → 0 < page_count s
+pages_tested true a n s is e = absurd (cc)
+pages_tested false a n s is e =
+    let some : 0 < n = grind (arith, nat_tests, is) in
+    let same : s ≡ span_of_bytes a n = cc in
+    rw same (span_pages a n some)
+
+some_pages : (a n : ℕ) (s : Span) → Some s ≡ run_of a n → 0 < page_count s
+some_pages a n s e = pages_tested (n == 0) a n s refl e
+
+reuse_tells : (v : Version) (bytes rest : List ℕ) (operation : Operation) → list_all is_ascii bytes ≡ list_all is_ascii rest → words bytes ≡ codes "reuse" ∷ words rest
+    → IsFastReuse rest operation → IsFastOperation v bytes operation
+reuse_tells v bytes rest operation ascii whole a =
+    let led = a.front in
+    let hex = hex_word led.digits a.a led.len led.front led.some in
+    let address = 48 ∷ 120 ∷ take led.len led.digits in
+    let two = addressed rest led.digits (32 ∷ a.size) led.len led.is led.behind in
+    let size = name_parts a.size a.named in
+    let run = run_found a.a a.n (Some a.range) a.run in
+    subst (IsFastOperation v bytes) (sym a.is) (record {
+      ascii = ascii ∙ ap (list_all is_ascii) two ∙ ascii_then address a.size hex.ascii (name_ascii a.size size.named);
+      says = λ thread. (
+        address,
+        a.size,
+        a.a,
+        a.n,
+        [],
+        ap (λ (w : List (List ℕ)). thread ∷ w) (whole ∙ ap (λ (w : List (List ℕ)). codes "reuse" ∷ w) (ap words two ∙ word_then address a.size hex.gapless refl ∙ ap (λ (w : List (List ℕ)). address ∷ w) (word_alone a.size size.gapless size.some))),
+        hex.number,
+        number_found (number_of a.size) a.n a.number,
+        run.0,
+        run.1,
+        run.2,
+        run.3,
+        refl,
+      );
+      alone = refl;
+      one = λ line thread r. last_part line thread a.range r (page_count a.range) (some_pages a.a a.n a.range run.3);
+    })
+
 -- the verb of an access in front, and a space behind it
 pub access_led : (v : Version) (k : Kind) (bytes rest : List ℕ) (operation : Operation) → bytes ≡ kind_word k ++ 32 ∷ rest → IsFastAccess v k rest operation → IsFastOperation v bytes operation
 access_led v Read bytes rest operation is a = access_tells v Read bytes rest operation (ap (list_all is_ascii) is) (ap words is) a
 access_led v Write bytes rest operation is a = access_tells v Write bytes rest operation (ap (list_all is_ascii) is) (ap words is) a
+
+-- that of a show, and that of a reuse
+pub show_led : (v : Version) (bytes rest : List ℕ) (operation : Operation) → bytes ≡ rare_word true ++ 32 ∷ rest → IsFastShow rest operation → IsFastOperation v bytes operation
+show_led v bytes rest operation is a = show_tells v bytes rest operation (ap (list_all is_ascii) is) (ap words is) a
+
+pub reuse_led : (v : Version) (bytes rest : List ℕ) (operation : Operation) → bytes ≡ rare_word false ++ 32 ∷ rest → IsFastReuse rest operation → IsFastOperation v bytes operation
+reuse_led v bytes rest operation is a = reuse_tells v bytes rest operation (ap (list_all is_ascii) is) (ap words is) a
+
+-- an address with nothing behind it
+pub address_alone : (bytes : List ℕ) (value : ℕ) (rest : List ℕ) → IsLeadingAddress bytes value rest → length rest < 1 → IsLeadingAddress bytes value []
+address_alone bytes value [] led none = led
+address_alone bytes value (byte ∷ rest) led none = absurd (omega (arith, none))
 
 -- and that of a lock event
 pub lock_event_led : (v : Version) (acquires : Bool) (m : Mode) (bytes rest : List ℕ) (operation : Operation) → bytes ≡ lock_word acquires m ++ 32 ∷ rest

@@ -58,7 +58,7 @@ run_tested false true high a n run l w h e = absurd (cc)
 run_tested false false true a n run l w h e = absurd (cc)
 run_tested false false false a n run l w h e = (grind (arith, nat_tests, l), grind (arith, nat_tests, w), grind (arith, nat_tests, h), cc)
 
-run_found : (a n : ℕ) (run : Option Span) → run_in a n ≡ Ok run → IsRun a n run
+pub run_found : (a n : ℕ) (run : Option Span) → run_in a n ≡ Ok run → IsRun a n run
 run_found a n run e = run_tested (nat_lt 4194304 n) (nat_le (2 ^ 48) a) (nat_lt (2 ^ 48) (a + n)) a n run refl refl refl e
 
 -- a word, or none where it is empty

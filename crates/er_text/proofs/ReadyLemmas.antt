@@ -27,7 +27,7 @@ use Rattle.er_text.specs.Events.{Accesses, with_line}
 use Rattle.er_text.specs.Inner.Endings.{tail_past}
 use Rattle.er_text.specs.Inner.Idle.{last_actor, without_idle}
 use Rattle.er_text.specs.Inner.Traces.{at_line, plain_at}
-use Rattle.er_text.specs.Inner.FastPath.{IsFastAccess, IsFastLine, IsFastOperation, IsLeadingWord}
+use Rattle.er_text.specs.Inner.FastPath.{IsFastAccess, IsFastLine, IsFastOperation, IsLeadingAddress}
 use Rattle.er_text.specs.Inner.Ready.{ready_event, ready_operation, site_if}
 use Rattle.er_text.proofs.FastPathLaws.{access_alone, access_led, access_site, line_says, lock_event_led}
 use Rattle.er_text.proofs.UsualLemmas.{usual_line_read}
@@ -67,14 +67,13 @@ pub write_small : (v : ReadyVerb) (address : ℕ) (thread name : List ℕ) → v
 write_small v address thread name is right = (access_parts address name (rw is at (ready_parts v address thread name right).1)).small
 
 -- twelve digits and what follows them
-word_led : (address : ℕ) (tail : List ℕ) → address < 2 ^ 48 → IsLeadingWord (codes "0x" ++ (hex_digits 12 address ++ tail)) (address / 4) tail
+word_led : (address : ℕ) (tail : List ℕ) → address < 2 ^ 48 → IsLeadingAddress (codes "0x" ++ (hex_digits 12 address ++ tail)) address tail
 word_led address tail small =
     let hex = access_hex address small in
     let digits = hex_digits 12 address in
     let front : take 12 (digits ++ tail) ≡ digits = take_at digits tail 12 hex.size in
     record {
       digits = digits ++ tail;
-      value = address;
       len = 12;
       is = refl;
       front = record {
@@ -86,17 +85,16 @@ word_led address tail small =
       };
       some = λ none. absurd (omega arith);
       behind = drop_at digits tail 12 hex.size;
-      word_is = refl;
     }
 
 access_fast : (k : Kind) (address : ℕ) (site : List ℕ) (b : Bool) → has_bytes site ≡ b → IsReadyAccess address site
     → IsFastAccess Three k (codes "0x" ++ (hex_digits 12 address ++ cond b (32 ∷ site) [])) (Accesses k (address / 4) (cond b (Some site) None))
 access_fast k address site true some is =
     let right = site_right site some is.site_is in
-    access_site Three k (codes "0x" ++ (hex_digits 12 address ++ 32 ∷ site)) (address / 4) (32 ∷ site) site (Some site) (Accesses k (address / 4) (Some site))
+    access_site Three k (codes "0x" ++ (hex_digits 12 address ++ 32 ∷ site)) address (32 ∷ site) site (Some site) (Accesses k (address / 4) (Some site))
     (word_led address (32 ∷ site) is.small) refl (right.0, rw right.1 refl) refl
 access_fast k address site false none is =
-    access_alone Three k (codes "0x" ++ (hex_digits 12 address ++ [])) (address / 4) [] (Accesses k (address / 4) None) (word_led address [] is.small) refl refl
+    access_alone Three k (codes "0x" ++ (hex_digits 12 address ++ [])) address [] (Accesses k (address / 4) None) (word_led address [] is.small) refl refl
 
 access_is : (k : Kind) (address : ℕ) (site : List ℕ) → IsReadyAccess address site → IsFastAccess Three k (codes "0x" ++ (hex_digits 12 address ++ name_word site)) (Accesses k (address / 4) (site_if site))
 access_is k address site is = access_fast k address site (has_bytes site) refl is

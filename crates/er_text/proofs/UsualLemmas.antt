@@ -1,5 +1,5 @@
 -- What a line in its usual form adds: of an operation, of a line, and of a line behind the header.
-use Rattle.std.proofs.Common.{◌≡◌, ℕ, ◌+◌, ◌-◌, ◌<◌, ◌≤◌, Bool, true, false, List, [], ◌∷◌, ◌++◌, length, take, drop, Option, Some, None, not, ◌&&◌, nat_le, codes, Result, Ok, Err, refl, sym, ap, subst, ◌∙◌, append_assoc, length-append, arith}
+use Rattle.std.proofs.Common.{◌≡◌, ℕ, ◌+◌, ◌-◌, ◌/◌, ◌<◌, ◌≤◌, Bool, true, false, List, [], ◌∷◌, ◌++◌, length, take, drop, Option, Some, None, not, ◌&&◌, nat_le, codes, Result, Ok, Err, refl, sym, ap, subst, ◌∙◌, append_assoc, length-append, arith}
 use Rattle.std.specs.List.{list_all}
 use Rattle.std.specs.Str.{bytes_eq}
 use Rattle.std.proofs.Math.Seq.{drop-append_seam}
@@ -20,7 +20,7 @@ use Rattle.er_text.specs.Verbs.{is_third}
 use Rattle.er_text.specs.Events.{Operation, Accesses, EventLine, site_number, with_site_of, with_operation, with_line}
 use Rattle.er_text.specs.Inner.Idle.{last_actor, without_idle}
 use Rattle.er_text.specs.Inner.Traces.{at_line, plain_at}
-use Rattle.er_text.specs.Inner.FastPath.{EndsIn, IsLeadingThread, IsLeadingWord, IsFastAccess, IsFastOperation, IsFastLine, IsSiteBehind, Nothing, Named, AddsOperation, AddsLine}
+use Rattle.er_text.specs.Inner.FastPath.{EndsIn, IsLeadingThread, IsLeadingAddress, IsFastAccess, IsFastOperation, IsFastLine, IsSiteBehind, Nothing, Named, AddsOperation, AddsLine}
 use Rattle.er_text.proofs.AddingLemmas.{number_below}
 use Rattle.er_text.proofs.SiteLemmas.{name_word}
 use Rattle.er_text.proofs.FastPathLaws.{addressed, access_alone, access_site, line_says, usual_reads}
@@ -151,8 +151,8 @@ pub lock_has_name : (r new : Recording) (name : List ℕ) (thread lock : ℕ) �
     → (thread < length new.names.threads) × (lock < length new.names.locks)
 lock_has_name r new name thread lock known is e = rw (e, is) (known, number_below r.names.locks name)
 
-pub ends_behind : (whole bytes : List ℕ) (word : ℕ) (rest : List ℕ) → EndsIn whole bytes → IsLeadingWord bytes word rest → EndsIn whole rest
-ends_behind whole bytes word rest ends led = ends_more whole bytes (48 ∷ 120 ∷ take led.len led.digits) rest ends (addressed bytes led.digits rest led.len led.is led.behind)
+pub ends_behind : (whole bytes : List ℕ) (value : ℕ) (rest : List ℕ) → EndsIn whole bytes → IsLeadingAddress bytes value rest → EndsIn whole rest
+ends_behind whole bytes value rest ends led = ends_more whole bytes (48 ∷ 120 ∷ take led.len led.digits) rest ends (addressed bytes led.digits rest led.len led.is led.behind)
 
 pub ends_line : (names : List (List ℕ)) (bytes : List ℕ) (thread : ℕ) (rest : List ℕ) → IsLeadingThread names bytes thread rest → EndsIn bytes rest
 ends_line names bytes thread rest led = (led.name ++ 32 ∷ [], led.front.0 ∙ sym (append_assoc led.name (32 ∷ []) rest))
@@ -162,10 +162,10 @@ pub access_added : (r new after : Recording) (line thread : ℕ) (k : Kind) (w :
 access_added r new after line thread k w s site is e pushed = pushed ∙ (rw (e, is) refl)
 
 -- an access at what stands behind its address
-pub access_behind : (v : Version) (k : Kind) (bytes : List ℕ) (word : ℕ) (rest : List ℕ) (s : Option (List ℕ)) → IsLeadingWord bytes word rest → IsSiteBehind v rest s
-    → IsFastAccess v k bytes (Accesses k word s)
-access_behind v k bytes word rest s led (Nothing none is) = access_alone v k bytes word rest (Accesses k word s) led none (ap (Accesses k word) is)
-access_behind v k bytes word rest s led (Named site behind named) = access_site v k bytes word rest site s (Accesses k word s) led behind named refl
+pub access_behind : (v : Version) (k : Kind) (bytes : List ℕ) (value : ℕ) (rest : List ℕ) (s : Option (List ℕ)) → IsLeadingAddress bytes value rest → IsSiteBehind v rest s
+    → IsFastAccess v k bytes (Accesses k (value / 4) s)
+access_behind v k bytes value rest s led (Nothing none is) = access_alone v k bytes value rest (Accesses k (value / 4) s) led none (ap (Accesses k (value / 4)) is)
+access_behind v k bytes value rest s led (Named site behind named) = access_site v k bytes value rest site s (Accesses k (value / 4) s) led behind named refl
 
 -- a line in its usual form, after which the thread of the last step acts
 pub usual_line_read : (line : ℕ) (stage : Stage) (v : Version) (bytes : List ℕ) (idle after : List Bool) (old new : Recording) → stage ≡ Events v

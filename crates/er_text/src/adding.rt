@@ -25,7 +25,7 @@ pub(crate) fn site_number(trace: &mut Trace, site: Option<&str>) -> Result<Site,
 }
 
 /// Adds a step for each page of a range, at this site.
-fn add_reuse(
+pub(crate) fn add_reuse(
     trace: &mut Trace,
     line: u64,
     thread: ThreadId,

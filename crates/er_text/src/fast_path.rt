@@ -1,17 +1,21 @@
 //! Event lines in their usual form, read in one pass over their bytes: a name, `read` or `write`, an address of at most 12
-//! hexadecimal digits and perhaps a site, or a name, `lock`, `unlock`, `rlock` or `runlock`, and a lock, with one space between any
-//! two of them. What a site may be depends on the version of the text.
+//! hexadecimal digits and perhaps a site, or a name, `lock`, `unlock`, `rlock` or `runlock`, and a lock, or a name, `show` and an address, or
+//! a name, `reuse`, an address and a size, with one space between any two of them. What a site may be depends on the version of the text.
 //!
 //! The steps are those of `parsing` and `adding`, in less than half the time. A line of any other form, or of a new thread, is left to
 //! `parsing`. A name that is found among the recent ones of the trace needs no look at its bytes.
-ghost use Rattle.std.specs.Prelude.{◌≡◌, ◌+◌, ◌<◌, ◌≤◌, ◌∷◌, ◌++◌, length, codes, ℕ, List, IfSome};
-ghost use Rattle.er_text.specs.Inner.FastPath.{EndsIn, IsLeadingThread, HexSoFar, AreLeadingDigits, IsLeadingWord, IsFastAccess, IsFastLockEvent, IsFastOperation, IsFastLine, NumbersLock, NumbersSite, AddsOperation, AddsLine, lock_word};
+ghost use Rattle.std.specs.Prelude.{◌≡◌, ◌+◌, ◌<◌, ◌≤◌, ◌∷◌, ◌++◌, length, codes, ℕ, List, IfSome, Some, None};
+ghost use Rattle.er_text.specs.Inner.FastPath.{EndsIn, IsLeadingThread, HexSoFar, AreLeadingDigits, IsLeadingAddress, IsFastAccess, IsFastLockEvent, IsFastShow, IsFastReuse, IsFastOperation, IsFastLine, NumbersLock, NumbersSite, AddsOperation, AddsLine, lock_word, rare_word};
+ghost use Rattle.er_text.specs.Events.{Reuses};
 ghost use Rattle.er_text.specs.Trace.{kind_word};
+ghost use Rattle.er_text.specs.declared.verbs.Version.{Version};
 
+use crate::adding::add_reuse;
 use crate::naming::is_site_word;
+use crate::parsing::range_of;
 use crate::verbs::Version;
-use er_event::{Event, Kind, LockId, Mode, Site, Step, ThreadId, Word};
-use er_lines::{class_of, is_name, name_of, name_text, site_text, split_at_space};
+use er_event::{Event, Kind, LockId, Mode, Site, Step, ThreadId, Word, WordRange};
+use er_lines::{class_of, is_name, name_of, name_text, number, site_text, split_at_space};
 use er_trace::Trace;
 use std::alloc::AllocError;
 use std::simd::prelude::*;
@@ -63,6 +67,17 @@ fn leading_lock_verb(bytes: &[u8]) -> Option<(bool, Mode, &[u8])>
         (UNLOCK, [b'c', b'k', b' ', rest @ ..]) => Some((false, Mode::Write, rest)),
         (READ_LOCK, [b'k', b' ', rest @ ..]) => Some((true, Mode::Read, rest)),
         (READ_UNLOCK, [b'o', b'c', b'k', b' ', rest @ ..]) => Some((false, Mode::Read, rest)),
+        _ => None,
+    }
+}
+
+/// Whether `show` and a space stand in front, or `reuse` and one, and what follows them.
+fn leading_rare_verb(bytes: &[u8]) -> Option<(bool, &[u8])>
+    ensures { IfSome result (λ parts. bytes.now ≡ rare_word parts.0 ++ 32 ∷ parts.1.now) }
+{
+    match bytes {
+        [b's', b'h', b'o', b'w', b' ', rest @ ..] => Some((true, rest)),
+        [b'r', b'e', b'u', b's', b'e', b' ', rest @ ..] => Some((false, rest)),
         _ => None,
     }
 }
@@ -149,10 +164,10 @@ fn leading_digits(bytes: &[u8]) -> (u64, usize)
     }
 }
 
-/// The word whose address stands in front, and what follows the address.
+/// The address that stands in front, and what follows it.
 #[inline(always)]
-fn leading_word(bytes: &[u8]) -> Option<(Word, &[u8])>
-    ensures { IfSome result (λ parts. IsLeadingWord bytes.now parts.0 parts.1.now) }
+fn leading_address(bytes: &[u8]) -> Option<(u64, &[u8])>
+    ensures { IfSome result (λ parts. IsLeadingAddress bytes.now parts.0 parts.1.now) }
 {
     let [b'0', b'x', digits @ ..] = bytes else {
         return None;
@@ -161,7 +176,28 @@ fn leading_word(bytes: &[u8]) -> Option<(Word, &[u8])>
     if len == 0 {
         return None;
     }
-    Some((Word::new(address / Word::BYTES), &digits[len..]))
+    Some((address, &digits[len..]))
+}
+
+/// The words of the bytes whose address and size stand here, with one space between them. None: it is something else, or there is no byte.
+#[inline(always)]
+fn whole_range(bytes: &[u8]) -> Option<WordRange>
+    ensures { IfSome result (λ range. IsFastReuse bytes.now (Reuses (Some range) None)) }
+{
+    let (address, rest) = leading_address(bytes)?;
+    let [b' ', size @ ..] = rest else {
+        return None;
+    };
+    if !is_name(size) {
+        return None;
+    }
+    let Ok(count) = number(size) else {
+        return None;
+    };
+    match range_of(address, count) {
+        Ok(range) => range,
+        Err(_) => None,
+    }
 }
 
 /// The number of the site behind an address, which is the missing one if the line ends there. None: it is no site.
@@ -229,13 +265,14 @@ fn add_usual_access(
     requires thread { thread < length trace.old.names.threads }
     ensures { AddsOperation (IsFastAccess version kind bytes.now) line thread trace.old trace.new result }
 {
-    let Some(led) = leading_word(bytes) else {
+    let Some(led) = leading_address(bytes) else {
         return Ok(false);
     };
+    let word = Word::new(led.0 / Word::BYTES);
     let Some(site) = site_behind(trace, version, whole, led.1)? else {
         return Ok(false);
     };
-    let event = Event::Access(kind, led.0, site);
+    let event = Event::Access(kind, word, site);
     trace.push(Step { thread, event }, line, site)?;
     Ok(true)
 }
@@ -268,7 +305,31 @@ fn add_usual_lock_event(
     Ok(true)
 }
 
-/// Adds what a thread does, and says whether it did.
+/// Adds a show or a reuse, and says whether it did.
+#[inline(never)]
+fn add_rare_operation(trace: &mut Trace, line: u64, thread: ThreadId, bytes: &[u8]) -> Added
+    requires { thread < length trace.old.names.threads }
+    ensures { (version : Version) → AddsOperation (IsFastOperation version bytes.now) line thread trace.old trace.new result }
+{
+    let Some((shows, rest)) = leading_rare_verb(bytes) else {
+        return Ok(false);
+    };
+    if shows {
+        let Some((address, [])) = leading_address(rest) else {
+            return Ok(false);
+        };
+        let event = Event::Show(Word::new(address / Word::BYTES));
+        trace.push(Step { thread, event }, line, Site::MISSING)?;
+        return Ok(true);
+    }
+    let Some(range) = whole_range(rest) else {
+        return Ok(false);
+    };
+    add_reuse(trace, line, thread, Some(range), Site::MISSING)?;
+    Ok(true)
+}
+
+/// Adds what a thread does, and says whether it did: a show or a reuse if `rare` is set, and else anything else.
 #[inline(always)]
 fn add_usual_operation(
     trace: &mut Trace,
@@ -277,11 +338,15 @@ fn add_usual_operation(
     thread: ThreadId,
     whole: &[u8],
     bytes: &[u8],
+    rare: bool,
 ) -> Added
     requires end { EndsIn whole.now bytes.now }
     requires thread { thread < length trace.old.names.threads }
     ensures { AddsOperation (IsFastOperation version bytes.now) line thread trace.old trace.new result }
 {
+    if rare {
+        return add_rare_operation(trace, line, thread, bytes);
+    }
     if let Some((kind, rest)) = leading_kind(bytes) {
         return add_usual_access(trace, version, line, thread, kind, whole, rest);
     }
@@ -293,19 +358,26 @@ fn add_usual_operation(
     }
 }
 
-/// Adds the step of a line of 8 bytes and more in its usual form, if its thread is known, and says whether it did. Another line adds nothing.
+/// Adds the steps of a line of 8 bytes and more in its usual form, if its thread is known, and says whether it did. Another line adds nothing.
+/// Lines of shows and reuses are for a call of their own, with `rare`: if both answers met, each line would be asked which one it has.
 ///
 /// It makes no value of an enum with names in it: such a value is copied in pieces that are wider than its parts, and each copy
 /// waits until the parts are written.
 #[inline(always)]
-pub(crate) fn add_usual(trace: &mut Trace, version: Version, line: u64, bytes: &[u8]) -> Added
+pub(crate) fn add_usual(
+    trace: &mut Trace,
+    version: Version,
+    line: u64,
+    bytes: &[u8],
+    rare: bool,
+) -> Added
     ensures { AddsLine (IsFastLine version bytes.now) line trace.old trace.new result }
 {
     if bytes.len() < 8 {
         return Ok(false);
     }
     match leading_thread(trace, bytes) {
-        Some(led) => add_usual_operation(trace, version, line, led.0, bytes, led.1),
+        Some(led) => add_usual_operation(trace, version, line, led.0, bytes, led.1, rare),
         None => Ok(false),
     }
 }

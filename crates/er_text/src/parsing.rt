@@ -8,7 +8,7 @@ ghost use Rattle.er_lines.specs.Words.{AreWords, GivesSite, seen_name};
 ghost use Rattle.er_text.specs.Inner.Parsing.{GivesName, GivesOperation, GivesEventLine, event_line, count_of, name_in, lock_in, site_in, word_in, level_in, run_in, access_in, reuse_in, operands_in, operation_in, parsed_by};
 
 use crate::naming::is_site_word;
-use crate::verbs::{Verb, Version, header_version, verb_of};
+use crate::verbs::{Verb, Version, verb_of};
 use er_event::{Kind, Level, Mode, Refusal, Word, WordRange};
 use er_lines::{TextKind, Words, lock_name_of, name_of, number, site_text};
 
@@ -55,13 +55,14 @@ impl<'a> ParsedLine<'a> {
 pub(crate) fn version_of(words: &Words<'_>) -> Option<Version>
     ensures { result ≡ version_of words.now.first.now words.now.second.now words.now.third.now words.now.fourth.now }
 {
-    if words.first == b"eraser".as_slice()
-        && words.second == b"trace".as_slice()
-        && words.fourth.is_empty()
-    {
-        header_version(words.third)
-    } else {
-        None
+    if words.first != b"eraser".as_slice() || words.second != b"trace".as_slice() {
+        return None;
+    }
+    match words.third {
+        b"1" if words.fourth.is_empty() => Some(Version::One),
+        b"2" if words.fourth.is_empty() => Some(Version::Two),
+        b"3" if words.fourth.is_empty() => Some(Version::Three),
+        _ => None,
     }
 }
 
@@ -108,10 +109,11 @@ fn parse_action<'a>(version: Version, words: &Words<'a>) -> Said<'a>
 {
     let verb = verb_of(version, words.second).ok_or(TextKind::BadVerb)?;
     let count = operand_count(words);
-    if count < verb.least() {
+    let (least, most) = verb.operands(version);
+    if count < least {
         return Err(TextKind::MissingOperand);
     }
-    if count > verb.most(version) {
+    if count > most {
         return Err(TextKind::ExtraOperand);
     }
     operands(version, verb, words.third, words.fourth, words.fifth)
@@ -199,7 +201,7 @@ fn level_of(number: u64) -> Result<Level, TextKind>
     Level::of_number(number).or(Err(TextKind::LevelTooHigh))
 }
 
-fn range_of(address: u64, size: u64) -> Result<Option<WordRange>, TextKind>
+pub(crate) fn range_of(address: u64, size: u64) -> Result<Option<WordRange>, TextKind>
     ensures { result ≡ run_in address size }
 {
     match WordRange::of_bytes(address, size) {

@@ -118,9 +118,15 @@ impl Header {
         }
     }
 
-    /// Reads a line in its usual form, behind the header, and says whether it did.
+    /// Reads a line in its usual form, behind the header, and says whether it did: of a show or a reuse if `rare` is set, and else of anything else.
     #[inline(always)]
-    fn read_usual(&mut self, trace: &mut Trace, line: u64, bytes: &[u8]) -> Result<bool, AllocError>
+    fn read_usual(
+        &mut self,
+        trace: &mut Trace,
+        line: u64,
+        bytes: &[u8],
+        rare: bool,
+    ) -> Result<bool, AllocError>
         ensures stage { self.new.stage ≡ self.old.stage }
         ensures comment { self.new.comment ≡ self.old.comment }
         ensures no_comment { IfOk result (λ read. IsTrue read → is_comment bytes.now ≡ false) }
@@ -129,11 +135,24 @@ impl Header {
         let Stage::Events(version) = self.stage else {
             return Ok(false);
         };
-        if !add_usual(trace, version, line, bytes)? {
+        if !add_usual(trace, version, line, bytes, rare)? {
             return Ok(false);
         }
         self.idle.remove_last(trace.steps());
         Ok(true)
+    }
+
+    /// Reads a line in the limits that is none of the frequent ones.
+    #[inline(never)]
+    fn read_other(&mut self, trace: &mut Trace, line: u64, bytes: &[u8]) -> Done
+        ensures read { Reads line (at_line (line + 1) self.new.stage self.new.idle trace.new) result (plain_at (at_line line self.old.stage self.old.idle trace.old) line bytes.now) }
+        ensures comment { OnOk result (self.new.comment ≡ comment_past self.old.comment line bytes.now) }
+        ensures failed { IsErrOf result ReadFault.Read → ⊥ }
+    {
+        if self.read_usual(trace, line, bytes, true)? {
+            return Ok(());
+        }
+        self.read(trace, line, bytes)
     }
 
     /// Reads a line in the limits. A line in its usual form is ASCII, and so the test is for the others alone.
@@ -143,10 +162,10 @@ impl Header {
         ensures comment { OnOk result (self.new.comment ≡ comment_past self.old.comment line bytes.now) }
         ensures failed { IsErrOf result ReadFault.Read → ⊥ }
     {
-        if self.read_usual(trace, line, bytes)? {
+        if self.read_usual(trace, line, bytes, false)? {
             return Ok(());
         }
-        self.read(trace, line, bytes)
+        self.read_other(trace, line, bytes)
     }
 }
 

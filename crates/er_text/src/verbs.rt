@@ -1,6 +1,6 @@
 //! The words that headers and events are spelled with.
 ghost use Rattle.std.specs.Prelude.{◌≡◌};
-ghost use Rattle.er_text.specs.Verbs.{has_levels, is_third, header_version, verb_of, least_of, most_of};
+ghost use Rattle.er_text.specs.Verbs.{has_levels, is_third, verb_of, least_of, most_of};
 
 /// The version of a text, which its header tells.
 #[derive(Clone, Copy, Debug, PartialEq, Eq)]
@@ -49,18 +49,6 @@ impl Version {
     }
 }
 
-/// The version that the third word of a header is.
-pub(crate) fn header_version(word: &[u8]) -> Option<Version>
-    ensures { result ≡ header_version word.now }
-{
-    match word {
-        b"1" => Some(Version::One),
-        b"2" => Some(Version::Two),
-        b"3" => Some(Version::Three),
-        _ => None,
-    }
-}
-
 /// The verb that a word is, the frequent ones first.
 pub(crate) fn verb_of(version: Version, word: &[u8]) -> Option<Verb>
     ensures { result ≡ verb_of version word.now }
@@ -86,26 +74,17 @@ pub(crate) fn verb_of(version: Version, word: &[u8]) -> Option<Verb>
 }
 
 impl Verb {
-    /// How many operands it needs.
-    pub(crate) fn least(self) -> u32
-        ensures { result ≡ least_of self }
+    /// How many operands it needs, and how many it allows in a text of this version.
+    pub(crate) fn operands(self, version: Version) -> (u32, u32)
+        ensures least { result.0 ≡ least_of self }
+        ensures most { result.1 ≡ most_of version self }
     {
         match self {
-            Verb::IgnoreOn | Verb::IgnoreOff => 0,
-            Verb::Reuse => 2,
-            _ => 1,
-        }
-    }
-
-    /// How many operands it allows in a text of this version.
-    pub(crate) fn most(self, version: Version) -> u32
-        ensures { result ≡ most_of version self }
-    {
-        match self {
-            Verb::IgnoreOn | Verb::IgnoreOff => 0,
-            Verb::Reuse if version.is_third() => 3,
-            Verb::Read | Verb::Write | Verb::Reuse => 2,
-            _ => 1,
+            Verb::IgnoreOn | Verb::IgnoreOff => (0, 0),
+            Verb::Reuse if version.is_third() => (2, 3),
+            Verb::Reuse => (2, 2),
+            Verb::Read | Verb::Write => (1, 2),
+            _ => (1, 1),
         }
     }
 }

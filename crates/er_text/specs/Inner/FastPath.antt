@@ -3,6 +3,7 @@ use Rattle.std.specs.Prelude.{◌≡◌, ℕ, ◌+◌, ◌*◌, ◌/◌, ◌^◌
 use Rattle.std.specs.List.{list_all}
 use Rattle.std.specs.Char.{is_digit}
 use Rattle.std.specs.Str.Parse.{digits_value}
+use Rattle.er_event.specs.Span.{Span}
 use Rattle.er_event.specs.declared.steps.Kind.{Kind}
 use Rattle.er_event.specs.declared.steps.Mode.{Mode}
 use Rattle.er_text.specs.declared.verbs.Version.{Version}
@@ -10,11 +11,13 @@ use Rattle.er_text.specs.declared.stages.Stage.{Stage}
 use Rattle.er_lines.specs.Lines.{words, word_at, has_bytes, is_ascii, is_comment}
 use Rattle.er_lines.specs.Number.{number_of}
 use Rattle.er_lines.specs.Naming.{is_name, is_lock_name}
+use Rattle.er_lines.specs.Words.{number_in}
 use Rattle.er_trace.specs.Trace.{Recording, with_lock_name}
 use Rattle.er_trace.specs.Names.{is_known, number_of as place_of}
-use Rattle.er_text.specs.Events.{Operation, Acquires, Releases, Accesses, EventLine, site_number, with_site_of, with_operation, with_line}
+use Rattle.er_text.specs.Events.{Operation, Acquires, Releases, Accesses, Reuses, Shows, EventLine, site_number, with_site_of, with_operation, with_line}
 use Rattle.er_text.specs.Trace.{IsSite, IsOperation, Says, acquire_word, release_word}
 use Rattle.er_text.specs.Inner.Idle.{other_thread, last_actor}
+use Rattle.er_text.specs.Inner.Parsing.{run_in}
 use Rattle.er_text.specs.Inner.Traces.{at_line, plain_at}
 
 -- the line ends with these bytes
@@ -46,16 +49,14 @@ pub record AreLeadingDigits (bytes : List ℕ) (value len : ℕ) : Type 0 where
   pub value_is : digits_value 16 (take len bytes) ≡ value
   pub small : value < 2 ^ 48
 
--- `0x`, at most 12 hexadecimal digits, of which there is one, and the rest: the word at that address
-pub record IsLeadingWord (bytes : List ℕ) (word : ℕ) (rest : List ℕ) : Type 0 where
+-- `0x`, at most 12 hexadecimal digits, of which there is one, and the rest
+pub record IsLeadingAddress (bytes : List ℕ) (value : ℕ) (rest : List ℕ) : Type 0 where
   pub digits : List ℕ
-  pub value : ℕ
   pub len : ℕ
   pub is : bytes ≡ codes "0x" ++ digits
   pub front : AreLeadingDigits digits value len
   pub some : len ≡ 0 → ⊥
   pub behind : drop len digits ≡ rest
-  pub word_is : word ≡ value / 4
 
 -- behind the verb of an access, in a text of this version
 pub record IsFastAccess (v : Version) (k : Kind) (bytes : List ℕ) (operation : Operation) : Type 0 where
@@ -78,6 +79,27 @@ lock_word false m = release_word m
 -- behind such a verb
 abbrev pub IsFastLockEvent : Bool → Mode → List ℕ → Operation → Type 0
 IsFastLockEvent acquires m bytes operation = (is_lock_name bytes ≡ true) × (operation ≡ (if acquires then Acquires bytes m else Releases bytes m))
+
+-- the verb of a show, or that of a reuse
+abbrev pub rare_word : Bool → List ℕ
+rare_word true = codes "show"
+rare_word false = codes "reuse"
+
+-- behind the verb of a show
+abbrev pub IsFastShow : List ℕ → Operation → Type 0
+IsFastShow bytes operation = (n : ℕ) × IsLeadingAddress bytes n [] × (operation ≡ Shows (n / 4))
+
+-- behind the verb of a reuse: an address and a size, and not of nothing
+pub record IsFastReuse (bytes : List ℕ) (operation : Operation) : Type 0 where
+  pub size : List ℕ
+  pub range : Span
+  pub a : ℕ
+  pub n : ℕ
+  pub front : IsLeadingAddress bytes a (32 ∷ size)
+  pub named : is_name size ≡ true
+  pub number : number_in size ≡ Ok n
+  pub run : run_in a n ≡ Ok (Some range)
+  pub is : operation ≡ Reuses (Some range) None
 
 -- behind a thread
 pub record IsFastOperation (v : Version) (bytes : List ℕ) (operation : Operation) : Type 0 where
