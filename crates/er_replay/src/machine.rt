@@ -1,5 +1,5 @@
 //! The machine: every thread's holdings and every word's state.
-ghost use Rattle.std.specs.Prelude.{◌≡◌, ◌⊎◌, ◌<◌, ◌≤◌, ◌++◌, ◌∷◌, [], ◌&&◌, ℕ, Bool, cond, true, false, List, IsTrue, IsFalse, IsOk, IsErr, IfOk, IfErr, IsErrOf, OnOk, OnErr, Ok, Err, None, Some};
+ghost use Rattle.std.specs.Prelude.{◌≡◌, ◌⊎◌, ◌<◌, ◌≤◌, ◌++◌, ◌∷◌, [], ◌&&◌, ℕ, Bool, cond, true, false, List, IsTrue, IsFalse, IsOk, IsErr, IfOk, IfErr, IsErrOf, MatchResult, OnOk, OnErr, Ok, Err, None, Some};
 ghost use Rattle.er_event.specs.declared.steps.Event.{Event as Events};
 ghost use Rattle.er_event.specs.declared.steps.Step.{Step as Steps};
 ghost use Rattle.er_event.specs.declared.steps.WordState.{WordState as WordStates};
@@ -238,14 +238,16 @@ impl<S: Store> MachineIn<S> {
             }
             Event::Show(_) => (Ok(Brief::Shown), false),
             Event::Sync(_) => (Ok(Brief::Done), false),
-            Event::Acquire(..)
-            | Event::Release(..)
-            | Event::IgnoreOn
-            | Event::IgnoreOff
-            | Event::Level(_) => match self.threads.change(thread, event) {
-                Ok(()) => (Ok(Brief::Done), false),
-                Err(why) => (Err(why), false),
-            },
+            // Each is named, so that it is asked only once which event it is.
+            Event::Acquire(lock, mode) => {
+                brief_of(self.threads.change(thread, Event::Acquire(lock, mode)))
+            }
+            Event::Release(lock, mode) => {
+                brief_of(self.threads.change(thread, Event::Release(lock, mode)))
+            }
+            Event::IgnoreOn | Event::IgnoreOff | Event::Level(_) => {
+                brief_of(self.threads.change(thread, event))
+            }
         }
     }
 
@@ -325,5 +327,16 @@ impl<S: Store> MachineIn<S> {
         ensures { (past : List Steps) → Stands self.now past → IfOk result (λ state. state ≡ state_end past word) }
     {
         self.words.state_of(word)
+    }
+}
+
+// What is answered in brief to a step that changed its thread's holdings so. No word is changed.
+#[inline(always)]
+fn brief_of(done: Result<(), Refusal>) -> (Result<Brief, Refusal>, bool)
+    ensures { MatchResult done (λ _. result ≡ (Ok Brief.Done, false)) (λ why. result ≡ (Err why, false)) }
+{
+    match done {
+        Ok(()) => (Ok(Brief::Done), false),
+        Err(why) => (Err(why), false),
     }
 }

@@ -84,14 +84,27 @@ impl Threads {
                 let held = &mut self.held[index];
                 held.change(event)
             }
-            None => {
-                let mut held = Held::new(self.alloc);
-                held.change(event)?;
-                self.places.note(key, self.held.len());
-                self.held.insert(key, held)?;
-                Ok(())
-            }
+            None => self.change_first(thread, event),
         }
+    }
+
+    // The same of a thread that has no place. Apart, so that no step of another thread makes room for holdings.
+    #[inline(never)]
+    fn change_first(&mut self, thread: ThreadId, event: Event) -> Result<(), Refusal>
+        requires change { IsTrue (changes_holdings event) }
+        requires none { holding_among self.old thread ≡ nothing_held }
+        ensures accepted { OnOk result (refused_by nothing_held event ≡ None) }
+        ensures ok { OnOk result ((t : ℕ) → holding_among self.new t ≡ cond (nat_eq thread t) (changed_by nothing_held event) (holding_among self.old t)) }
+        ensures err { OnErr result ((t : ℕ) → holding_among self.new t ≡ holding_among self.old t) }
+        ensures refused { (why : Refusal) → refused_by nothing_held event ≡ Some why → result ≡ Err why }
+        ensures memory { refused_by nothing_held event ≡ None → IfErr result (λ why. IsTrue (wants_memory event && is_no_memory why)) }
+    {
+        let mut held = Held::new(self.alloc);
+        held.change(event)?;
+        let key = u64::from(thread.number());
+        self.places.note(key, self.held.len());
+        self.held.insert(key, held)?;
+        Ok(())
     }
 }
 

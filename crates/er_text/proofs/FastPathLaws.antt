@@ -13,7 +13,9 @@ use Rattle.std.proofs.lemmas.List.Splits.{slice_split_at, slice_split_none}
 use Rattle.std.proofs.lemmas.List.Sums.{AllPass-from_list_all, list_all-from_AllPass, passes_at_first}
 use Rattle.er_event.specs.Span.{Span, page_count, part_of, parts_below, span_of_bytes}
 use Rattle.er_event.specs.declared.addresses.PageRange.{PageRange}
+use Rattle.er_event.specs.declared.steps.Event.{Event}
 use Rattle.er_event.specs.declared.steps.Event.TheVariants.{Reuse}
+use Rattle.er_event.specs.declared.steps.Event.TheVariants as event
 use Rattle.er_event.specs.declared.steps.Step.{Step}
 use Rattle.er_event.specs.declared.steps.Kind.{Kind}
 use Rattle.er_event.specs.declared.steps.Kind.TheVariants.{Read, Write}
@@ -22,18 +24,20 @@ use Rattle.er_event.specs.declared.steps.Mode.TheVariants as mode
 use Rattle.er_text.specs.declared.verbs.Version.{Version}
 use Rattle.er_lines.specs.Lines.{is_gap, is_space, before_space, behind_space, is_ascii, is_comment, has_bytes, words, word_at}
 use Rattle.er_lines.specs.Number.{number_of}
+use Rattle.er_lines.specs.Words.{number_in}
 use Rattle.er_lines.specs.Naming.{is_name_byte, is_name, is_lock_name, is_site_byte, name_of}
 use Rattle.er_text.specs.Naming.{is_site_word}
-use Rattle.er_text.specs.Events.{Operation, Acquires, Releases, Accesses, Reuses, Shows, EventLine, run_of, with_operation, with_line, with_reuses}
+use Rattle.er_text.specs.Events.{Operation, Acquires, Releases, Accesses, IgnoresOn, IgnoresOff, Levels, EventLine, run_of, with_operation, with_line, with_reuses}
 use Rattle.er_text.specs.declared.stages.Stage.{Stage}
 use Rattle.er_text.specs.declared.stages.Stage.TheVariants.{Events}
-use Rattle.er_trace.specs.Names.{number_of as place_of}
-use Rattle.er_trace.specs.Trace.{Recording, with_thread_name}
-use Rattle.er_text.specs.Trace.{acquire_word, release_word, kind_word}
-use Rattle.er_text.specs.Inner.Parsing.{parsed_of}
-use Rattle.er_text.specs.Inner.Idle.{last_actor, without_idle, order_fault, waits_for, is_known_name}
+use Rattle.er_trace.specs.Names.{NameTable, number_of as place_of}
+use Rattle.er_trace.specs.Trace.{Recording, HasNames, with_step, with_thread_name}
+use Rattle.er_text.specs.Trace.{IsOperation, acquire_word, release_word, kind_word}
+use Rattle.er_text.specs.Verbs.{has_levels}
+use Rattle.er_text.specs.Inner.Parsing.{level_in, parsed_of}
+use Rattle.er_text.specs.Inner.Idle.{last_actor, other_thread, without_idle, order_fault, waits_for, is_known_name}
 use Rattle.er_text.specs.Inner.Traces.{Progress, past_event, add_event, add_parsed, closed, read_words, plain_at}
-use Rattle.er_text.specs.Inner.FastPath.{IsLeadingName, AreLeadingDigits, IsLeadingAddress, IsFastAccess, IsFastLockEvent, IsFastShow, IsFastReuse, IsFastOperation, IsFastLine, lock_word, rare_word}
+use Rattle.er_text.specs.Inner.FastPath.{IsLeadingName, AreLeadingDigits, IsLeadingAddress, IsFastAccess, IsFastLockEvent, IsFastShow, IsFastReuse, IsFastOperation, IsFastAlone, IsFastLine, lock_word, rare_word}
 use Rattle.er_lines.proofs.ByteLemmas.{name_ascii, site_ascii}
 use Rattle.er_lines.proofs.SaidLemmas.{number_found}
 use Rattle.er_text.proofs.SiteLemmas.{site_parts}
@@ -41,7 +45,7 @@ use Rattle.er_text.proofs.ParsingAgain.{says_parsed}
 use Rattle.er_text.proofs.IdleLemmas.{no_fault, last_added}
 use Rattle.er_text.proofs.EventWords.{not_end}
 use Rattle.er_text.proofs.AddingLemmas.{mapped_more}
-use Rattle.er_text.proofs.ParsingLaws.{run_found}
+use Rattle.er_text.proofs.ParsingLaws.{level_tested, run_found}
 
 -- no byte of it is a gap
 abbrev IsGapless : List ℕ → Type 0
@@ -285,6 +289,54 @@ reuse_tells v bytes rest operation ascii whole a =
       alone = refl;
       one = λ line thread r. last_part line thread a.range r (page_count a.range) (some_pages a.a a.n a.range run.3);
     })
+
+-- a level, and each bracket
+pub level_alone : (v : Version) (bytes word : List ℕ) (count n : ℕ) → bytes ≡ codes "level" ++ 32 ∷ word → has_levels v ≡ true → is_name word ≡ true → number_in word ≡ Ok count → level_in count ≡ Ok n
+    → IsFastAlone v bytes (event.Level n)
+level_alone v bytes word count n is levels named number most =
+    let parts = name_parts word named in
+    let level = level_tested (nat_lt 31 count) count n refl most in
+    record {
+      operation = Levels n;
+      fast = record {
+        ascii = ap (list_all is_ascii) is ∙ name_ascii word parts.named;
+        says = λ thread. (
+          word,
+          ap (λ (w : List (List ℕ)). thread ∷ w) (ap words is ∙ ap (λ (w : List (List ℕ)). codes "level" ∷ w) (word_alone word parts.gapless parts.some)),
+          number_found (number_of word) count number ∙ ap Some level.0,
+          level.1,
+          levels,
+        );
+        alone = refl;
+        one = λ line thread r. last_added r.steps _;
+      };
+      adds = λ line thread r. refl;
+      named = λ names. tt;
+    }
+
+bracket_alone : (v : Version) (bytes bracket : List ℕ) (operation : Operation) (event : Event) → bytes ≡ bracket → is_name bracket ≡ true
+    → ((thread : List ℕ) → IsOperation v (thread ∷ bracket ∷ []) thread operation) → other_thread operation ≡ None
+    → ((line thread : ℕ) (r : Recording) → with_operation line thread operation r ≡ with_step r (record { thread = thread; event = event }) line 0)
+    → ((names : NameTable) → HasNames names event) → IsFastAlone v bytes event
+bracket_alone v bytes bracket operation event is name says alone adds named =
+    let parts = name_parts bracket name in
+    record {
+      operation = operation;
+      fast = record {
+        ascii = ap (list_all is_ascii) is ∙ name_ascii bracket parts.named;
+        says = λ thread. subst (λ (w : List (List ℕ)). IsOperation v (thread ∷ w) thread operation) (sym (ap words is ∙ word_alone bracket parts.gapless parts.some)) (says thread);
+        alone = alone;
+        one = λ line thread r. rw (adds line thread r) (last_added r.steps _);
+      };
+      adds = adds;
+      named = named;
+    }
+
+pub on_alone : (v : Version) (bytes : List ℕ) → bytes ≡ codes "ignore-on" → IsFastAlone v bytes event.IgnoreOn
+on_alone v bytes is = bracket_alone v bytes (codes "ignore-on") IgnoresOn event.IgnoreOn is refl (λ thread. refl) refl (λ line thread r. refl) (λ names. tt)
+
+pub off_alone : (v : Version) (bytes : List ℕ) → bytes ≡ codes "ignore-off" → IsFastAlone v bytes event.IgnoreOff
+off_alone v bytes is = bracket_alone v bytes (codes "ignore-off") IgnoresOff event.IgnoreOff is refl (λ thread. refl) refl (λ line thread r. refl) (λ names. tt)
 
 -- the verb of an access in front, and a space behind it
 pub access_led : (v : Version) (k : Kind) (bytes rest : List ℕ) (operation : Operation) → bytes ≡ kind_word k ++ 32 ∷ rest → IsFastAccess v k rest operation → IsFastOperation v bytes operation

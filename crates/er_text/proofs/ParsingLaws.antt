@@ -44,7 +44,7 @@ word_tested false n w is e = (grind (arith, nat_tests, is), cc)
 word_found : (n w : ℕ) → word_in n ≡ Ok w → (n < 2 ^ 48) × (w ≡ n / 4)
 word_found n w e = word_tested (nat_le (2 ^ 48) n) n w refl e
 
-level_tested : (b : Bool) (n m : ℕ) → nat_lt 31 n ≡ b → cond b (Err LevelTooHigh) (Ok n) ≡ Ok m → (n ≡ m) × (m ≤ 31)
+pub level_tested : (b : Bool) (n m : ℕ) → nat_lt 31 n ≡ b → cond b (Err LevelTooHigh) (Ok n) ≡ Ok m → (n ≡ m) × (m ≤ 31)
 level_tested true n m is e = absurd (cc)
 level_tested false n m is e = let same : n ≡ m = cc in let most : n ≤ 31 = grind (arith, nat_tests, is) in (same, omega (arith, same, most))
 

@@ -1,18 +1,18 @@
 //! Event lines in their usual form, read in one pass over their bytes: a name, `read` or `write`, an address of at most 12
 //! hexadecimal digits and perhaps a site, or a name, `lock`, `unlock`, `rlock` or `runlock`, and a lock, or a name, `show` and an address, or
-//! a name, `reuse`, an address and a size, with one space between any two of them. What a site may be depends on the version of the text.
+//! a name, `reuse`, an address and a size, or a name, `level` and a number, or a name and a bracket, with one space between any two of them. What
+//! a site may be depends on the version of the text.
 //!
 //! The steps are those of `parsing` and `adding`, in less than half the time. A line of any other form, or of a new thread, is left to
 //! `parsing`. A name that is found among the recent ones of the trace needs no look at its bytes.
 ghost use Rattle.std.specs.Prelude.{◌≡◌, ◌+◌, ◌<◌, ◌≤◌, ◌∷◌, ◌++◌, length, codes, ℕ, List, IfSome, Some, None};
-ghost use Rattle.er_text.specs.Inner.FastPath.{EndsIn, IsLeadingThread, HexSoFar, AreLeadingDigits, IsLeadingAddress, IsFastAccess, IsFastLockEvent, IsFastShow, IsFastReuse, IsFastOperation, IsFastLine, NumbersLock, NumbersSite, AddsOperation, AddsLine, lock_word, rare_word};
+ghost use Rattle.er_text.specs.Inner.FastPath.{EndsIn, IsLeadingThread, HexSoFar, AreLeadingDigits, IsLeadingAddress, IsFastAccess, IsFastLockEvent, IsFastShow, IsFastReuse, IsFastAlone, IsFastOperation, IsFastLine, NumbersLock, NumbersSite, AddsOperation, AddsLine, lock_word, rare_word};
 ghost use Rattle.er_text.specs.Events.{Reuses};
 ghost use Rattle.er_text.specs.Trace.{kind_word};
-ghost use Rattle.er_text.specs.declared.verbs.Version.{Version};
 
 use crate::adding::add_reuse;
 use crate::naming::is_site_word;
-use crate::parsing::range_of;
+use crate::parsing::{level_of, range_of};
 use crate::verbs::Version;
 use er_event::{Event, Kind, LockId, Mode, Site, Step, ThreadId, Word, WordRange};
 use er_lines::{class_of, is_name, name_of, name_text, number, site_text, split_at_space};
@@ -200,6 +200,39 @@ fn whole_range(bytes: &[u8]) -> Option<WordRange>
     }
 }
 
+/// What follows `level` and a space.
+fn behind_level(bytes: &[u8]) -> Option<&[u8]>
+    ensures { IfSome result (λ rest. bytes.now ≡ codes "level" ++ 32 ∷ rest.now) }
+{
+    match bytes {
+        [b'l', b'e', b'v', b'e', b'l', b' ', rest @ ..] => Some(rest),
+        _ => None,
+    }
+}
+
+/// What stands behind a thread, if it is an ignore bracket, or a level in a text that has any.
+fn lone_event(version: Version, bytes: &[u8]) -> Option<Event>
+    ensures { IfSome result (λ event. IsFastAlone version bytes.now event) }
+{
+    if bytes == b"ignore-on".as_slice() {
+        return Some(Event::IgnoreOn);
+    }
+    if bytes == b"ignore-off".as_slice() {
+        return Some(Event::IgnoreOff);
+    }
+    let word = behind_level(bytes)?;
+    if !version.has_levels() || !is_name(word) {
+        return None;
+    }
+    let Ok(count) = number(word) else {
+        return None;
+    };
+    match level_of(count) {
+        Ok(level) => Some(Event::Level(level)),
+        Err(_) => None,
+    }
+}
+
 /// The number of the site behind an address, which is the missing one if the line ends there. None: it is no site.
 #[inline(always)]
 fn site_behind(
@@ -305,14 +338,38 @@ fn add_usual_lock_event(
     Ok(true)
 }
 
-/// Adds a show or a reuse, and says whether it did.
-#[inline(never)]
-fn add_rare_operation(trace: &mut Trace, line: u64, thread: ThreadId, bytes: &[u8]) -> Added
+/// Adds a level or an ignore bracket, and says whether it did.
+fn add_alone(
+    trace: &mut Trace,
+    version: Version,
+    line: u64,
+    thread: ThreadId,
+    bytes: &[u8],
+) -> Added
     requires { thread < length trace.old.names.threads }
-    ensures { (version : Version) → AddsOperation (IsFastOperation version bytes.now) line thread trace.old trace.new result }
+    ensures { AddsOperation (IsFastOperation version bytes.now) line thread trace.old trace.new result }
+{
+    let Some(event) = lone_event(version, bytes) else {
+        return Ok(false);
+    };
+    trace.push(Step { thread, event }, line, Site::MISSING)?;
+    Ok(true)
+}
+
+/// Adds a show, a reuse, a level or an ignore bracket, and says whether it did.
+#[inline(never)]
+fn add_rare_operation(
+    trace: &mut Trace,
+    version: Version,
+    line: u64,
+    thread: ThreadId,
+    bytes: &[u8],
+) -> Added
+    requires { thread < length trace.old.names.threads }
+    ensures { AddsOperation (IsFastOperation version bytes.now) line thread trace.old trace.new result }
 {
     let Some((shows, rest)) = leading_rare_verb(bytes) else {
-        return Ok(false);
+        return add_alone(trace, version, line, thread, bytes);
     };
     if shows {
         let Some((address, [])) = leading_address(rest) else {
@@ -329,7 +386,7 @@ fn add_rare_operation(trace: &mut Trace, line: u64, thread: ThreadId, bytes: &[u
     Ok(true)
 }
 
-/// Adds what a thread does, and says whether it did: a show or a reuse if `rare` is set, and else anything else.
+/// Adds what a thread does, and says whether it did: a show, a reuse, a level or a bracket if `rare` is set, and else anything else.
 #[inline(always)]
 fn add_usual_operation(
     trace: &mut Trace,
@@ -345,7 +402,7 @@ fn add_usual_operation(
     ensures { AddsOperation (IsFastOperation version bytes.now) line thread trace.old trace.new result }
 {
     if rare {
-        return add_rare_operation(trace, line, thread, bytes);
+        return add_rare_operation(trace, version, line, thread, bytes);
     }
     if let Some((kind, rest)) = leading_kind(bytes) {
         return add_usual_access(trace, version, line, thread, kind, whole, rest);
@@ -359,7 +416,7 @@ fn add_usual_operation(
 }
 
 /// Adds the steps of a line of 8 bytes and more in its usual form, if its thread is known, and says whether it did. Another line adds nothing.
-/// Lines of shows and reuses are for a call of their own, with `rare`: if both answers met, each line would be asked which one it has.
+/// Those four kinds of lines are for a call of their own, with `rare`: if both answers met, each line would be asked which one it has.
 ///
 /// It makes no value of an enum with names in it: such a value is copied in pieces that are wider than its parts, and each copy
 /// waits until the parts are written.

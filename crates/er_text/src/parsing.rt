@@ -195,7 +195,7 @@ fn word_at(address: u64) -> Result<Word, TextKind>
     Word::of_address(address).or(Err(TextKind::AddressOutOfRange))
 }
 
-fn level_of(number: u64) -> Result<Level, TextKind>
+pub(crate) fn level_of(number: u64) -> Result<Level, TextKind>
     ensures { result ≡ level_in number }
 {
     Level::of_number(number).or(Err(TextKind::LevelTooHigh))

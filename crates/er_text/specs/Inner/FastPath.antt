@@ -4,6 +4,7 @@ use Rattle.std.specs.List.{list_all}
 use Rattle.std.specs.Char.{is_digit}
 use Rattle.std.specs.Str.Parse.{digits_value}
 use Rattle.er_event.specs.Span.{Span}
+use Rattle.er_event.specs.declared.steps.Event.{Event}
 use Rattle.er_event.specs.declared.steps.Kind.{Kind}
 use Rattle.er_event.specs.declared.steps.Mode.{Mode}
 use Rattle.er_text.specs.declared.verbs.Version.{Version}
@@ -12,8 +13,8 @@ use Rattle.er_lines.specs.Lines.{words, word_at, has_bytes, is_ascii, is_comment
 use Rattle.er_lines.specs.Number.{number_of}
 use Rattle.er_lines.specs.Naming.{is_name, is_lock_name}
 use Rattle.er_lines.specs.Words.{number_in}
-use Rattle.er_trace.specs.Trace.{Recording, with_lock_name}
-use Rattle.er_trace.specs.Names.{is_known, number_of as place_of}
+use Rattle.er_trace.specs.Trace.{Recording, HasNames, with_lock_name, with_step}
+use Rattle.er_trace.specs.Names.{NameTable, is_known, number_of as place_of}
 use Rattle.er_text.specs.Events.{Operation, Acquires, Releases, Accesses, Reuses, Shows, EventLine, site_number, with_site_of, with_operation, with_line}
 use Rattle.er_text.specs.Trace.{IsSite, IsOperation, Says, acquire_word, release_word}
 use Rattle.er_text.specs.Inner.Idle.{other_thread, last_actor}
@@ -107,6 +108,13 @@ pub record IsFastOperation (v : Version) (bytes : List ℕ) (operation : Operati
   pub says : (thread : List ℕ) → IsOperation v (thread ∷ words bytes) thread operation
   pub alone : other_thread operation ≡ None
   pub one : (line thread : ℕ) (r : Recording) → last_actor (with_operation line thread operation r).steps ≡ Some thread
+
+-- behind a thread, and adds this event alone
+pub record IsFastAlone (v : Version) (bytes : List ℕ) (event : Event) : Type 0 where
+  pub operation : Operation
+  pub fast : IsFastOperation v bytes operation
+  pub adds : (line thread : ℕ) (r : Recording) → with_operation line thread operation r ≡ with_step r (record { thread = thread; event = event }) line 0
+  pub named : (names : NameTable) → HasNames names event
 
 -- a whole line
 pub record IsFastLine (v : Version) (line : List ℕ) (s : EventLine) : Type 0 where

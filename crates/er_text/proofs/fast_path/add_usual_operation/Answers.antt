@@ -28,6 +28,3 @@ returns-in-Some-leading_lock_verb c =
     let rest = c.in-Some-leading_lock_verb.rest.now in
     adds_as (IsFastLockEvent acquires mode rest) (IsFastOperation c.args.version c.args.bytes.now) c.args.line c.args.thread c.args.trace.now c.add_usual_lock_event.new.trace c.add_usual_lock_event.result
     (λ operation a. lock_event_led c.args.version acquires mode c.args.bytes.now rest operation c.in-Some-leading_lock_verb.ensures a) c.add_usual_lock_event.ensures
-
-pub returns-then-rare : goal.returns-then-rare
-returns-then-rare c = c.add_rare_operation.ensures c.args.version

@@ -1,10 +1,10 @@
-use Rattle.std.proofs.Common.{◌≡◌, ℕ, nat_eq, cond, Err, Some, slice_get, ap, ◌∙◌, sym}
+use Rattle.std.proofs.Common.{◌≡◌, ℕ, nat_eq, cond, Some, slice_get, ap, ◌∙◌, sym}
 use Rattle.std.specs.Map.{lookup}
 use Rattle.indexmap.specs.IndexMap.{keys, values, with_value_at}
 use Rattle.er_held.specs.ThreadLocks.{holding_among}
 use Rattle.er_held.specs.Held.{nothing_held}
 use Rattle.er_model.specs.Holdings.{Holdings}
-use Rattle.er_replay.proofs.ThreadsLemmas.{err_from, err_is, holding_rewritten, no_memory}
+use Rattle.er_replay.proofs.ThreadsLemmas.{holding_rewritten, no_memory}
 use Rattle.er_replay.proofs.threads.Threads.change.Goals as goal
 use Rattle.er_held.proofs.MapLemmas.{holding_found, holding_absent, holding_written}
 use Rattle.er_keys.proofs.MapLemmas.{entry_found, entry_put}
@@ -57,37 +57,17 @@ absent c =
     holding_absent c.self.inside.held.entries c.args.thread (rw key at (sym c.in-None.ensures.none))
     ∙ ap (λ threads. holding_among threads c.args.thread) c.self.view_is
 
-pub returns-in_ok-insert-in-None-clause-accepted : goal.returns-in_ok-insert-in-None-clause-accepted
-returns-in_ok-insert-in-None-clause-accepted c =
-    rw (← absent (goal.at.returns-in_ok-insert-in-None-clause-accepted c).In-None, ← c.new-held.ensures) c.in_ok-change-in-None.ensures.accepted
+pub returns-in-None-clause-accepted : goal.returns-in-None-clause-accepted
+returns-in-None-clause-accepted c = rw (← absent (goal.at.returns-in-None-clause-accepted c).In-None) c.change_first.ensures.accepted
 
-pub returns-in_ok-insert-in-None-clause-ok : goal.returns-in_ok-insert-in-None-clause-ok
-returns-in_ok-insert-in-None-clause-ok c =
-    let none = absent (goal.at.returns-in_ok-insert-in-None-clause-ok c).In-None in
-    let key = c.from-key.ensures ∙ c.number.ensures.value in
-    rw (← none, ← c.self.view_is, ← c.new-held.ensures, ← c.in_ok-change-in-None.ensures.ok)
-    (holding_written c.self.inside.held.entries _ c.args.thread c.change-in-None.new.self (rw key at c.in_ok-insert-in-None.ensures.updates.0))
+pub returns-in-None-clause-ok : goal.returns-in-None-clause-ok
+returns-in-None-clause-ok c = rw (← absent (goal.at.returns-in-None-clause-ok c).In-None) c.change_first.ensures.ok
 
-pub returns-in_err-change-in-None-clause-refused : goal.returns-in_err-change-in-None-clause-refused
-returns-in_err-change-in-None-clause-refused c =
-    let none = absent (goal.at.returns-in_err-change-in-None-clause-refused c).In-None in
-    rw (← none, ← c.new-held.ensures) (λ why so.
-    let same = c.in_err-change-in-None.ensures.refused why so in
-    err_is c.from_residual.result _ why c.from_residual.ensures.1 (λ e is. cc))
+pub returns-in-None-clause-refused : goal.returns-in-None-clause-refused
+returns-in-None-clause-refused c = rw (← absent (goal.at.returns-in-None-clause-refused c).In-None) c.change_first.ensures.refused
 
-pub returns-in_err-change-in-None-clause-memory : goal.returns-in_err-change-in-None-clause-memory
-returns-in_err-change-in-None-clause-memory c =
-    let none = absent (goal.at.returns-in_err-change-in-None-clause-memory c).In-None in
-    rw (← none, ← c.new-held.ensures) (λ so.
-    let lacks = no_memory {A = Unit {0}} c.args.event (Err c.in_err-change-in-None.field-0.0) c.requires (c.in_err-change-in-None.ensures.memory so) (c.in_err-change-in-None.ensures.free so) in
-    err_from c.from_residual.result _ _ c.from_residual.ensures.1 (λ why is. rw is lacks))
+pub returns-in-None-clause-memory : goal.returns-in-None-clause-memory
+returns-in-None-clause-memory c = rw (← absent (goal.at.returns-in-None-clause-memory c).In-None) c.change_first.ensures.memory
 
-pub returns-in_err-insert-in-None-clause-refused : goal.returns-in_err-insert-in-None-clause-refused
-returns-in_err-insert-in-None-clause-refused c =
-    let none = absent (goal.at.returns-in_err-insert-in-None-clause-refused c).In-None in
-    rw (← none, ← c.new-held.ensures) (λ why so. let accepted = c.in_ok-change-in-None.ensures.accepted in cc)
-
-pub returns-in_ok-insert-in-None-clause-refused : goal.returns-in_ok-insert-in-None-clause-refused
-returns-in_ok-insert-in-None-clause-refused c =
-    let none = absent (goal.at.returns-in_ok-insert-in-None-clause-refused c).In-None in
-    rw (← none, ← c.new-held.ensures) (λ why so. let accepted = c.in_ok-change-in-None.ensures.accepted in cc)
+pub change_first-requires-clause-none : goal.change_first-requires-clause-none
+change_first-requires-clause-none c = sym (absent (goal.at.change_first-requires-clause-none c).In-None)
