@@ -27,18 +27,20 @@ more_from_not_le a b e = elim (cases_order a b) [
 module _ (locks : List ℕ) (lock base : ℕ) (rises : IsStrictlyIncreasing locks) where
   -- one half is left
   pub narrowed : (size half from : ℕ) (b : Bool) → IsWithin locks lock base size → 1 < size → half ≡ size / 2 → is_le (nat_cmp (slice_index locks (base + half)) lock) ≡ b → from ≡ cond b (base + half) base → IsWithin locks lock from (size - half)
-  narrowed size half from true within some halved low is =
+  narrowed size half from true within several halved low is =
       let inside = within.inside in
       let least = le_from_is_le (slice_index locks (base + half)) lock low in
       rw is (record {
+        some = omega arith;
         inside = omega arith;
         below = λ k under. let rise = AllPairs-from_increasing locks rises k (base + half) 0 under (omega arith) in omega (arith, least, rise);
         above = λ k over last. within.above k (omega arith) last;
       })
-  narrowed size half from false within some halved high is =
+  narrowed size half from false within several halved high is =
       let inside = within.inside in
       let more = more_from_not_le (slice_index locks (base + half)) lock high in
       rw is (record {
+        some = omega arith;
         inside = omega arith;
         below = within.below;
         above = λ k over last. elim (cases_lt (base + half) k) [

@@ -360,8 +360,8 @@ impl Held {
     }
 }
 
-// Where the set has the lock, or else, as an error, where the lock belongs. Where there are many, at most seven steps are made without a jump that
-// depends on the locks, which nobody could foretell.
+// Where the set has the lock, or else, as an error, where the lock belongs. One lock is compared at once, and among many no step is a jump that depends
+// on the locks, which nobody could foretell.
 #[inline]
 fn place_of(set: &Lockset, lock: LockId) -> Result<usize, usize>
     ensures found { is_ok result ≡ has set.now lock }
@@ -369,16 +369,15 @@ fn place_of(set: &Lockset, lock: LockId) -> Result<usize, usize>
     ensures belongs { IfErr result (λ place. (place ≤ length set.now) × (insert set.now place lock ≡ with_lock lock set.now)) }
 {
     let locks = set.as_slice();
-    let (mut base, mut size, mut steps) = (0, locks.len(), 0usize);
-    while size > 1 && steps < 7 && locks.len() > 15 {
+    let (mut base, mut size) = (0, locks.len());
+    if size != 1 && size < 16 {
+        return set.find(lock);
+    }
+    while size > 1 {
         let half = size / 2;
         let middle = base + half;
         base = if locks[middle] <= lock { middle } else { base };
         size -= half;
-        steps += 1;
-    }
-    if size != 1 {
-        return set.find(lock);
     }
     if locks[base] == lock {
         return Ok(base);

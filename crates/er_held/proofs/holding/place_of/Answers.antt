@@ -27,7 +27,7 @@ loop-size-preserved c =
 place : (c : After-from) → BelongsAt c.args.set.now c.args.lock (c.loop-size.base + c.from.result)
 place c =
     let locks = c.as_slice-locks.result.now in
-    let one : c.loop-size.size ≡ 1 = c.if-size-ne1.false in
+    let one : c.loop-size.size ≡ 1 = omega (arith, c.loop-size-test.false, c.loop-size.invariant.some) in
     let within : IsWithin locks c.args.lock c.loop-size.base 1 = rw one at c.loop-size.invariant in
     let inside = within.inside in
     let here : c.index-locks-base-2.result ≡ slice_index locks c.loop-size.base = c.index-locks-base-2.is ∙ get_or_default locks c.loop-size.base c.index-locks-base-2.result 0 (omega arith) in

@@ -1,4 +1,3 @@
-use Rattle.std.proofs.Common.{◌-◌}
 use Rattle.er_held.specs.Inner.Halving.{IsWithin}
 use Rattle.er_held.proofs.holding.place_of.Given as goal
 
@@ -6,4 +5,4 @@ abbrev pub invariant-loop-size : goal.invariant-loop-size
 invariant-loop-size l = IsWithin l.locks l.lock l.base l.size
 
 abbrev pub decreases-loop-size : goal.decreases-loop-size
-decreases-loop-size l = 7 - l.steps
+decreases-loop-size l = l.size
