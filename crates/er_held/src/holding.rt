@@ -360,9 +360,9 @@ impl Held {
     }
 }
 
-// Where the set has the lock, or else, as an error, where the lock belongs. One lock is compared at once, and among many no step is a jump that depends
-// on the locks, which nobody could foretell.
-#[inline]
+// Where the set has the lock, or else, as an error, where the lock belongs. Among many, seven steps are made without a jump that depends on the locks,
+// which nobody could foretell.
+#[inline(always)]
 fn place_of(set: &Lockset, lock: LockId) -> Result<usize, usize>
     ensures found { is_ok result ≡ has set.now lock }
     ensures here { IfOk result (λ place. (place < length set.now) × (slice_index set.now place ≡ lock)) }
@@ -370,10 +370,10 @@ fn place_of(set: &Lockset, lock: LockId) -> Result<usize, usize>
 {
     let locks = set.as_slice();
     let (mut base, mut size) = (0, locks.len());
-    if size != 1 && size < 16 {
+    if size < 16 || size > 128 {
         return set.find(lock);
     }
-    while size > 1 {
+    for _ in 0..7usize {
         let half = size / 2;
         let middle = base + half;
         base = if locks[middle] <= lock { middle } else { base };
