@@ -122,7 +122,7 @@ impl Held {
     }
 
     // Where a lock goes that is acquired, or why that is refused: in either mode the same.
-    #[inline]
+    #[inline(always)]
     fn place_to_acquire(&self, lock: LockId, _mode: Mode) -> Result<usize, Refusal>
         ensures refused { IfErr result (λ why. refused_by self.now (Event.Acquire lock _mode) ≡ Some why) }
         ensures accepted { OnOk result (refused_by self.now (Event.Acquire lock _mode) ≡ None) }
@@ -360,8 +360,7 @@ impl Held {
     }
 }
 
-// Where the set has the lock, or else, as an error, where the lock belongs. Among many, seven steps are made without a jump that depends on the locks,
-// which nobody could foretell.
+// Where the set has the lock, or else, as an error, where it belongs. Among many no jump depends on the locks, which nobody could foretell.
 #[inline(always)]
 fn place_of(set: &Lockset, lock: LockId) -> Result<usize, usize>
     ensures found { is_ok result ≡ has set.now lock }

@@ -91,8 +91,7 @@ impl Call {
     #[inline]
     pub fn reserve(alloc: Global, spare: &mut Spare, ticket: u64) -> Result<(), AllocError>
         ensures ready { OnOk result (2 ^ 32 ≤ ticket → IsTrue (is_some spare.new)) }
-        ensures refused { OnErr result ((2 ^ 32 ≤ ticket) × (spare.old ≡ None)) }
-        ensures err { OnErr result (spare.new ≡ spare.old) }
+        ensures refused { OnErr result ((2 ^ 32 ≤ ticket) × ((spare.old ≡ None) × (spare.new ≡ None))) }
         ensures kept { (ticket < 2 ^ 32) ⊎ IsTrue (is_some spare.old) → spare.new ≡ spare.old }
     {
         if ticket >= Call::TICKETS_IN_PLACE && spare.is_none() {
