@@ -320,7 +320,11 @@ AUDITED = {**PROGRAMS, "threads": (["16", "1500"], ["4", "1500"]), "settled": ([
 # `starts` makes no call that is kept.
 PLAIN = {"grows", "starts"}
 # What a program is linked with besides.
-LINKED = {"settled": ["-Wl,--wrap=eraser_access_span,--wrap=eraser_record"], "lives": ["-Wl,--wrap=pthread_atfork"], "starts": ["-Wl,--wrap=pthread_atfork"]}
+LINKED = {
+    "settled": ["-Wl,--wrap=eraser_access_span,--wrap=eraser_record"],
+    "audits": ["-Wl,--wrap=malloc,--wrap=realloc"],
+    **dict.fromkeys(("lives", "starts"), ["-Wl,--wrap=pthread_atfork"]),
+}
 BUILDS = {
     "plain": ["-O2"],
     "AddressSanitizer and UndefinedBehaviorSanitizer": ["-fsanitize=address,undefined", "-fno-sanitize-recover=all"],

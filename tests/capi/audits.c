@@ -1,4 +1,5 @@
-/* Shards with journals and seats: which handles settle, and what each settlement that fails is answered. */
+/* Shards with journals and seats: which handles settle, and what each settlement that fails is answered. It is linked with --wrap=malloc and --wrap=realloc,
+ * so that an access's memory can be refused. */
 #include "checks.h"
 
 enum { NAME = 7, SHARDS = 2, SEATS = 3 };
@@ -6,6 +7,23 @@ enum { NAME = 7, SHARDS = 2, SEATS = 3 };
 static eraser_shard shards[SHARDS];
 static eraser_thread seats[SEATS];
 static uint64_t ticket;
+static bool is_refused;
+
+void *__real_malloc(size_t);
+void *__wrap_malloc(size_t);
+
+void *__wrap_malloc(size_t size)
+{
+    return is_refused ? NULL : __real_malloc(size);
+}
+
+void *__real_realloc(void *, size_t);
+void *__wrap_realloc(void *, size_t);
+
+void *__wrap_realloc(void *old, size_t size)
+{
+    return is_refused ? NULL : __real_realloc(old, size);
+}
 
 static uint32_t settled(uint32_t opened, size_t shard_count, size_t seat_count)
 {
@@ -140,6 +158,30 @@ static void check_tickets(void)
     CHECK(settled(SEATS, SHARDS, SEATS) == ERASER_ENTRIES);
 }
 
+/* What an access is answered if there is no memory. */
+static uint32_t write_without_memory(unsigned seat, uint64_t address)
+{
+    is_refused = true;
+    uint32_t status = write_word(seat, address);
+    is_refused = false;
+    return status;
+}
+
+/* A call under a ticket of 2^32 or more takes memory of its own. Without it the access is refused and changes nothing. */
+static void check_late_tickets(void)
+{
+    begin();
+    ticket = UINT32_MAX - 1;
+    CHECK(write_word(0, 8192) == ERASER_QUIET && write_without_memory(0, 8192) == ERASER_QUIET && ticket == UINT64_C(1) << 32);
+    CHECK(write_without_memory(0, 8192) == ERASER_OUT_OF_MEMORY && write_without_memory(0, 8196) == ERASER_OUT_OF_MEMORY && steps_of_all() == 2);
+    CHECK(eraser_state(&shards[0], 8196) == ERASER_VIRGIN && write_word(0, 8196) == ERASER_QUIET && steps_of_all() == 3);
+    CHECK(write_without_memory(0, 8196) == ERASER_OUT_OF_MEMORY);
+    /* The shard refuses an access, and its memory is left to the next one. */
+    CHECK(eraser_journal_new(&shards[1], NAME, 0) == ERASER_QUIET && eraser_acquire(&seats[1], 1, true) == ERASER_QUIET);
+    CHECK(write_word(0, 4096) == ERASER_QUIET && write_word(1, 4096) == ERASER_TABLE_FULL && steps_of_all() == 5);
+    CHECK(write_without_memory(1, 4100) == ERASER_QUIET && write_without_memory(1, 4100) == ERASER_OUT_OF_MEMORY && steps_of_all() == 6);
+}
+
 /* A shard's sets are its own and limited. What is refused is no step. */
 static void check_full(void)
 {
@@ -155,6 +197,7 @@ int main(void)
     check_sorts();
     check_answers();
     check_tickets();
+    check_late_tickets();
     check_full();
     for (uint32_t at = 0; at < SHARDS; at++)
         CHECK(eraser_thread_free((eraser_thread *)(void *)&shards[at]) == ERASER_QUIET && shards[at].kind == 0);

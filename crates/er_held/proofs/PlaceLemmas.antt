@@ -1,7 +1,8 @@
 -- How a search by halves comes to where a lock stands in a rising list, or where it belongs.
-use Rattle.std.proofs.Common.{◌≡◌, ◌≢◌, ℕ, ◌+◌, ◌-◌, ◌/◌, ◌<◌, ◌≤◌, Bool, true, false, cond, List, slice_index, is_le, is_lt, nat_cmp, arith, inl, inr, ⊎_elim, Less, Equal, Greater}
+use Rattle.std.proofs.Common.{◌≡◌, ◌≢◌, ℕ, suc, ◌+◌, ◌-◌, ◌*◌, ◌/◌, ◌^◌, ◌<◌, ◌≤◌, Bool, true, false, cond, List, slice_index, is_le, is_lt, nat_cmp, arith, inl, inr, ⊎_elim, Less, Equal, Greater}
 use mir.Val.{bool_byte}
 use Rattle.std.specs.Cmp.{nat_cmp_is}
+use Rattle.std.proofs.Math.Nat.{pow-succ'}
 use Rattle.std.proofs.lemmas.Bool.{cases_lt, cases_order}
 use Rattle.std.proofs.lemmas.List.Kept.{AllPairs-from_increasing}
 use Rattle.std.proofs.lemmas.Map.Keys.{ge_from_not_lt, le_from_is_le}
@@ -24,21 +25,32 @@ more_from_not_le a b e = elim (cases_order a b) [
   | inr (inr more) ↦ more
 ]
 
+-- half of what is left, and one less to halve
+pub halved : (size counter : ℕ) → counter < 7 → size ≤ 2 ^ (7 - counter) → size - size / 2 ≤ 2 ^ (7 - (counter + 1))
+halved size counter turn most =
+    let next : 7 - counter ≡ suc (7 - (counter + 1)) = omega (arith, turn) in
+    let twice : size ≤ 2 * 2 ^ (7 - (counter + 1)) = rw (next, pow-succ' 2 (7 - (counter + 1))) at most in
+    omega (arith, twice)
+
 module _ (locks : List ℕ) (lock base : ℕ) (rises : IsStrictlyIncreasing locks) where
   -- one half is left
-  pub narrowed : (size half from : ℕ) (b : Bool) → IsWithin locks lock base size → 1 < size → half ≡ size / 2 → is_le (nat_cmp (slice_index locks (base + half)) lock) ≡ b → from ≡ cond b (base + half) base → IsWithin locks lock from (size - half)
-  narrowed size half from true within some halved low is =
+  pub narrowed : (size half from : ℕ) (b : Bool) → IsWithin locks lock base size → half ≡ size / 2 → is_le (nat_cmp (slice_index locks (base + half)) lock) ≡ b → from ≡ cond b (base + half) base → IsWithin locks lock from (size - half)
+  narrowed size half from true within halved low is =
       let inside = within.inside in
+      let some = within.some in
       let least = le_from_is_le (slice_index locks (base + half)) lock low in
       rw is (record {
+        some = omega arith;
         inside = omega arith;
         below = λ k under. let rise = AllPairs-from_increasing locks rises k (base + half) 0 under (omega arith) in omega (arith, least, rise);
         above = λ k over last. within.above k (omega arith) last;
       })
-  narrowed size half from false within some halved high is =
+  narrowed size half from false within halved high is =
       let inside = within.inside in
+      let some = within.some in
       let more = more_from_not_le (slice_index locks (base + half)) lock high in
       rw is (record {
+        some = omega arith;
         inside = omega arith;
         below = within.below;
         above = λ k over last. elim (cases_lt (base + half) k) [

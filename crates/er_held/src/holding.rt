@@ -122,7 +122,7 @@ impl Held {
     }
 
     // Where a lock goes that is acquired, or why that is refused: in either mode the same.
-    #[inline]
+    #[inline(always)]
     fn place_to_acquire(&self, lock: LockId, _mode: Mode) -> Result<usize, Refusal>
         ensures refused { IfErr result (λ why. refused_by self.now (Event.Acquire lock _mode) ≡ Some why) }
         ensures accepted { OnOk result (refused_by self.now (Event.Acquire lock _mode) ≡ None) }
@@ -360,25 +360,23 @@ impl Held {
     }
 }
 
-// Where the set has the lock, or else, as an error, where the lock belongs. Where there are many, at most seven steps are made without a jump that
-// depends on the locks, which nobody could foretell.
-#[inline]
+// Where the set has the lock, or else, as an error, where it belongs. Among many no jump depends on the locks, which nobody could foretell.
+#[inline(always)]
 fn place_of(set: &Lockset, lock: LockId) -> Result<usize, usize>
     ensures found { is_ok result ≡ has set.now lock }
     ensures here { IfOk result (λ place. (place < length set.now) × (slice_index set.now place ≡ lock)) }
     ensures belongs { IfErr result (λ place. (place ≤ length set.now) × (insert set.now place lock ≡ with_lock lock set.now)) }
 {
     let locks = set.as_slice();
-    let (mut base, mut size, mut steps) = (0, locks.len(), 0usize);
-    while size > 1 && steps < 7 && locks.len() > 15 {
+    let (mut base, mut size) = (0, locks.len());
+    if size < 16 || size > 128 {
+        return set.find(lock);
+    }
+    for _ in 0..7usize {
         let half = size / 2;
         let middle = base + half;
         base = if locks[middle] <= lock { middle } else { base };
         size -= half;
-        steps += 1;
-    }
-    if size != 1 {
-        return set.find(lock);
     }
     if locks[base] == lock {
         return Ok(base);

@@ -14,11 +14,11 @@ pub(crate) struct BriefAccess {
 
 impl Model for BriefAccess {
     ghost use Rattle.std.specs.Prelude.{◌<◌, ◌^◌};
-    ghost use Rattle.er_journal.specs.Inner.Accesses.{Touch, touch_of, packed_of};
+    ghost use Rattle.er_journal.specs.Inner.Accesses.{Touch, touch_of, touch_number};
 
     ghost Value = { Touch };
 
-    ghost view = { λ a. touch_of (packed_of a.high a.middle a.low) };
+    ghost view = { λ a. touch_of (touch_number a.high a.middle a.low) };
 
     ghost invariant = { λ a. a.high < 2 ^ 15 };
 }

@@ -1,5 +1,5 @@
 //! What seats keep of the calls that they take.
-ghost use Rattle.std.specs.Prelude.{◌≡◌, ◌+◌, ◌-◌, ◌/◌, ◌<◌, ◌≤◌, ◌^◌, IsTrue, OnOk, is_some, Some, None};
+ghost use Rattle.std.specs.Prelude.{◌≡◌, ◌+◌, ◌-◌, ◌/◌, ◌<◌, ◌≤◌, ◌^◌, ◌⊎◌, IsTrue, OnErr, OnOk, is_some, Some, None};
 ghost use Rattle.er_event.specs.Span.{part_of};
 ghost use Rattle.er_event.specs.declared.steps.Reply.TheVariants.{Done};
 
@@ -87,10 +87,12 @@ impl Call {
         Call { kept }
     }
 
-    /// Memory for a call with this ticket, unless it fits in place or there is some. The only error is that there is none.
+    /// Memory for a call with this ticket. It takes some only if the ticket doesn't fit in place and there is none, and can only then be refused.
     #[inline]
     pub fn reserve(alloc: Global, spare: &mut Spare, ticket: u64) -> Result<(), AllocError>
-        ensures { OnOk result (2 ^ 32 ≤ ticket → IsTrue (is_some spare.new)) }
+        ensures ready { OnOk result (2 ^ 32 ≤ ticket → IsTrue (is_some spare.new)) }
+        ensures refused { OnErr result ((2 ^ 32 ≤ ticket) × ((spare.old ≡ None) × (spare.new ≡ None))) }
+        ensures kept { (ticket < 2 ^ 32) ⊎ IsTrue (is_some spare.old) → spare.new ≡ spare.old }
     {
         if ticket >= Call::TICKETS_IN_PLACE && spare.is_none() {
             let event = Event::IgnoreOn;

@@ -246,8 +246,8 @@ impl Seat {
         Ok(())
     }
 
-    /// Makes an access outside any bracket in a shard, under a ticket, and lists it. Refused if there is no memory for the list and the stamp
-    /// (`OutOfMemory`), and then if the shard refuses it.
+    /// Makes an access outside any bracket in a shard, under a ticket, and lists it. Refused if there is no memory for the list, the stamp and a ticket
+    /// of 2^32 or more (`OutOfMemory`), and then if the shard refuses it.
     #[tactic(auto, unfolding(crate::specs::Seats::with_call, crate::specs::Seats::access_stamp))]
     #[inline(always)]
     pub fn record_access<R, S: Grow<R>>(

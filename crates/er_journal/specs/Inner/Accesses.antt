@@ -8,10 +8,10 @@ pub record Touch : Type 0 where
   pub kind : Kind
   pub word : ℕ
 
--- the number in three parts of 16 bits
-abbrev pub packed_of : ℕ → ℕ → ℕ → ℕ
-packed_of high middle low = high * 4294967296 + (middle * 65536 + low)
+-- the number of a touch, from its three parts of 16 bits
+abbrev pub touch_number : ℕ → ℕ → ℕ → ℕ
+touch_number high middle low = high * 4294967296 + (middle * 65536 + low)
 
--- the number is twice the word, and one more for a write
+-- the touch of a number, which is twice the word, and one more for a write
 abbrev pub touch_of : ℕ → Touch
 touch_of packed = record { kind = cond (packed % 2 == 0) Read Write; word = packed / 2 }

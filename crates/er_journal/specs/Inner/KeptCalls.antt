@@ -24,9 +24,9 @@ own_event (own.Sync sync) = event.Sync sync
 abbrev pub run_of : ℕ → ℕ → PageRange
 run_of lo more = part_of (record { first = lo; last = lo + more }) 0
 
--- 1,024 times the first word of a reuse and how many it has behind that one, which is in three parts
-abbrev pub packed_of : ℕ → ℕ → ℕ → ℕ
-packed_of high middle low = high * 281474976710656 + (middle * 4294967296 + low)
+-- the number of a reuse, 1,024 times its first word and how many it has behind that one, from its parts of 8, 16 and 32 bits
+abbrev pub reuse_number : ℕ → ℕ → ℕ → ℕ
+reuse_number high middle low = high * 281474976710656 + (middle * 4294967296 + low)
 
 -- the call in full
 abbrev pub call_of : KeptCall → Call
@@ -36,10 +36,10 @@ call_of (kept.OwnReuse reply more lo) = record { event = event.Reuse (run_of lo 
 call_of (kept.OwnShow reply word) = record { event = event.Show word; reply = reply; ticket = None }
 call_of (kept.Counted reply access site ticket) = record { event = event.Access access.kind access.word site; reply = reply; ticket = Some ticket }
 call_of (kept.Late reply late) = record { event = late.value.event; reply = reply; ticket = Some late.value.ticket }
-call_of (kept.Reset high middle low ticket) = record { event = event.Reuse (run_of (packed_of high middle low / 1024) (packed_of high middle low % 1024)); reply = Done; ticket = Some ticket }
+call_of (kept.Reset high middle low ticket) = record { event = event.Reuse (run_of (reuse_number high middle low / 1024) (reuse_number high middle low % 1024)); reply = Done; ticket = Some ticket }
 
 -- the words of a reuse lie on one page
 abbrev pub IsKept : KeptCall → Type 0
 IsKept (kept.OwnReuse reply more lo) = lo / 1024 ≡ (lo + more) / 1024
-IsKept (kept.Reset high middle low ticket) = packed_of high middle low / 1024 / 1024 ≡ (packed_of high middle low / 1024 + packed_of high middle low % 1024) / 1024
+IsKept (kept.Reset high middle low ticket) = reuse_number high middle low / 1024 / 1024 ≡ (reuse_number high middle low / 1024 + reuse_number high middle low % 1024) / 1024
 IsKept _ = Unit {0}

@@ -1,9 +1,7 @@
-use Rattle.std.proofs.Common.{◌-◌}
+use Rattle.std.proofs.Common.{◌≤◌, ◌-◌, ◌^◌}
 use Rattle.er_held.specs.Inner.Halving.{IsWithin}
 use Rattle.er_held.proofs.holding.place_of.Given as goal
 
-abbrev pub invariant-loop-size : goal.invariant-loop-size
-invariant-loop-size l = IsWithin l.locks l.lock l.base l.size
-
-abbrev pub decreases-loop-size : goal.decreases-loop-size
-decreases-loop-size l = 7 - l.steps
+-- seven halves of 128 locks leave one
+abbrev pub invariant-loop : goal.invariant-loop
+invariant-loop l = IsWithin l.locks l.lock l.base l.size × (l.size ≤ 2 ^ (7 - l.counter))
