@@ -24,7 +24,7 @@ use Rattle.er_lines.specs.Lines.{is_gap, is_space, before_space, behind_space, i
 use Rattle.er_lines.specs.Number.{number_of}
 use Rattle.er_lines.specs.Naming.{is_name_byte, is_name, is_lock_name, is_site_byte, name_of}
 use Rattle.er_text.specs.Naming.{is_site_word}
-use Rattle.er_text.specs.Events.{Operation, Acquires, Releases, Accesses, Reuses, Shows, EventLine, run_of, with_operation, with_line, with_reuses}
+use Rattle.er_text.specs.Events.{Operation, Acquires, Releases, Accesses, EventLine, run_of, with_operation, with_line, with_reuses}
 use Rattle.er_text.specs.declared.stages.Stage.{Stage}
 use Rattle.er_text.specs.declared.stages.Stage.TheVariants.{Events}
 use Rattle.er_trace.specs.Names.{number_of as place_of}
