@@ -5,7 +5,7 @@ ghost use Rattle.er_text.specs.Verbs.{verb_of, version_of};
 ghost use Rattle.er_text.specs.Trace.{is_end};
 ghost use Rattle.er_text.specs.Inner.Idle.{other_thread};
 ghost use Rattle.er_lines.specs.Words.{AreWords, GivesSite, seen_name};
-ghost use Rattle.er_text.specs.Inner.Parsing.{GivesName, GivesOperation, GivesEventLine, event_line, count_of, name_in, lock_in, site_in, word_in, level_in, run_in, access_in, reuse_in, operands_in, operation_in, parsed_by};
+ghost use Rattle.er_text.specs.Inner.Parsing.{GivesName, GivesOperation, GivesEventLine, event_line, count_of, name_in, lock_in, site_in, word_in, run_in, access_in, reuse_in, operands_in, operation_in, parsed_by};
 
 use crate::naming::is_site_word;
 use crate::verbs::{Verb, Version, verb_of};
@@ -139,7 +139,10 @@ fn operands<'a>(
         Verb::IgnoreOn => Ok(Action::IgnoreOn),
         Verb::IgnoreOff => Ok(Action::IgnoreOff),
         Verb::Show => Ok(Action::Show(word_at(number(first)?)?)),
-        Verb::Level => Ok(Action::Level(level_of(number(first)?)?)),
+        Verb::Level => match Level::of_number(number(first)?) {
+            Ok(level) => Ok(Action::Level(level)),
+            Err(_) => Err(TextKind::LevelTooHigh),
+        },
         Verb::Start => Ok(Action::Start(thread(first)?)),
         Verb::Join => Ok(Action::Join(thread(first)?)),
         Verb::Signal => Ok(Action::Signal(lock(first)?)),
@@ -193,12 +196,6 @@ fn word_at(address: u64) -> Result<Word, TextKind>
     ensures { result ≡ word_in address }
 {
     Word::of_address(address).or(Err(TextKind::AddressOutOfRange))
-}
-
-fn level_of(number: u64) -> Result<Level, TextKind>
-    ensures { result ≡ level_in number }
-{
-    Level::of_number(number).or(Err(TextKind::LevelTooHigh))
 }
 
 pub(crate) fn range_of(address: u64, size: u64) -> Result<Option<WordRange>, TextKind>

@@ -1,6 +1,6 @@
 //! The words that headers and events are spelled with.
 ghost use Rattle.std.specs.Prelude.{◌≡◌};
-ghost use Rattle.er_text.specs.Verbs.{has_levels, is_third, verb_of, least_of, most_of};
+ghost use Rattle.er_text.specs.Verbs.{is_third, verb_of, least_of, most_of};
 
 /// The version of a text, which its header tells.
 #[derive(Clone, Copy, Debug, PartialEq, Eq)]
@@ -34,13 +34,6 @@ pub(crate) enum Verb {
 }
 
 impl Version {
-    /// Whether it has interrupt levels.
-    pub(crate) fn has_levels(self) -> bool
-        ensures { result ≡ has_levels self }
-    {
-        self != Version::One
-    }
-
     /// Whether it is the third.
     pub(crate) fn is_third(self) -> bool
         ensures { result ≡ is_third self }
@@ -64,7 +57,7 @@ pub(crate) fn verb_of(version: Version, word: &[u8]) -> Option<Verb>
         b"ignore-on" => Some(Verb::IgnoreOn),
         b"ignore-off" => Some(Verb::IgnoreOff),
         b"show" => Some(Verb::Show),
-        b"level" if version.has_levels() => Some(Verb::Level),
+        b"level" if version != Version::One => Some(Verb::Level),
         b"start" if version.is_third() => Some(Verb::Start),
         b"join" if version.is_third() => Some(Verb::Join),
         b"signal" if version.is_third() => Some(Verb::Signal),
