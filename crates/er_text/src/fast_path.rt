@@ -188,15 +188,12 @@ fn whole_range(bytes: &[u8]) -> Option<WordRange>
     let [b' ', size @ ..] = rest else {
         return None;
     };
-    if !is_name(size) {
-        return None;
-    }
-    let Ok(count) = number(size) else {
-        return None;
-    };
-    match range_of(address, count) {
-        Ok(range) => range,
-        Err(_) => None,
+    match number(size) {
+        Ok(count) if is_name(size) => match range_of(address, count) {
+            Ok(range) => range,
+            Err(_) => None,
+        },
+        _ => None,
     }
 }
 
