@@ -1,19 +1,38 @@
 //! Addresses, events and states as text. Each is put behind the bytes that are there, with no text of its own in memory.
 ghost use Rattle.std.specs.Prelude.{◌≡◌, ◌++◌, OnOk, codes};
+ghost use Rattle.er_lines.specs.Number.{hex_digits};
 ghost use Rattle.er_print.specs.Printed.{HasEventNames, HasLockNames, HasStateNames, address_text, candidates_text, event_text, event_verb, kind_text, state_text};
 
 use crate::Put;
 use crate::styles::{Style, put_lock_in, put_locks_in};
 use er_event::{Event, Kind, Lockset, Mode, Sync, Word, WordState};
-use er_lines::put_hex;
+use er_lines::hex_digit;
 use er_trace::Names;
 
 /// Puts the address of the word's first byte.
 pub fn put_address(out: &mut Vec<u8>, word: Word) -> Put
     ensures { OnOk result (out.new.items ≡ out.old.items ++ address_text word) }
 {
+    let low = word.address();
+    let middle = low / 16 / 16 / 16 / 16;
+    let high = middle / 16 / 16 / 16 / 16;
     out.extend_from_slice(b"0x")?;
-    put_hex(out, 12, word.address())
+    out.extend_from_slice(&four_digits(high))?;
+    out.extend_from_slice(&four_digits(middle))?;
+    out.extend_from_slice(&four_digits(low))?;
+    Ok(())
+}
+
+// The last four hexadecimal digits of a number. To put digits one by one would take three times as long.
+fn four_digits(n: u64) -> [u8; 4]
+    ensures { result ≡ hex_digits 4 n }
+{
+    [
+        hex_digit((n / 16 / 16 / 16 % 16) as u8),
+        hex_digit((n / 16 / 16 % 16) as u8),
+        hex_digit((n / 16 % 16) as u8),
+        hex_digit((n % 16) as u8),
+    ]
 }
 
 /// The verb of an access.

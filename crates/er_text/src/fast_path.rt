@@ -6,7 +6,7 @@
 //! The steps are those of `parsing` and `adding`, in less than half the time. A line of any other form, or of a new thread, is left to
 //! `parsing`. A name that is found among the recent ones of the trace needs no look at its bytes.
 ghost use Rattle.std.specs.Prelude.{◌≡◌, ◌+◌, ◌<◌, ◌≤◌, ◌∷◌, ◌++◌, length, codes, ℕ, List, IfSome, Some, None};
-ghost use Rattle.er_text.specs.Inner.FastPath.{EndsIn, IsLeadingThread, HexSoFar, AreLeadingDigits, IsLeadingAddress, IsFastAccess, IsFastLockEvent, IsFastShow, IsFastReuse, IsFastAlone, IsFastOperation, IsFastLine, NumbersLock, NumbersSite, AddsOperation, AddsLine, lock_word, rare_word};
+ghost use Rattle.er_text.specs.Inner.FastPath.{EndsIn, IsLeadingThread, HexSoFar, AreLeadingDigits, IsLeadingAddress, IsFastAccess, IsFastLockEvent, IsFastReuse, IsFastAlone, IsFastOperation, IsFastLine, NumbersLock, NumbersSite, AddsOperation, AddsLine, lock_word, rare_word};
 ghost use Rattle.er_text.specs.Events.{Reuses};
 ghost use Rattle.er_text.specs.Trace.{kind_word};
 
@@ -188,15 +188,12 @@ fn whole_range(bytes: &[u8]) -> Option<WordRange>
     let [b' ', size @ ..] = rest else {
         return None;
     };
-    if !is_name(size) {
-        return None;
-    }
-    let Ok(count) = number(size) else {
-        return None;
-    };
-    match range_of(address, count) {
-        Ok(range) => range,
-        Err(_) => None,
+    match number(size) {
+        Ok(count) if is_name(size) => match range_of(address, count) {
+            Ok(range) => range,
+            Err(_) => None,
+        },
+        _ => None,
     }
 }
 
