@@ -21,23 +21,23 @@ use Rattle.er_event.specs.declared.steps.Kind.{Kind}
 use Rattle.er_event.specs.declared.steps.Kind.TheVariants.{Read, Write}
 use Rattle.er_event.specs.declared.steps.Mode.{Mode}
 use Rattle.er_event.specs.declared.steps.Mode.TheVariants as mode
+use Rattle.er_text.specs.declared.fast_path.Rare.TheVariants as rare
 use Rattle.er_text.specs.declared.verbs.Version.{Version}
 use Rattle.er_lines.specs.Lines.{is_gap, is_space, before_space, behind_space, is_ascii, is_comment, has_bytes, words, word_at}
 use Rattle.er_lines.specs.Number.{number_of}
-use Rattle.er_lines.specs.Words.{number_in}
 use Rattle.er_lines.specs.Naming.{is_name_byte, is_name, is_lock_name, is_site_byte, name_of}
 use Rattle.er_text.specs.Naming.{is_site_word}
-use Rattle.er_text.specs.Events.{Operation, Acquires, Releases, Accesses, IgnoresOn, IgnoresOff, Levels, EventLine, run_of, with_operation, with_line, with_reuses}
+use Rattle.er_text.specs.Events.{Operation, Acquires, Releases, Accesses, IgnoresOn, IgnoresOff, Shows, Levels, EventLine, run_of, with_operation, with_line, with_reuses}
 use Rattle.er_text.specs.declared.stages.Stage.{Stage}
 use Rattle.er_text.specs.declared.stages.Stage.TheVariants.{Events}
 use Rattle.er_trace.specs.Names.{NameTable, number_of as place_of}
 use Rattle.er_trace.specs.Trace.{Recording, HasNames, with_step, with_thread_name}
 use Rattle.er_text.specs.Trace.{IsOperation, acquire_word, release_word, kind_word}
 use Rattle.er_text.specs.Verbs.{has_levels}
-use Rattle.er_text.specs.Inner.Parsing.{level_in, parsed_of}
+use Rattle.er_text.specs.Inner.Parsing.{parsed_of}
 use Rattle.er_text.specs.Inner.Idle.{last_actor, other_thread, without_idle, order_fault, waits_for, is_known_name}
 use Rattle.er_text.specs.Inner.Traces.{Progress, past_event, add_event, add_parsed, closed, read_words, plain_at}
-use Rattle.er_text.specs.Inner.FastPath.{IsLeadingName, AreLeadingDigits, IsLeadingAddress, IsFastAccess, IsFastLockEvent, IsFastShow, IsFastReuse, IsFastOperation, IsFastAlone, IsFastLine, lock_word, rare_word}
+use Rattle.er_text.specs.Inner.FastPath.{IsLeadingName, AreLeadingDigits, IsLeadingAddress, IsFastAccess, IsFastLockEvent, IsFastShow, IsFastReuse, IsFastOperation, IsFastLevel, IsFastAlone, IsFastLine, lock_word, rare_word}
 use Rattle.er_lines.proofs.ByteLemmas.{name_ascii, site_ascii}
 use Rattle.er_lines.proofs.SaidLemmas.{number_found}
 use Rattle.er_text.proofs.SiteLemmas.{site_parts}
@@ -291,11 +291,10 @@ reuse_tells v bytes rest operation ascii whole a =
     })
 
 -- a level, and each bracket
-pub level_alone : (v : Version) (bytes word : List ℕ) (count n : ℕ) → bytes ≡ codes "level" ++ 32 ∷ word → has_levels v ≡ true → is_name word ≡ true → number_in word ≡ Ok count → level_in count ≡ Ok n
-    → IsFastAlone v bytes (event.Level n)
-level_alone v bytes word count n is levels named number most =
-    let parts = name_parts word named in
-    let level = level_tested (nat_lt 31 count) count n refl most in
+pub level_alone : (v : Version) (bytes word : List ℕ) (n : ℕ) → bytes ≡ rare_word rare.Level ++ 32 ∷ word → has_levels v ≡ true → IsFastLevel word n → IsFastAlone v bytes (event.Level n)
+level_alone v bytes word n is levels fast =
+    let parts = name_parts word fast.named in
+    let level = level_tested (nat_lt 31 fast.count) fast.count n refl fast.most in
     record {
       operation = Levels n;
       fast = record {
@@ -303,7 +302,7 @@ level_alone v bytes word count n is levels named number most =
         says = λ thread. (
           word,
           ap (λ (w : List (List ℕ)). thread ∷ w) (ap words is ∙ ap (λ (w : List (List ℕ)). codes "level" ∷ w) (word_alone word parts.gapless parts.some)),
-          number_found (number_of word) count number ∙ ap Some level.0,
+          number_found (number_of word) fast.count fast.number ∙ ap Some level.0,
           level.1,
           levels,
         );
@@ -343,17 +342,26 @@ pub access_led : (v : Version) (k : Kind) (bytes rest : List ℕ) (operation : O
 access_led v Read bytes rest operation is a = access_tells v Read bytes rest operation (ap (list_all is_ascii) is) (ap words is) a
 access_led v Write bytes rest operation is a = access_tells v Write bytes rest operation (ap (list_all is_ascii) is) (ap words is) a
 
--- that of a show, and that of a reuse
-pub show_led : (v : Version) (bytes rest : List ℕ) (operation : Operation) → bytes ≡ rare_word true ++ 32 ∷ rest → IsFastShow rest operation → IsFastOperation v bytes operation
-show_led v bytes rest operation is a = show_tells v bytes rest operation (ap (list_all is_ascii) is) (ap words is) a
-
-pub reuse_led : (v : Version) (bytes rest : List ℕ) (operation : Operation) → bytes ≡ rare_word false ++ 32 ∷ rest → IsFastReuse rest operation → IsFastOperation v bytes operation
-reuse_led v bytes rest operation is a = reuse_tells v bytes rest operation (ap (list_all is_ascii) is) (ap words is) a
-
 -- an address with nothing behind it
-pub address_alone : (bytes : List ℕ) (value : ℕ) (rest : List ℕ) → IsLeadingAddress bytes value rest → length rest < 1 → IsLeadingAddress bytes value []
+address_alone : (bytes : List ℕ) (value : ℕ) (rest : List ℕ) → IsLeadingAddress bytes value rest → length rest < 1 → IsLeadingAddress bytes value []
 address_alone bytes value [] led none = led
 address_alone bytes value (byte ∷ rest) led none = absurd (omega (arith, none))
+
+-- that of a show, and that of a reuse
+show_led : (v : Version) (bytes rest : List ℕ) (operation : Operation) → bytes ≡ rare_word rare.Show ++ 32 ∷ rest → IsFastShow rest operation → IsFastOperation v bytes operation
+show_led v bytes rest operation is a = show_tells v bytes rest operation (ap (list_all is_ascii) is) (ap words is) a
+
+pub show_alone : (v : Version) (bytes rest : List ℕ) (n : ℕ) (after : List ℕ) → bytes ≡ rare_word rare.Show ++ 32 ∷ rest → IsLeadingAddress rest n after → length after < 1 → IsFastAlone v bytes (event.Show (n / 4))
+show_alone v bytes rest n after is led none =
+    record {
+      operation = Shows (n / 4);
+      fast = show_led v bytes rest (Shows (n / 4)) is (n, address_alone rest n after led none, refl);
+      adds = λ line thread r. refl;
+      named = λ names. tt;
+    }
+
+pub reuse_led : (v : Version) (bytes rest : List ℕ) (operation : Operation) → bytes ≡ rare_word rare.Reuse ++ 32 ∷ rest → IsFastReuse rest operation → IsFastOperation v bytes operation
+reuse_led v bytes rest operation is a = reuse_tells v bytes rest operation (ap (list_all is_ascii) is) (ap words is) a
 
 -- and that of a lock event
 pub lock_event_led : (v : Version) (acquires : Bool) (m : Mode) (bytes rest : List ℕ) (operation : Operation) → bytes ≡ lock_word acquires m ++ 32 ∷ rest

@@ -6,7 +6,7 @@
 //! The steps are those of `parsing` and `adding`, in less than half the time. A line of any other form, or of a new thread, is left to
 //! `parsing`. A name that is found among the recent ones of the trace needs no look at its bytes.
 ghost use Rattle.std.specs.Prelude.{◌≡◌, ◌+◌, ◌<◌, ◌≤◌, ◌∷◌, ◌++◌, length, codes, ℕ, List, IfSome, Some, None};
-ghost use Rattle.er_text.specs.Inner.FastPath.{EndsIn, IsLeadingThread, HexSoFar, AreLeadingDigits, IsLeadingAddress, IsFastAccess, IsFastLockEvent, IsFastReuse, IsFastAlone, IsFastOperation, IsFastLine, NumbersLock, NumbersSite, AddsOperation, AddsLine, lock_word, rare_word};
+ghost use Rattle.er_text.specs.Inner.FastPath.{EndsIn, IsLeadingThread, HexSoFar, AreLeadingDigits, IsLeadingAddress, IsFastAccess, IsFastLockEvent, IsFastReuse, IsFastLevel, IsFastAlone, IsFastOperation, IsFastLine, NumbersLock, NumbersSite, AddsOperation, AddsLine, lock_word, rare_word};
 ghost use Rattle.er_text.specs.Events.{Reuses};
 ghost use Rattle.er_text.specs.Trace.{kind_word};
 
@@ -14,7 +14,7 @@ use crate::adding::add_reuse;
 use crate::naming::is_site_word;
 use crate::parsing::{level_of, range_of};
 use crate::verbs::Version;
-use er_event::{Event, Kind, LockId, Mode, Site, Step, ThreadId, Word, WordRange};
+use er_event::{Event, Kind, Level, LockId, Mode, Site, Step, ThreadId, Word, WordRange};
 use er_lines::{class_of, is_name, name_of, name_text, number, site_text, split_at_space};
 use er_trace::Trace;
 use std::alloc::AllocError;
@@ -71,13 +71,22 @@ fn leading_lock_verb(bytes: &[u8]) -> Option<(bool, Mode, &[u8])>
     }
 }
 
-/// Whether `show` and a space stand in front, or `reuse` and one, and what follows them.
-fn leading_rare_verb(bytes: &[u8]) -> Option<(bool, &[u8])>
+/// A verb that few lines have, and that one operand or two follow.
+#[derive(Clone, Copy, PartialEq, Eq)]
+pub(crate) enum Rare {
+    Show,
+    Reuse,
+    Level,
+}
+
+/// The verb of a show, a reuse or a level that stands in front with a space behind it, and what follows them.
+fn leading_rare_verb(bytes: &[u8]) -> Option<(Rare, &[u8])>
     ensures { IfSome result (λ parts. bytes.now ≡ rare_word parts.0 ++ 32 ∷ parts.1.now) }
 {
     match bytes {
-        [b's', b'h', b'o', b'w', b' ', rest @ ..] => Some((true, rest)),
-        [b'r', b'e', b'u', b's', b'e', b' ', rest @ ..] => Some((false, rest)),
+        [b's', b'h', b'o', b'w', b' ', rest @ ..] => Some((Rare::Show, rest)),
+        [b'r', b'e', b'u', b's', b'e', b' ', rest @ ..] => Some((Rare::Reuse, rest)),
+        [b'l', b'e', b'v', b'e', b'l', b' ', rest @ ..] => Some((Rare::Level, rest)),
         _ => None,
     }
 }
@@ -197,17 +206,17 @@ fn whole_range(bytes: &[u8]) -> Option<WordRange>
     }
 }
 
-/// What follows `level` and a space.
-fn behind_level(bytes: &[u8]) -> Option<&[u8]>
-    ensures { IfSome result (λ rest. bytes.now ≡ codes "level" ++ 32 ∷ rest.now) }
+/// The level that a word writes, if it writes one.
+fn level_in(word: &[u8]) -> Option<Level>
+    ensures { IfSome result (λ level. IsFastLevel word.now level) }
 {
-    match bytes {
-        [b'l', b'e', b'v', b'e', b'l', b' ', rest @ ..] => Some(rest),
+    match number(word) {
+        Ok(count) if is_name(word) => level_of(count).ok(),
         _ => None,
     }
 }
 
-/// What stands behind a thread, if it is an ignore bracket, or a level in a text that has any.
+/// What stands behind a thread, if it is an ignore bracket, a show, or a level in a text that has any.
 fn lone_event(version: Version, bytes: &[u8]) -> Option<Event>
     ensures { IfSome result (λ event. IsFastAlone version bytes.now event) }
 {
@@ -217,16 +226,13 @@ fn lone_event(version: Version, bytes: &[u8]) -> Option<Event>
     if bytes == b"ignore-off".as_slice() {
         return Some(Event::IgnoreOff);
     }
-    let word = behind_level(bytes)?;
-    if !version.has_levels() || !is_name(word) {
-        return None;
-    }
-    let Ok(count) = number(word) else {
-        return None;
-    };
-    match level_of(count) {
-        Ok(level) => Some(Event::Level(level)),
-        Err(_) => None,
+    match leading_rare_verb(bytes)? {
+        (Rare::Show, rest) => match leading_address(rest)? {
+            (address, []) => Some(Event::Show(Word::new(address / Word::BYTES))),
+            _ => None,
+        },
+        (Rare::Level, rest) if version.has_levels() => Some(Event::Level(level_in(rest)?)),
+        _ => None,
     }
 }
 
@@ -335,24 +341,6 @@ fn add_usual_lock_event(
     Ok(true)
 }
 
-/// Adds a level or an ignore bracket, and says whether it did.
-fn add_alone(
-    trace: &mut Trace,
-    version: Version,
-    line: u64,
-    thread: ThreadId,
-    bytes: &[u8],
-) -> Added
-    requires { thread < length trace.old.names.threads }
-    ensures { AddsOperation (IsFastOperation version bytes.now) line thread trace.old trace.new result }
-{
-    let Some(event) = lone_event(version, bytes) else {
-        return Ok(false);
-    };
-    trace.push(Step { thread, event }, line, Site::MISSING)?;
-    Ok(true)
-}
-
 /// Adds a show, a reuse, a level or an ignore bracket, and says whether it did.
 #[inline(never)]
 fn add_rare_operation(
@@ -365,17 +353,13 @@ fn add_rare_operation(
     requires { thread < length trace.old.names.threads }
     ensures { AddsOperation (IsFastOperation version bytes.now) line thread trace.old trace.new result }
 {
-    let Some((shows, rest)) = leading_rare_verb(bytes) else {
-        return add_alone(trace, version, line, thread, bytes);
-    };
-    if shows {
-        let Some((address, [])) = leading_address(rest) else {
-            return Ok(false);
-        };
-        let event = Event::Show(Word::new(address / Word::BYTES));
+    if let Some(event) = lone_event(version, bytes) {
         trace.push(Step { thread, event }, line, Site::MISSING)?;
         return Ok(true);
     }
+    let Some((Rare::Reuse, rest)) = leading_rare_verb(bytes) else {
+        return Ok(false);
+    };
     let Some(range) = whole_range(rest) else {
         return Ok(false);
     };

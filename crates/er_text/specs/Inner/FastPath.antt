@@ -7,6 +7,8 @@ use Rattle.er_event.specs.Span.{Span}
 use Rattle.er_event.specs.declared.steps.Event.{Event}
 use Rattle.er_event.specs.declared.steps.Kind.{Kind}
 use Rattle.er_event.specs.declared.steps.Mode.{Mode}
+use Rattle.er_text.specs.declared.fast_path.Rare.{Rare}
+use Rattle.er_text.specs.declared.fast_path.Rare.TheVariants as rare
 use Rattle.er_text.specs.declared.verbs.Version.{Version}
 use Rattle.er_text.specs.declared.stages.Stage.{Stage}
 use Rattle.er_lines.specs.Lines.{words, word_at, has_bytes, is_ascii, is_comment}
@@ -18,7 +20,7 @@ use Rattle.er_trace.specs.Names.{NameTable, is_known, number_of as place_of}
 use Rattle.er_text.specs.Events.{Operation, Acquires, Releases, Accesses, Reuses, Shows, EventLine, site_number, with_site_of, with_operation, with_line}
 use Rattle.er_text.specs.Trace.{IsSite, IsOperation, Says, acquire_word, release_word}
 use Rattle.er_text.specs.Inner.Idle.{other_thread, last_actor}
-use Rattle.er_text.specs.Inner.Parsing.{run_in}
+use Rattle.er_text.specs.Inner.Parsing.{level_in, run_in}
 use Rattle.er_text.specs.Inner.Traces.{at_line, plain_at}
 
 -- the line ends with these bytes
@@ -81,10 +83,11 @@ lock_word false m = release_word m
 abbrev pub IsFastLockEvent : Bool → Mode → List ℕ → Operation → Type 0
 IsFastLockEvent acquires m bytes operation = (is_lock_name bytes ≡ true) × (operation ≡ (if acquires then Acquires bytes m else Releases bytes m))
 
--- the verb of a show, or that of a reuse
-abbrev pub rare_word : Bool → List ℕ
-rare_word true = codes "show"
-rare_word false = codes "reuse"
+-- how a rare verb is spelled
+abbrev pub rare_word : Rare → List ℕ
+rare_word rare.Show = codes "show"
+rare_word rare.Reuse = codes "reuse"
+rare_word rare.Level = codes "level"
 
 -- behind the verb of a show
 abbrev pub IsFastShow : List ℕ → Operation → Type 0
@@ -108,6 +111,13 @@ pub record IsFastOperation (v : Version) (bytes : List ℕ) (operation : Operati
   pub says : (thread : List ℕ) → IsOperation v (thread ∷ words bytes) thread operation
   pub alone : other_thread operation ≡ None
   pub one : (line thread : ℕ) (r : Recording) → last_actor (with_operation line thread operation r).steps ≡ Some thread
+
+-- behind the verb of a level: a word that writes it
+pub record IsFastLevel (word : List ℕ) (level : ℕ) : Type 0 where
+  pub count : ℕ
+  pub named : is_name word ≡ true
+  pub number : number_in word ≡ Ok count
+  pub most : level_in count ≡ Ok level
 
 -- behind a thread, and adds this event alone
 pub record IsFastAlone (v : Version) (bytes : List ℕ) (event : Event) : Type 0 where
