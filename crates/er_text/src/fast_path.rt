@@ -367,7 +367,7 @@ fn add_rare_operation(
     Ok(true)
 }
 
-/// Adds what a thread does, and says whether it did: a show, a reuse, a level or a bracket if `rare` is set, and else anything else.
+/// Adds what a thread does, and says whether it did: a show, a reuse, a level or a bracket if `rare` is set, and else any other.
 #[inline(always)]
 fn add_usual_operation(
     trace: &mut Trace,

@@ -118,7 +118,8 @@ impl Header {
         }
     }
 
-    /// Reads a line in its usual form, behind the header, and says whether it did: of a show or a reuse if `rare` is set, and else of anything else.
+    /// Reads a line in its usual form, behind the header, and says whether it did: a show, a reuse, a level or a
+    /// bracket if `rare` is set, and else any other.
     #[inline(always)]
     fn read_usual(
         &mut self,
