@@ -6,7 +6,7 @@ use Rattle.er_event.specs.declared.steps.Step.{Step}
 use Rattle.er_model.proofs.Search.{below_or_at}
 use Rattle.er_model.specs.Answers.{answer, answer_next, state_end}
 use Rattle.er_replay.specs.Standing.{Replayed, Stands}
-use Rattle.er_report.specs.Builder.{Built, ArePlain, IsReported, KeepsState, KeepStates, is_plain}
+use Rattle.er_report.specs.Builder.{Built, ArePlain, IsExplained, IsReported, KeepsState, KeepStates, is_plain}
 use Rattle.er_batch.proofs.StepLemmas.{answer-here, keeps-here, past-next}
 use Rattle.er_batch.specs.Inner.Answering.{HasComeTo, Lags}
 use Rattle.er_trace.specs.Trace.{Recording}
@@ -42,6 +42,10 @@ pub lags-end : (before after : Built) (r : Recording) (n plain : ℕ) → Lags b
     → ((s : Recording) (k : ℕ) → IsReported before s k → ArePlain s.steps k plain → (IsTrue (is_some before.kept) → KeepStates s.steps k plain) → IsReported after s (k + plain))
     → IsReported after r n
 lags-end before after r n plain lags adds = subst (IsReported after r) lags.behind (adds r lags.start lags.reported lags.answers lags.keep)
+
+-- what is kept for reasons waits for the step to be explained
+pub kept-on : (before after : Built) (r : Recording) (n : ℕ) → after.kept ≡ before.kept → after.rules ≡ before.rules → IsExplained before r n → IsExplained after r n
+kept-on before after r n kept rules explained = rw (kept, rules) explained
 
 -- a step that has nothing to say, and one that was added
 module _ (old new : Replayed) (r : Recording) (n plain : ℕ) (step : Step) (here : slice_get r.steps n ≡ Some step) (next : Stands new (take n r.steps ++ step ∷ [])) where

@@ -1,11 +1,12 @@
 //! Answers the steps of a batch by one machine, and adds them to a report.
-ghost use Rattle.std.specs.Prelude.{◌≡◌, ◌+◌, ◌<◌, ◌≤◌, ◌^◌, nat_lt, ℕ, List, length, option_copied, is_some, IfSome, IfOk, IsFalse, IsTrue, OnOk, false, true};
+ghost use Rattle.std.specs.Prelude.{◌≡◌, ◌+◌, ◌<◌, ◌≤◌, ◌^◌, nat_lt, ℕ, List, length, option_copied, is_some, slice_get, slice_index, Some, IfSome, IfOk, IsFalse, IsTrue, OnOk, false, true};
 ghost use Rattle.er_batch.specs.Inner.Answering.{Answers, HasAnswered, Lags};
 ghost use Rattle.er_batch.specs.Runs.{HasRun, recorded};
 ghost use Rattle.er_event.specs.declared.steps.Event.{Event as Events};
 ghost use Rattle.er_event.specs.declared.steps.Step.{Step as Steps};
 ghost use Rattle.er_event.specs.declared.steps.WordState.{WordState as WordStates};
 ghost use Rattle.er_explain.specs.Following.{CoversAt};
+ghost use Rattle.er_model.specs.Answers.{answer};
 ghost use Rattle.er_replay.specs.Standing.{found_no_room, in_full};
 ghost use Rattle.er_report.specs.Builder.{IsReported, IsStepAt, is_plain};
 ghost use Rattle.er_report.specs.Names.{HasSiteName};
@@ -56,6 +57,15 @@ pub fn is_plain(answer: &Result<Reply, Refusal>) -> bool
     matches!(answer, Ok(Reply::Quiet | Reply::Done | Reply::Ignored))
 }
 
+// Whether a step that is answered so needs no line.
+#[inline(always)]
+fn is_brief(answer: Result<Brief, Refusal>) -> bool
+    ensures plain { IsTrue result → (states : ℕ → WordStates) (event : Events) → is_plain (in_full states event answer) ≡ true }
+    ensures room { IsTrue result → IsFalse (found_no_room answer) }
+{
+    matches!(answer, Ok(Brief::Quiet | Brief::Done | Brief::Ignored))
+}
+
 // Whether the report says nothing of a step that is answered so: it needs no line, and if reasons are wanted it has not changed a word.
 #[inline(always)]
 fn says_nothing(explains: bool, answer: Result<Brief, Refusal>, changed: bool) -> bool
@@ -63,8 +73,29 @@ fn says_nothing(explains: bool, answer: Result<Brief, Refusal>, changed: bool) -
     ensures room { IsTrue result → IsFalse (found_no_room answer) }
     ensures keeps { IsTrue result → explains ≡ true → changed ≡ false }
 {
-    let plain = matches!(answer, Ok(Brief::Quiet | Brief::Done | Brief::Ignored));
-    plain && !(explains && changed)
+    is_brief(answer) && !(explains && changed)
+}
+
+// Adds `plain` steps at once that the report has no line for, and then the next step, which has none either, but which reasons may want. If they are wanted
+// and it is an access that counts, `cover` must be the locks that cover it.
+#[inline(always)]
+fn add_reason(
+    builder: &mut ReportBuilder<'_>,
+    plain: u64,
+    line: u64,
+    step: &Step,
+    cover: Option<&Lockset>,
+) -> Result<(), AllocError>
+    requires room { builder.old.report.steps + plain + 1 < 2 ^ 64 }
+    ensures rules { OnOk result (builder.new.rules ≡ builder.old.rules) }
+    ensures steps { OnOk result (builder.new.report.steps ≡ builder.old.report.steps + plain + 1) }
+    ensures explains { OnOk result (is_some builder.new.kept ≡ is_some builder.old.kept) }
+    ensures reported { (r : Recording) (n : ℕ) → Lags builder.old r n plain → slice_get r.steps n ≡ Some step.now → line ≡ slice_index r.lines n → is_plain (answer r.steps n) ≡ true
+        → (IsTrue (is_some builder.old.kept) → CoversAt r.steps n step.now (option_copied cover.entry)) → OnOk result (IsReported builder.new r (n + 1)) }
+{
+    builder.add_plain(plain);
+    builder.add_plain(1);
+    builder.explain(line, step, cover)
 }
 
 /// Adds `plain` steps at once that the report has no line for, and then the next step, which is only counted if it has no line either. If
@@ -89,11 +120,10 @@ pub(crate) fn add_behind(
     ensures reported { (r : Recording) (n : ℕ) → Lags builder.old r n plain → IsStepAt r n names.now line site step.now answer.now held.now
         → (IsTrue (is_some builder.old.kept) → CoversAt r.steps n step.now (option_copied cover.entry)) → OnOk result (IsReported builder.new r (n + 1)) }
 {
-    builder.add_plain(plain);
     if is_plain(answer) {
-        builder.add_plain(1);
-        return builder.explain(line, step, cover);
+        return add_reason(builder, plain, line, step, cover);
     }
+    builder.add_plain(plain);
     builder.add(names, line, site, step, view_of(answer), held)?;
     builder.explain(line, step, cover)
 }
@@ -123,6 +153,10 @@ fn answer_steps(
         let (brief, changed) = machine.take(&(), *step);
         if says_nothing(explains, brief, changed) {
             plain += 1;
+        } else if is_brief(brief) {
+            let cover = cover_in(machine.held(step.thread), step.event);
+            add_reason(builder, plain, trace.lines()[k], step, cover)?;
+            plain = 0;
         } else {
             let answer = machine.in_full(step, brief);
             if let Some(cause) = no_room(&answer) {

@@ -9,15 +9,15 @@ use Rattle.er_model.specs.Holdings.{Holdings}
 use Rattle.er_replay.proofs.BriefLemmas.{brief-room, if_err, refused, show-wants, whole}
 use Rattle.er_replay.proofs.StopsLemmas.{lacks}
 use Rattle.er_replay.specs.Standing.{Replayed, Stands, found_no_room, holding, in_full, states}
-use Rattle.er_report.specs.Builder.{IsReported}
+use Rattle.er_report.specs.Builder.{IsReported, is_plain}
 use Rattle.er_batch.specs.Inner.Answering.{HasComeTo}
 use Rattle.er_text.specs.Batches.{joined}
 use Rattle.er_trace.specs.Trace.{Recording}
 use Rattle.er_batch.proofs.LagLemmas.{come-plain, come-told, lags-end}
 use Rattle.er_batch.proofs.BatchLemmas.{number-behind, site-behind}
-use Rattle.er_batch.proofs.StepLemmas.{covers-end, step-at}
+use Rattle.er_batch.proofs.StepLemmas.{answer-here, covers-end, step-at}
 use Rattle.er_batch.proofs.answering.answer_steps.Goals as goal
-use Rattle.er_batch.proofs.answering.answer_steps.Goals.{then-says_nothing, else-says_nothing+in_default+in_ok-added}
+use Rattle.er_batch.proofs.answering.answer_steps.Goals.{then-says_nothing, then-is_brief+in_ok-add_reason, else-says_nothing+in_default+in_ok-added}
 
 pub returns-in-Some-clause-run : goal.returns-in-Some-clause-run
 returns-in-Some-clause-run c = λ past lines sites long each before.
@@ -71,6 +71,27 @@ loop-k-preserved c =
             (λ wanted.
             c.take-brief.ensures.unchanged (take at r.steps) (stands (take at r.steps) come.stands) room
             (c.says_nothing.ensures.keeps w.if-says_nothing.true (c.explains-explains.ensures ∙ sym c.loop-k.invariant.explains ∙ wanted)))));
+      }
+      | then-is_brief+in_ok-add_reason w ↦ record {
+        steps = rw (w.builder-is, w.plain-is) (let so_far = c.loop-k.invariant.steps in let added = w.in_ok-add_reason.ensures.steps in omega arith);
+        rules = rw w.builder-is (w.in_ok-add_reason.ensures.rules ∙ c.loop-k.invariant.rules);
+        explains = rw w.builder-is (w.in_ok-add_reason.ensures.explains ∙ c.loop-k.invariant.explains);
+        run = λ past lines sites long each before.
+            let r : Recording = joined past lines sites c.args.trace.now in
+            let at : ℕ = length past + k in
+            let come : HasComeTo c.loop-k.machine c.loop-k.builder r at c.loop-k.plain = c.loop-k.invariant.run past lines sites long each before in
+            let room = w.is_brief.ensures.room w.if-is_brief.true in
+            let now = states c.take-brief.new.self in
+            let behind : Stands c.take-brief.new.self (take at r.steps ++ step ∷ []) = next room (take at r.steps) come.stands in
+            let line = ap (λ (numbers : List ℕ). slice_index numbers k) w.lines.ensures.value ∙ number-behind lines c.args.trace.now.lines (length past) k long in
+            let plain = ap is_plain (sym (answer-here r.steps at step (here past)) ∙ sym (answered room (take at r.steps) come.stands)) ∙ w.is_brief.ensures.plain w.if-is_brief.true now step.event in
+            let reported : IsReported w.add_reason.new.builder r (at + 1) =
+            w.in_ok-add_reason.ensures.reported r at come.lags (here past) line plain
+            (λ _. w.cover_in-cover.ensures ∙ ap (λ (h : Holdings). cover_by h step.event) (w.held.ensures.past (take at r.steps ++ step ∷ []) behind) ∙ covers-end r.steps at step (here past)) in
+            let one : at + 1 ≡ length past + (k + 1) = omega arith in
+            rw (w.builder-is, w.plain-is)
+            (subst (λ (n : ℕ). HasComeTo c.take-brief.new.self w.add_reason.new.builder r n 0) one
+            (come-told c.loop-k.machine c.take-brief.new.self r at c.loop-k.plain step (here past) behind w.add_reason.new.builder reported));
       }
       | else-says_nothing+in_default+in_ok-added w ↦ record {
         steps = rw (w.builder-is, w.plain-is) (let so_far = c.loop-k.invariant.steps in let added = w.in_ok-added.ensures.steps in omega arith);
