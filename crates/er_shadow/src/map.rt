@@ -2,17 +2,14 @@
 ghost use Rattle.std.specs.Prelude.{◌≡◌, ◌<◌, ◌≤◌, ◌%◌, ℕ, nat_eq, slice_get, Some, None, IsTrue, IsOk, IsSome, IfOk, IfSome, IfNone, false, true, OnOk, OnErr, IsErrOf};
 ghost use Rattle.indexmap.specs.IndexMap.{keys, index_map_len, IsUnique};
 ghost use Rattle.er_event.specs.declared.steps.WordState.TheVariants.{Virgin, Exclusive};
-ghost use Rattle.er_journal.specs.Journals.{stamped};
 ghost use Rattle.er_model.specs.Table.{advanced, moved, reports};
 ghost use Rattle.er_model.specs.Words.{Counted, Reused};
-ghost use Rattle.er_shadow.specs.Replies.{reply_if};
 ghost use Rattle.er_table.specs.Sets.{most_sets};
 
 use crate::Hints;
 use crate::page::{Page, WORDS};
 use crate::refining::{is_settled, named, step};
 use er_event::{Event, Kind, Lockset, NoRoom, PageRange, Step, ThreadId, Word, WordState};
-use er_journal::{BriefReply, Stamp};
 use er_keys::{HashKeys, NumberHasher, index_of};
 use er_owner::Shadow;
 use er_table::{Grow, Known, KnownIn, LocksetTable, OwnKnown, Owned, Shared, Store};
@@ -211,25 +208,6 @@ impl<S: Store> Words<S> {
             return Some(true);
         }
         is_settled(&self.known, shadow, thread, kind, locks).then_some(false)
-    }
-
-    /// The access of a stamp, as `access_noting` takes it. Returns whether it is reported as a race.
-    pub fn apply<R>(&mut self, rt: &R, stamp: &Stamp) -> Result<BriefReply, NoRoom>
-    where
-        S: Grow<R>,
-        ensures ok { OnOk result ((w : ℕ) → states self.new w ≡ moved (states self.old w) w (Counted stamp.now.thread stamp.now.kind stamp.now.word (stamped stamp.now stamp.now.kind))) }
-        ensures reply { IfOk result (λ reply. reply ≡ reply_if (reports (states self.old stamp.now.word) (advanced (states self.old stamp.now.word) stamp.now.thread stamp.now.kind (stamped stamp.now stamp.now.kind)))) }
-        ensures err { OnErr result ((w : ℕ) → states self.new w ≡ states self.old w) }
-        ensures full { IsErrOf result NoRoom.TableFull → IsTrue (needs_set (states self.old stamp.now.word) stamp.now.thread) }
-        ensures own { states self.old stamp.now.word ≡ Exclusive stamp.now.thread → IsOk result }
-        ensures refusals { ¬ IsErrOf result NoRoom.JournalFull }
-    {
-        let locks = match stamp.kind {
-            Kind::Read => stamp.locks.held(),
-            Kind::Write => stamp.locks.write_held(),
-        };
-        let noted = self.access_noting(rt, stamp.thread, stamp.word, stamp.kind, locks)?;
-        Ok(BriefReply::of_access(noted.is_race))
     }
 
     /// Reads what stands for the words that these steps access, the first [`AHEAD`](ShadowMap::AHEAD) at most. Nothing waits for what is read, so the words

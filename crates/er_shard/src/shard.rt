@@ -149,10 +149,14 @@ impl<S: Store> ShardIn<S> {
         // Most accesses leave their word as it is, and these are found first.
         let (thread, word, kind) = (stamp.thread, stamp.word, stamp.kind);
         let quick = self.words.access_quickly(thread, word, kind, locks);
-        let reply = match quick {
-            Some(_) => BriefReply::of_access(false),
-            None => self.words.apply(rt, &stamp)?,
+        let is_race = match quick {
+            Some(_) => false,
+            None => self
+                .words
+                .access_noting(rt, thread, word, kind, locks)?
+                .is_race,
         };
+        let reply = BriefReply::of_access(is_race);
         self.journal
             .push_reserved(Entry::access(ticket, stamp, reply));
         Ok(reply)
