@@ -17,7 +17,7 @@ use Rattle.er_batch.proofs.LagLemmas.{come-plain, come-told, lags-end}
 use Rattle.er_batch.proofs.BatchLemmas.{number-behind, site-behind}
 use Rattle.er_batch.proofs.StepLemmas.{answer-here, covers-end, step-at}
 use Rattle.er_batch.proofs.answering.answer_steps.Goals as goal
-use Rattle.er_batch.proofs.answering.answer_steps.Goals.{then-says_nothing, then-is_brief+in_ok-add_reason, else-says_nothing+in_default+in_ok-added}
+use Rattle.er_batch.proofs.answering.answer_steps.Goals.{then-says_nothing, else-says_nothing+then-is_brief+in_ok-add_reason, else-says_nothing+else-is_brief+in_default+in_ok-added}
 
 pub returns-in-Some-clause-run : goal.returns-in-Some-clause-run
 returns-in-Some-clause-run c = λ past lines sites long each before.
@@ -72,7 +72,7 @@ loop-k-preserved c =
             c.take-brief.ensures.unchanged (take at r.steps) (stands (take at r.steps) come.stands) room
             (c.says_nothing.ensures.keeps w.if-says_nothing.true (c.explains-explains.ensures ∙ sym c.loop-k.invariant.explains ∙ wanted)))));
       }
-      | then-is_brief+in_ok-add_reason w ↦ record {
+      | else-says_nothing+then-is_brief+in_ok-add_reason w ↦ record {
         steps = rw (w.builder-is, w.plain-is) (let so_far = c.loop-k.invariant.steps in let added = w.in_ok-add_reason.ensures.steps in omega arith);
         rules = rw w.builder-is (w.in_ok-add_reason.ensures.rules ∙ c.loop-k.invariant.rules);
         explains = rw w.builder-is (w.in_ok-add_reason.ensures.explains ∙ c.loop-k.invariant.explains);
@@ -93,7 +93,7 @@ loop-k-preserved c =
             (subst (λ (n : ℕ). HasComeTo c.take-brief.new.self w.add_reason.new.builder r n 0) one
             (come-told c.loop-k.machine c.take-brief.new.self r at c.loop-k.plain step (here past) behind w.add_reason.new.builder reported));
       }
-      | else-says_nothing+in_default+in_ok-added w ↦ record {
+      | else-says_nothing+else-is_brief+in_default+in_ok-added w ↦ record {
         steps = rw (w.builder-is, w.plain-is) (let so_far = c.loop-k.invariant.steps in let added = w.in_ok-added.ensures.steps in omega arith);
         rules = rw w.builder-is (w.in_ok-added.ensures.rules ∙ c.loop-k.invariant.rules);
         explains = rw w.builder-is (w.in_ok-added.ensures.explains ∙ c.loop-k.invariant.explains);
