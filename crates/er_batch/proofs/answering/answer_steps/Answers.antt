@@ -105,14 +105,14 @@ loop-k-preserved c =
             brief-room (states c.take-brief.new.self) step.event c.take-brief.result.0 w.in_full-answer.result w.in_full-answer.ensures w.in_default.ensures in
             let whole_answer = whole (states c.take-brief.new.self) step.event c.take-brief.result.0 w.in_full-answer.result w.in_full-answer.ensures w.in_default.ensures in
             let behind : Stands c.take-brief.new.self (take at r.steps ++ step ∷ []) = next room (take at r.steps) come.stands in
-            let line = ap (λ (numbers : List ℕ). slice_index numbers k) w.lines.ensures.value ∙ number-behind lines c.args.trace.now.lines (length past) k long in
+            let line = ap (λ (numbers : List ℕ). slice_index numbers k) w.lines-else-is_brief.ensures.value ∙ number-behind lines c.args.trace.now.lines (length past) k long in
             let inside : k < length w.sites.result.now = rw (w.sites.ensures.value, w.sites.ensures.one_per_step) (rw c.steps-steps.ensures.value at c.loop-k-test.true) in
             let site = site-behind w.sites.result.now sites c.args.trace.now.sites (length past) k w.index-sites-k.result w.sites.ensures.value each inside w.index-sites-k.is in
             let reported : IsReported w.add_behind-added.new.builder r (at + 1) =
             w.in_ok-added.ensures.reported r at come.lags
             (step-at r at _ _ _ step w.in_full-answer.result _ (here past) line site c.names-names.ensures (whole_answer ∙ answered room (take at r.steps) come.stands)
             (w.held-held.ensures.locks ∙ ap (λ (h : Holdings). h.held) (w.held-holder.ensures.past (take at r.steps ++ step ∷ []) behind)))
-            (λ _. w.cover_in-cover.ensures ∙ ap (λ (h : Holdings). cover_by h step.event) (w.held-holder.ensures.past (take at r.steps ++ step ∷ []) behind) ∙ covers-end r.steps at step (here past)) in
+            (λ _. w.cover_in-cover-else-is_brief.ensures ∙ ap (λ (h : Holdings). cover_by h step.event) (w.held-holder.ensures.past (take at r.steps ++ step ∷ []) behind) ∙ covers-end r.steps at step (here past)) in
             let one : at + 1 ≡ length past + (k + 1) = omega arith in
             rw (w.builder-is, w.plain-is)
             (subst (λ (n : ℕ). HasComeTo c.take-brief.new.self w.add_behind-added.new.builder r n 0) one
