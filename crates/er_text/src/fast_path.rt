@@ -91,9 +91,14 @@ fn leading_rare_verb(bytes: &[u8]) -> Option<(Rare, &[u8])>
     }
 }
 
-/// The thread whose name is known and stands in front of one space, and what follows that. Most are found by a look at eight bytes.
+/// The thread whose name is known and stands in front of one space, and what follows that. Most are found by a look at eight bytes. With `rare` no other
+/// is looked for, since each look was made before.
 #[inline(always)]
-fn leading_thread<'a>(trace: &mut Trace, bytes: &'a [u8]) -> Option<(ThreadId, &'a [u8])>
+fn leading_thread<'a>(
+    trace: &mut Trace,
+    bytes: &'a [u8],
+    rare: bool,
+) -> Option<(ThreadId, &'a [u8])>
     ensures led { IfSome result (λ led. IsLeadingThread trace.old.names.threads bytes.now led.0 led.1.now) }
     ensures same { trace.new ≡ trace.old }
 {
@@ -101,7 +106,7 @@ fn leading_thread<'a>(trace: &mut Trace, bytes: &'a [u8]) -> Option<(ThreadId, &
         return Some(led);
     }
     let (word, rest) = split_at_space(bytes);
-    if rest.is_empty() {
+    if rare || rest.is_empty() {
         return None;
     }
     let thread = trace.names().known_thread(name_of(word)?)?;
@@ -414,7 +419,7 @@ pub(crate) fn add_usual(
     if bytes.len() < 8 {
         return Ok(false);
     }
-    match leading_thread(trace, bytes) {
+    match leading_thread(trace, bytes, rare) {
         Some(led) => add_usual_operation(trace, version, line, led.0, bytes, led.1, rare),
         None => Ok(false),
     }
