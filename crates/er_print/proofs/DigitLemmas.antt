@@ -17,6 +17,12 @@ pub put_five : (old a b c d e r s t u v : List ℕ) → a ≡ old ++ r → b ≡
 put_five old a b c d e r s t u v first second third fourth fifth =
     rw (fifth, fourth, third, second, first) (simp append_assoc)
 
+-- the parts of a reason, of which two are put at once
+pub put_parts : (old a b c d e f g h r s t u v w x y z : List ℕ) → a ≡ old ++ r → b ≡ a ++ s → c ≡ b ++ (t ++ u) → d ≡ c ++ v → e ≡ d ++ w → f ≡ e ++ x → g ≡ f ++ y → h ≡ g ++ z
+    → h ≡ old ++ (r ++ s ++ t ++ u ++ v ++ w ++ x ++ y ++ z)
+put_parts old a b c d e f g h r s t u v w x y z first second third fourth fifth sixth seventh eighth =
+    rw (eighth, seventh, sixth, fifth, fourth, third, second, first) (simp append_assoc)
+
 -- twelve hexadecimal digits behind `0x`, four at a time
 address_pieces : (old : List ℕ) (low : ℕ) → (((old ++ codes "0x") ++ hex_digits 4 (low / 16 / 16 / 16 / 16 / 16 / 16 / 16 / 16)) ++ hex_digits 4 (low / 16 / 16 / 16 / 16)) ++ hex_digits 4 low
     ≡ old ++ (codes "0x" ++ hex_digits 12 low)

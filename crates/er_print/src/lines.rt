@@ -4,9 +4,9 @@ ghost use Rattle.er_event.specs.Refusal.{text_of};
 ghost use Rattle.er_report.specs.declared.report.Deed.TheVariants as deed;
 ghost use Rattle.er_print.specs.Printed.{HasEventNames, event_text, kind_text, name_at, HasNames, HasRaceNames, HasReasonNames, RacedView, line_view, told, bytes_between, deed_text, place_text, race_label, races_label, reason_text, line_text, stop_text, counts_text, lost_text, totals_text, end_text};
 
-use crate::naming::{put_address, put_event_behind};
-use crate::pieces::Piece::{Address, Label, NamedSite, Number, State, Text, Thread, Verb};
-use crate::styles::{Style, put_locks_in, put_site_in};
+use crate::naming::{put_address, put_event_behind, verb};
+use crate::pieces::Piece::{Address, NamedSite, Number, State, Text, Thread};
+use crate::styles::{Style, put_label_in, put_locks_in, put_site_in};
 use crate::{Put, put};
 use er_event::{Kind, NoRoom, PageRange, Refusal, Step, ThreadId, Word};
 use er_lines::put_number;
@@ -135,10 +135,14 @@ fn put_reasons(out: &mut Vec<u8>, names: &Names, explained: &[Because]) -> Put
     ensures { OnOk result (out.new.items ≡ out.old.items ++ flat_map (reason_text names.now) explained.now) }
 {
     for because in explained {
-        put!(out, Style::Plain, names;
-            Label(b"  ", because.label), Number(b": line ", because.line),
-            Thread(b", ", because.thread), Verb(b" ", because.kind), Text(b"\n")
-        )?;
+        out.extend_from_slice(b"  ")?;
+        put_label_in(out, Style::Plain, names, because.label)?;
+        put_labelled(out, b": line ", because.line)?;
+        out.extend_from_slice(b", ")?;
+        put_thread(out, names, because.thread)?;
+        out.extend_from_slice(b" ")?;
+        out.extend_from_slice(verb(because.kind))?;
+        out.extend_from_slice(b"\n")?;
     }
     Ok(())
 }
