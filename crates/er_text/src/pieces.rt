@@ -90,8 +90,8 @@ impl Piece {
         self.whole
     }
 
-    /// Reads these lines of a text of this version, and forgets what was read before, but not its names if they are few and all among those of
-    /// the lines before.
+    /// Reads these lines of a text of this version, and forgets what was read before. Its names begin as those of the lines before, with their
+    /// numbers, if these are few. Otherwise it keeps its own if they are few and all among these.
     ///
     /// A line can't be read apart if what it says depends on threads that are named in lines before: a start, and most joins.
     pub fn read(&mut self, version: Version, names: &Names, bytes: &[u8])
@@ -122,7 +122,14 @@ impl Piece {
         Ok(())
     }
 
-    /// Gives its steps and sites the numbers that were noted, and counts its lines from behind those before. What was read is no longer there then.
+    /// Whether its names have the same numbers in the trace, so that [`number`](Piece::number) has only lines to count. It may be asked once
+    /// they were added there.
+    pub fn has_its_numbers(&self) -> bool {
+        self.numbers.are_same()
+    }
+
+    /// Gives its steps and sites the numbers that were noted, where these are others, and counts its lines from behind those before. What was read
+    /// is no longer there then.
     pub fn number(&mut self)
         requires { CanBeNumbered self.old }
         ensures { IsNumbered self.old self.new }

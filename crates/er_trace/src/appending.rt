@@ -1,6 +1,6 @@
 //! Numbers of one trace's names in another, and its steps with these numbers.
-ghost use Rattle.std.specs.Prelude.{◌≡◌, ◌+◌, ◌-◌, ◌<◌, ◌≤◌, ◌^◌, ◌++◌, ℕ, [], ◌∷◌, All, get_or, length, map, OnOk, OnErr};
-ghost use Rattle.er_trace.specs.Appended.{AreNumbers, renumbered_order, renumbered_event, renumbered_site, renumbered_step};
+ghost use Rattle.std.specs.Prelude.{◌≡◌, ◌+◌, ◌-◌, ◌<◌, ◌≤◌, ◌^◌, ◌++◌, ℕ, [], ◌∷◌, All, get_or, length, map, IsTrue, OnOk, OnErr};
+ghost use Rattle.er_trace.specs.Appended.{AreNumbers, AreSame, renumbered_order, renumbered_event, renumbered_site, renumbered_step};
 ghost use Rattle.er_trace.specs.Inner.Renumbering.{new_site};
 ghost use Rattle.er_trace.specs.Names.{NameTable, most_names};
 ghost use Rattle.er_trace.specs.Trace.{HasOrderNames, HasNames, IsNamed, HasSiteName};
@@ -13,17 +13,20 @@ use std::marker::Model;
 #[derive(Drop)]
 pub struct NewNumbers {
     numbers: Vec<u32>,
+    // Whether each number is known to be the old one.
+    are_same: bool,
 }
 
 impl Model for NewNumbers {
-    ghost use Rattle.std.specs.Prelude.{ℕ, ◌<◌, List, All};
+    ghost use Rattle.std.specs.Prelude.{ℕ, ◌<◌, List, All, IsTrue};
+    ghost use Rattle.er_trace.specs.Appended.{AreSame};
     ghost use Rattle.er_trace.specs.Names.{most_names};
 
     ghost Value = { List ℕ };
 
     ghost view = { λ n. n.numbers.items };
 
-    ghost invariant = { λ n. All (λ number. number < most_names) n.numbers.items };
+    ghost invariant = { λ n. All (λ number. number < most_names) n.numbers.items × (IsTrue n.are_same → AreSame n.numbers.items) };
 }
 
 impl NewNumbers {
@@ -32,6 +35,7 @@ impl NewNumbers {
     {
         NewNumbers {
             numbers: Vec::new(alloc),
+            are_same: true,
         }
     }
 
@@ -41,8 +45,17 @@ impl NewNumbers {
         ensures ok { OnOk result (self.new ≡ self.old ++ number ∷ []) }
         ensures err { OnErr result (self.new ≡ self.old) }
     {
+        let is_same = number == self.numbers.len();
         self.numbers.push(number as u32)?;
+        self.are_same = self.are_same && is_same;
         Ok(())
+    }
+
+    /// Whether each new number is known to be the old one.
+    fn are_same(&self) -> bool
+        ensures { IsTrue result → AreSame self.now }
+    {
+        self.are_same
     }
 
     /// The new number of this one.
@@ -77,11 +90,21 @@ impl NewTable {
         }
     }
 
+    /// Whether each name is known to have its old number, so that no step has to be numbered.
+    pub fn are_same(&self) -> bool
+        ensures { IsTrue result → AreSame self.now.threads × AreSame self.now.locks × AreSame self.now.sites }
+    {
+        self.threads.are_same() && self.locks.are_same() && self.sites.are_same()
+    }
+
     /// Gives each of these steps its new numbers.
     pub(crate) fn number_steps(&self, steps: &mut [Step])
         requires { (old : NameTable) × (new : NameTable) × AreNumbers self.now old new × All (IsNamed old) steps.old }
         ensures { (old new : NameTable) → AreNumbers self.now old new → All (IsNamed old) steps.old → steps.new ≡ map (renumbered_step old new) steps.old }
     {
+        if self.are_same() {
+            return;
+        }
         for at in 0..steps.len() {
             steps[at] = self.step(steps[at]);
         }
@@ -92,6 +115,9 @@ impl NewTable {
         requires { (old : NameTable) × (new : NameTable) × AreNumbers self.now old new × All (HasSiteName old) sites.old }
         ensures { (old new : NameTable) → AreNumbers self.now old new → All (HasSiteName old) sites.old → sites.new ≡ map (renumbered_site old.sites new.sites) sites.old }
     {
+        if self.are_same() {
+            return;
+        }
         for at in 0..sites.len() {
             sites[at] = self.site(sites[at]);
         }

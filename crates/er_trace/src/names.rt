@@ -13,6 +13,7 @@ use er_event::{LockId, Site, ThreadId};
 use er_keys::Hints;
 use std::alloc::{AllocError, Global};
 use std::marker::Model;
+use std::mem;
 
 /// Names of one sort, of which one that appeared lately is found without a hash.
 #[derive(Drop)]
@@ -135,11 +136,31 @@ impl CachedNames {
         self.list.find(name)
     }
 
+    /// Whether they are few.
+    fn are_few(&self) -> bool {
+        self.list.len() <= CachedNames::FEW
+    }
+
+    /// Whether they are those names, in the same order.
+    fn are_those_of(&self, others: &CachedNames) -> bool
+        ensures { IsTrue result → with_names others.now self.now ≡ others.now }
+    {
+        if self.list.len() != others.list.len() {
+            return false;
+        }
+        for at in 0..self.list.len() {
+            if !others.list.is_at(at, self.list.name(at).as_bytes()) {
+                return false;
+            }
+        }
+        true
+    }
+
     /// Whether those names are few and have all appeared here.
     fn has_few(&self, others: &CachedNames) -> bool
         ensures { IsTrue result → with_names self.now others.now ≡ self.now }
     {
-        if others.list.len() > CachedNames::FEW {
+        if !others.are_few() {
             return false;
         }
         for at in 0..others.list.len() {
@@ -150,6 +171,19 @@ impl CachedNames {
         true
     }
 
+    /// The same as `number`, and at once if the name stands at this place.
+    fn number_near(&mut self, at: usize, name: &str) -> Result<usize, AllocError>
+        ensures number { IfOk result (λ n. n ≡ number_of self.old name.now) }
+        ensures ok { OnOk result (self.new ≡ with_name self.old name.now) }
+        ensures err { OnErr result (self.new ≡ self.old) }
+        ensures within { IfOk result (λ n. n < most_names) }
+    {
+        if self.list.is_at(at, name.as_bytes()) {
+            return Ok(at);
+        }
+        self.number(name)
+    }
+
     /// The numbers here of all those names, by their numbers there. Those of them that are new come behind, in their order.
     fn add(&mut self, others: &CachedNames) -> Result<NewNumbers, AllocError>
         ensures names { OnOk result (self.new ≡ with_names self.old others.now) }
@@ -158,7 +192,7 @@ impl CachedNames {
     {
         let mut numbers = NewNumbers::new(*self.list.allocator());
         for at in 0..others.list.len() {
-            let number = self.number(others.list.name(at))?;
+            let number = self.number_near(at, others.list.name(at))?;
             numbers.push(number)?;
         }
         Ok(numbers)
@@ -281,8 +315,47 @@ impl Names {
         Some(Site::new(number + 1))
     }
 
+    /// These names if they are few, in their order, or none if memory was refused. Names are hashed by these keys from then on.
+    fn copied(&self, alloc: Global, keys: NameKeys) -> Names
+        ensures { HasAll self.now result }
+    {
+        let mut names = Names::keyed(alloc, keys);
+        match names.add(self) {
+            Ok(_numbers) => names,
+            Err(AllocError) => Names::keyed(alloc, keys),
+        }
+    }
+
+    /// Makes these names a copy of those, in their order, if those are few and memory isn't refused. Otherwise these stay if they are few and
+    /// have all appeared in those, and else they are forgotten. A copy and what comes behind it is hashed by these keys.
+    pub(crate) fn follow(&mut self, others: &Names, alloc: Global, keys: NameKeys)
+        ensures { HasAll others.now self.new }
+    {
+        if others.are_few() {
+            if !self.are_those_of(others) {
+                drop(mem::replace(self, others.copied(alloc, keys)));
+            }
+        } else if !self.are_few_of(others) {
+            drop(mem::replace(self, Names::keyed(alloc, keys)));
+        }
+    }
+
+    /// Whether they are few of each sort.
+    fn are_few(&self) -> bool {
+        self.threads.are_few() && self.locks.are_few() && self.sites.are_few()
+    }
+
+    /// Whether these are those names, in the same order.
+    fn are_those_of(&self, others: &Names) -> bool
+        ensures { IsTrue result → HasAll others.now self.now }
+    {
+        self.threads.are_those_of(&others.threads)
+            && self.locks.are_those_of(&others.locks)
+            && self.sites.are_those_of(&others.sites)
+    }
+
     /// Whether these names are few and have all appeared in those.
-    pub(crate) fn are_few_of(&self, others: &Names) -> bool
+    fn are_few_of(&self, others: &Names) -> bool
         ensures { IsTrue result → HasAll others.now self.now }
     {
         others.threads.has_few(&self.threads)

@@ -196,16 +196,15 @@ impl Trace {
         count_behind(before, lines.as_mut_slice());
     }
 
-    /// Forgets the steps, their lines and sites. It keeps the room for as many steps, and the names if they are few and have all appeared in
-    /// those. Otherwise it forgets them, and names are hashed by these keys from then on.
+    /// Forgets the steps, their lines and sites, and keeps the room for as many steps. If those names are few, its own become a copy of them,
+    /// with the same numbers. Otherwise it keeps its names if they are few and have all appeared in those, and else forgets them. It does so
+    /// too if memory is refused. Where they don't stay, names are hashed by these keys from then on.
     pub fn restart(&mut self, others: &Names, alloc: Global, keys: NameKeys)
         ensures empty { self.new ≡ record no_steps { names = self.new.names } }
         ensures known { HasAll others.now self.new.names }
     {
         self.clear();
-        if !self.names.are_few_of(others) {
-            drop(mem::replace(&mut self.names, Names::keyed(alloc, keys)));
-        }
+        self.names.follow(others, alloc, keys);
     }
 
     /// Forgets the steps, their lines and their sites. It keeps the names, and the room for as many steps.
