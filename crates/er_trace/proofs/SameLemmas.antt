@@ -1,26 +1,18 @@
 -- Numbers that are the old ones leave steps as they are.
-use Rattle.std.proofs.Common.{◌≡◌, ℕ, zero, suc, ◌+◌, ◌<◌, ◌≤◌, List, [], ◌∷◌, ◌++◌, map, length, length-append, get_or, IsLt, IsGeq, refl, ap, sym, ◌∙◌, arith}
+use Rattle.std.proofs.Common.{◌≡◌, ℕ, zero, suc, ◌<◌, ◌≤◌, List, [], ◌∷◌, map, length, refl, ap, sym, ◌∙◌, arith}
 use Rattle.std.specs.List.{All, AllByRecursion}
-use Rattle.std.proofs.lemmas.List.{get_or_append_left, length-map}
+use Rattle.std.proofs.lemmas.List.{length-map}
 use Rattle.std.proofs.lemmas.List.Elements.{recursion_from_All}
-use Rattle.std.proofs.Math.Seq.{get_or-append_seam}
 use Rattle.er_event.specs.declared.steps.Event.{Event}
 use Rattle.er_event.specs.declared.steps.Event.TheVariants.{Acquire, Release, Access, Reuse, IgnoreOn, IgnoreOff, Show, Level, Sync}
 use Rattle.er_event.specs.declared.steps.Step.{Step}
 use Rattle.er_event.specs.declared.steps.Sync.{Sync as Order}
 use Rattle.er_event.specs.declared.steps.Sync.TheVariants.{Start, Join, Signal, Await}
 use Rattle.er_trace.specs.declared.appending.NewTable.{NewTable}
-use Rattle.er_trace.specs.Names.{NameTable, number_of}
-use Rattle.er_trace.specs.Trace.{HasOrderNames, HasNames, IsNamed, HasSiteName}
-use Rattle.er_trace.specs.Appended.{AreNumbers, AreSame, renumbered, renumbered_site, renumbered_order, renumbered_event, renumbered_step}
+use Rattle.er_trace.specs.Names.{NameTable, AreSame, number_of}
+use Rattle.er_trace.specs.Trace.{HasOrderNames, HasNames, IsNamed}
+use Rattle.er_trace.specs.Appended.{AreNumbers, renumbered, renumbered_site, renumbered_order, renumbered_event, renumbered_step}
 use Rattle.er_trace.proofs.RenumberingLemmas.{number_at}
-
--- the next number, if it is the next place
-same_next : (numbers : List ℕ) (k n : ℕ) → AreSame numbers → k ≡ length numbers → n < length numbers + 1 → get_or (numbers ++ k ∷ []) n 0 ≡ n
-same_next numbers k n same next below = ?
-
-pub same_on : (numbers : List ℕ) (k : ℕ) → AreSame numbers → k ≡ length numbers → AreSame (numbers ++ k ∷ [])
-same_on numbers k same next = λ n below. same_next numbers k n same next (let long = length-append numbers (k ∷ []) in omega (arith, below, long))
 
 -- each name keeps its number
 abbrev Stays : List (List ℕ) → List (List ℕ) → Type 0
@@ -33,7 +25,7 @@ stays numbers old new same are = λ n below.
 
 stays_site : (old new : List (List ℕ)) (site : ℕ) → Stays old new → site ≤ length old → renumbered_site old new site ≡ site
 stays_site old new zero stay below = refl
-stays_site old new (suc n) stay below = ap (λ (k : ℕ). k + 1) (stay n (omega (arith, below)))
+stays_site old new (suc n) stay below = let same = stay n (omega (arith, below)) in omega (arith, same)
 
 stay_sites : (old new : List (List ℕ)) (sites : List ℕ) → Stays old new → AllByRecursion (λ site. site ≤ length old) sites → map (renumbered_site old new) sites ≡ sites
 stay_sites old new [] stay all = refl

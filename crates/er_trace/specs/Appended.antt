@@ -1,5 +1,5 @@
 -- A recording that is appended to another one: its names are numbered again behind those that are there.
-use Rattle.std.specs.Prelude.{◌≡◌, ℕ, zero, suc, ◌+◌, ◌<◌, ◌++◌, List, [], ◌∷◌, length, map, get_or}
+use Rattle.std.specs.Prelude.{◌≡◌, ℕ, zero, suc, ◌+◌, ◌++◌, List, [], ◌∷◌, map, get_or}
 use Rattle.er_trace.specs.declared.appending.NewTable.{NewTable}
 use Rattle.er_trace.specs.Names.{NameTable, number_of, with_name}
 use Rattle.er_trace.specs.Trace.{Recording}
@@ -67,10 +67,6 @@ appended before r q = record {
   sites = r.sites ++ map (renumbered_site q.names.sites (with_names r.names.sites q.names.sites)) q.sites;
   names = with_table r.names q.names;
 }
-
--- the number at each place is this place
-abbrev pub AreSame : List ℕ → Type 0
-AreSame numbers = (n : ℕ) → n < length numbers → get_or numbers n 0 ≡ n
 
 -- the numbers of the old names among the new ones
 pub record AreNumbers (numbers : NewTable) (old new : NameTable) : Type 0 where

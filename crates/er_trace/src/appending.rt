@@ -1,8 +1,8 @@
 //! Numbers of one trace's names in another, and its steps with these numbers.
 ghost use Rattle.std.specs.Prelude.{◌≡◌, ◌+◌, ◌-◌, ◌<◌, ◌≤◌, ◌^◌, ◌++◌, ℕ, [], ◌∷◌, All, get_or, length, map, IsTrue, OnOk, OnErr};
-ghost use Rattle.er_trace.specs.Appended.{AreNumbers, AreSame, renumbered_order, renumbered_event, renumbered_site, renumbered_step};
+ghost use Rattle.er_trace.specs.Appended.{AreNumbers, renumbered_order, renumbered_event, renumbered_site, renumbered_step};
 ghost use Rattle.er_trace.specs.Inner.Renumbering.{new_site};
-ghost use Rattle.er_trace.specs.Names.{NameTable, most_names};
+ghost use Rattle.er_trace.specs.Names.{NameTable, AreSame, most_names};
 ghost use Rattle.er_trace.specs.Trace.{HasOrderNames, HasNames, IsNamed, HasSiteName};
 
 use er_event::{Event, LockId, Site, Step, Sync, ThreadId};
@@ -19,8 +19,7 @@ pub struct NewNumbers {
 
 impl Model for NewNumbers {
     ghost use Rattle.std.specs.Prelude.{ℕ, ◌<◌, List, All, IsTrue};
-    ghost use Rattle.er_trace.specs.Appended.{AreSame};
-    ghost use Rattle.er_trace.specs.Names.{most_names};
+    ghost use Rattle.er_trace.specs.Names.{AreSame, most_names};
 
     ghost Value = { List ℕ };
 

@@ -3,9 +3,15 @@ use Rattle.std.proofs.lemmas.List.{length-map, length-set}
 use Rattle.er_trace.specs.Appended.{renumbered_site}
 use Rattle.er_trace.specs.Names.{number_of}
 use Rattle.er_trace.specs.Trace.{HasSiteName}
+use Rattle.er_trace.proofs.SameLemmas.{sites_stay}
 use Rattle.er_trace.proofs.InPlaceLemmas.{same_read, rest_still, front_on}
 use Rattle.er_trace.proofs.RenumberingLemmas.{site_at}
 use Rattle.er_trace.proofs.appending.NewTable.number_sites.Goals as goal
+
+pub returns-then-are_same : goal.returns-then-are_same
+returns-then-are_same c = λ old new are named.
+    let same = c.are_same.ensures c.if-are_same.true in
+    sites_stay c.args.self.now.sites old.sites new.sites c.args.sites.now same.2 are.sites named
 
 pub site-requires : goal.site-requires
 site-requires c =

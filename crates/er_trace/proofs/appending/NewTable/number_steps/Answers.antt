@@ -3,8 +3,14 @@ use Rattle.std.proofs.lemmas.List.{length-set}
 use Rattle.er_event.specs.declared.steps.Step.{Step}
 use Rattle.er_trace.specs.Appended.{renumbered_step}
 use Rattle.er_trace.specs.Trace.{IsNamed}
+use Rattle.er_trace.proofs.SameLemmas.{steps_stay}
 use Rattle.er_trace.proofs.InPlaceLemmas.{same_read, rest_still, front_on}
 use Rattle.er_trace.proofs.appending.NewTable.number_steps.Goals as goal
+
+pub returns-then-are_same : goal.returns-then-are_same
+returns-then-are_same c = λ old new are named.
+    let same = c.are_same.ensures c.if-are_same.true in
+    steps_stay c.args.self.now old new c.args.steps.now same.0 same.1 same.2 are named
 
 pub step-requires : goal.step-requires
 step-requires c =
