@@ -4,7 +4,7 @@ use Rattle.std.specs.List.{AllByRecursion, slice_get}
 use Rattle.std.proofs.lemmas.List.{map-append, take_more}
 use Rattle.std.proofs.lemmas.List.Elements.{All-from_get_or, recursion_from_All}
 use Rattle.std.proofs.lemmas.Option.{slice_get_within, get_or_from_slice_get}
-use Rattle.er_trace.specs.Names.{NameTable, no_names, is_known, number_of, with_name}
+use Rattle.er_trace.specs.Names.{NameTable, is_known, number_of, with_name}
 use Rattle.er_trace.specs.Appended.{HasAll, with_names, with_table, name_at, renumbered, renumbered_site}
 use Rattle.er_trace.specs.Inner.Renumbering.{new_site}
 use Rattle.er_trace.proofs.NamesLemmas.{with_known}
@@ -57,24 +57,14 @@ still_has_all names more kept has =
     ∙ ap (λ (s : List (List ℕ)). record { threads = all.threads; locks = all.locks; sites = s })
     (still_nothing names.sites more.sites kept.sites (ap (λ (n : NameTable). n.sites) has))
 
--- a copy of names adds nothing to them
-copied_on : (names so_far more : List (List ℕ)) → with_names names so_far ≡ names → AllByRecursion (λ y. is_known names y ≡ true) more → with_names names (with_names so_far more) ≡ names
-copied_on names so_far [] same known = same
-copied_on names so_far (y ∷ more) same known =
-    copied_on names (with_name so_far y) more
-    (with_more names so_far y ∙ ap (λ (known : List (List ℕ)). with_name known y) same ∙ with_known names y known.0) known.1
+-- a known name more adds nothing either
+pub nothing_on : (names so_far : List (List ℕ)) (x : List ℕ) → is_known names x ≡ true → with_names names so_far ≡ names → with_names names (with_name so_far x) ≡ names
+nothing_on names so_far x known same = with_more names so_far x ∙ ap (λ (all : List (List ℕ)). with_name all x) same ∙ with_known names x known
 
-copied : (names : List (List ℕ)) → with_names names (with_names [] names) ≡ names
-copied names =
-    let P : List ℕ → Type 0 = λ y. is_known names y ≡ true in
-    copied_on names [] names refl (recursion_from_All P names (All-from_get_or P names [] (λ i below. known_at names i below)))
-
-pub has_copy : (names : NameTable) → HasAll names (with_table no_names names)
-has_copy names =
-    let copy = with_table no_names names in
-    ap (λ (t : List (List ℕ)). record { threads = t; locks = with_names names.locks copy.locks; sites = with_names names.sites copy.sites }) (copied names.threads)
-    ∙ ap (λ (l : List (List ℕ)). record { threads = names.threads; locks = l; sites = with_names names.sites copy.sites }) (copied names.locks)
-    ∙ ap (λ (s : List (List ℕ)). record { threads = names.threads; locks = names.locks; sites = s }) (copied names.sites)
+-- a name that stands among names is known
+pub known_there : (names : List (List ℕ)) (i : ℕ) (x : List ℕ) → slice_get names i ≡ Some x → is_known names x ≡ true
+known_there names i x is =
+    subst (λ (y : List ℕ). is_known names y ≡ true) (get_or_from_slice_get names i x [] is) (known_at names i (slice_get_within names i x is))
 
 pub one_more : (a b : List (List ℕ)) (x : List ℕ)
     → map (number_of (with_names a (b ++ x ∷ []))) (b ++ x ∷ []) ≡ map (number_of (with_names a b)) b ++ number_of (with_names a b) x ∷ []

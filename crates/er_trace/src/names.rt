@@ -141,19 +141,27 @@ impl CachedNames {
         self.list.len() <= CachedNames::FEW
     }
 
-    /// Whether they are those names, in the same order.
-    fn are_those_of(&self, others: &CachedNames) -> bool
+    /// Whether those names begin with these, in the same order.
+    fn are_first_of(&self, others: &CachedNames) -> bool
         ensures { IsTrue result → with_names others.now self.now ≡ others.now }
     {
-        if self.list.len() != others.list.len() {
-            return false;
-        }
         for at in 0..self.list.len() {
             if !others.list.is_at(at, self.list.name(at).as_bytes()) {
                 return false;
             }
         }
         true
+    }
+
+    /// Adds those names that stand behind as many as these, until memory is refused.
+    fn add_rest(&mut self, others: &CachedNames)
+        ensures { with_names others.now self.old ≡ others.now → with_names others.now self.new ≡ others.now }
+    {
+        for at in self.list.len()..others.list.len() {
+            let Ok(_number) = self.number(others.list.name(at)) else {
+                return;
+            };
+        }
     }
 
     /// Whether those names are few and have all appeared here.
@@ -315,26 +323,16 @@ impl Names {
         Some(Site::new(number + 1))
     }
 
-    /// These names if they are few, in their order, or none if memory was refused. Names are hashed by these keys from then on.
-    fn copied(&self, alloc: Global, keys: NameKeys) -> Names
-        ensures { HasAll self.now result }
-    {
-        let mut names = Names::keyed(alloc, keys);
-        match names.add(self) {
-            Ok(_numbers) => names,
-            Err(AllocError) => Names::keyed(alloc, keys),
-        }
-    }
-
-    /// Makes these names a copy of those, in their order, if those are few and memory isn't refused. Otherwise these stay if they are few and
-    /// have all appeared in those, and else they are forgotten. A copy and what comes behind it is hashed by these keys.
+    /// If those names are few, these become a copy of them, or of the first of them if memory is refused. Otherwise these stay if they are few
+    /// and have all appeared in those, and else they are forgotten. Where they don't stay, names are hashed by these keys from then on.
     pub(crate) fn follow(&mut self, others: &Names, alloc: Global, keys: NameKeys)
         ensures { HasAll others.now self.new }
     {
         if others.are_few() {
-            if !self.are_those_of(others) {
-                drop(mem::replace(self, others.copied(alloc, keys)));
+            if !self.are_first_of(others) {
+                drop(mem::replace(self, Names::keyed(alloc, keys)));
             }
+            self.add_rest(others);
         } else if !self.are_few_of(others) {
             drop(mem::replace(self, Names::keyed(alloc, keys)));
         }
@@ -345,13 +343,22 @@ impl Names {
         self.threads.are_few() && self.locks.are_few() && self.sites.are_few()
     }
 
-    /// Whether these are those names, in the same order.
-    fn are_those_of(&self, others: &Names) -> bool
+    /// Whether those names of each sort begin with these, in the same order.
+    fn are_first_of(&self, others: &Names) -> bool
         ensures { IsTrue result → HasAll others.now self.now }
     {
-        self.threads.are_those_of(&others.threads)
-            && self.locks.are_those_of(&others.locks)
-            && self.sites.are_those_of(&others.sites)
+        self.threads.are_first_of(&others.threads)
+            && self.locks.are_first_of(&others.locks)
+            && self.sites.are_first_of(&others.sites)
+    }
+
+    /// Adds those names of each sort that stand behind as many as these, until memory is refused.
+    fn add_rest(&mut self, others: &Names)
+        ensures { HasAll others.now self.old → HasAll others.now self.new }
+    {
+        self.threads.add_rest(&others.threads);
+        self.locks.add_rest(&others.locks);
+        self.sites.add_rest(&others.sites);
     }
 
     /// Whether these names are few and have all appeared in those.

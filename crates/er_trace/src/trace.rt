@@ -197,8 +197,8 @@ impl Trace {
     }
 
     /// Forgets the steps, their lines and sites, and keeps the room for as many steps. If those names are few, its own become a copy of them,
-    /// with the same numbers. Otherwise it keeps its names if they are few and have all appeared in those, and else forgets them. It does so
-    /// too if memory is refused. Where they don't stay, names are hashed by these keys from then on.
+    /// with the same numbers, or of the first of them if memory is refused. Otherwise it keeps its names if they are few and have all appeared in
+    /// those, and else forgets them. Where they don't stay, names are hashed by these keys from then on.
     pub fn restart(&mut self, others: &Names, alloc: Global, keys: NameKeys)
         ensures empty { self.new ≡ record no_steps { names = self.new.names } }
         ensures known { HasAll others.now self.new.names }

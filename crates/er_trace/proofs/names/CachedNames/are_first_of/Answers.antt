@@ -3,7 +3,7 @@ use Rattle.er_trace.specs.Names.{is_known}
 use Rattle.er_trace.specs.Inner.Recent.{Knows}
 use Rattle.er_trace.proofs.NamesLemmas.{with_known}
 use Rattle.er_trace.proofs.RenumberingLemmas.{names_on}
-use Rattle.er_trace.proofs.names.CachedNames.are_those_of.Goals as goal
+use Rattle.er_trace.proofs.names.CachedNames.are_first_of.Goals as goal
 
 pub loop-at-preserved : goal.loop-at-preserved
 loop-at-preserved c =
