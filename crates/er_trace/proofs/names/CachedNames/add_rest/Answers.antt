@@ -1,4 +1,4 @@
-use Rattle.std.proofs.Common.{◌≡◌, ℕ, List, Some, slice_get, subst, sym, ap, ◌∙◌}
+use Rattle.std.proofs.Common.{◌≡◌, ℕ, List, Some, slice_get, subst, ap, ◌∙◌}
 use Rattle.er_trace.specs.Appended.{with_names}
 use Rattle.er_trace.proofs.RenumberingLemmas.{known_there, nothing_on}
 use Rattle.er_trace.proofs.names.CachedNames.add_rest.Goals as goal
