@@ -37,7 +37,7 @@ use Rattle.er_text.specs.Verbs.{has_levels}
 use Rattle.er_text.specs.Inner.Parsing.{parsed_of}
 use Rattle.er_text.specs.Inner.Idle.{last_actor, other_thread, without_idle, order_fault, waits_for, is_known_name}
 use Rattle.er_text.specs.Inner.Traces.{Progress, past_event, add_event, add_parsed, closed, read_words, plain_at}
-use Rattle.er_text.specs.Inner.FastPath.{IsLeadingName, AreLeadingDigits, IsLeadingAddress, IsFastAccess, IsFastLockEvent, IsFastShow, IsFastReuse, IsFastOperation, IsFastLevel, IsFastAlone, IsFastLine, lock_word, rare_word}
+use Rattle.er_text.specs.Inner.FastPath.{IsLeadingName, AreLeadingDigits, IsLeadingAddress, IsFastAccess, IsFastLockEvent, IsFastReuse, IsFastOperation, IsFastLevel, IsFastAlone, IsFastLine, lock_word, rare_word}
 use Rattle.er_lines.proofs.ByteLemmas.{name_ascii, site_ascii}
 use Rattle.er_lines.proofs.SaidLemmas.{number_found}
 use Rattle.er_text.proofs.SiteLemmas.{site_parts}
@@ -218,18 +218,17 @@ unlock_tells v m bytes rest operation ascii whole named told =
       one = λ line thread r. last_added r.steps _;
     })
 
-show_tells : (v : Version) (bytes rest : List ℕ) (operation : Operation) → list_all is_ascii bytes ≡ list_all is_ascii rest → words bytes ≡ codes "show" ∷ words rest
-    → IsFastShow rest operation → IsFastOperation v bytes operation
-show_tells v bytes rest operation ascii whole shown =
-    let led = shown.1 in
-    let hex = hex_word led.digits shown.0 led.len led.front led.some in
+show_tells : (v : Version) (bytes rest : List ℕ) (n : ℕ) → list_all is_ascii bytes ≡ list_all is_ascii rest → words bytes ≡ codes "show" ∷ words rest
+    → IsLeadingAddress rest n [] → IsFastOperation v bytes (Shows (n / 4))
+show_tells v bytes rest n ascii whole led =
+    let hex = hex_word led.digits n led.len led.front led.some in
     let address = 48 ∷ 120 ∷ take led.len led.digits in
     let alone = addressed rest led.digits [] led.len led.is led.behind ∙ append-nil address in
-    subst (IsFastOperation v bytes) (sym shown.2) (record {
+    record {
       ascii = ascii ∙ ap (list_all is_ascii) alone ∙ hex.ascii;
       says = λ thread. (
         address,
-        shown.0,
+        n,
         ap (λ (w : List (List ℕ)). thread ∷ w) (whole ∙ ap (λ (w : List (List ℕ)). codes "show" ∷ w) (ap words alone ∙ word_alone address hex.gapless refl)),
         hex.number,
         led.front.small,
@@ -237,7 +236,7 @@ show_tells v bytes rest operation ascii whole shown =
       );
       alone = refl;
       one = λ line thread r. last_added r.steps _;
-    })
+    }
 
 -- the step of the last page
 last_part : (line thread : ℕ) (s : Span) (r : Recording) (n : ℕ) → 0 < n → last_actor (with_reuses r line thread 0 (parts_below s n)).steps ≡ Some thread
@@ -347,15 +346,12 @@ address_alone : (bytes : List ℕ) (value : ℕ) (rest : List ℕ) → IsLeading
 address_alone bytes value [] led none = led
 address_alone bytes value (byte ∷ rest) led none = absurd (omega (arith, none))
 
--- that of a show, and that of a reuse
-show_led : (v : Version) (bytes rest : List ℕ) (operation : Operation) → bytes ≡ rare_word rare.Show ++ 32 ∷ rest → IsFastShow rest operation → IsFastOperation v bytes operation
-show_led v bytes rest operation is a = show_tells v bytes rest operation (ap (list_all is_ascii) is) (ap words is) a
-
+-- a show, and a reuse
 pub show_alone : (v : Version) (bytes rest : List ℕ) (n : ℕ) (after : List ℕ) → bytes ≡ rare_word rare.Show ++ 32 ∷ rest → IsLeadingAddress rest n after → length after < 1 → IsFastAlone v bytes (event.Show (n / 4))
 show_alone v bytes rest n after is led none =
     record {
       operation = Shows (n / 4);
-      fast = show_led v bytes rest (Shows (n / 4)) is (n, address_alone rest n after led none, refl);
+      fast = show_tells v bytes rest n (ap (list_all is_ascii) is) (ap words is) (address_alone rest n after led none);
       adds = λ line thread r. refl;
       named = λ names. tt;
     }

@@ -1,7 +1,8 @@
-//! Event lines in their usual form, read in one pass over their bytes: a name, `read` or `write`, an address of at most 12
-//! hexadecimal digits and perhaps a site, or a name, `lock`, `unlock`, `rlock` or `runlock`, and a lock, or a name, `show` and an address, or
-//! a name, `reuse`, an address and a size, or a name, `level` and a number, or a name and a bracket, with one space between any two of them. What
-//! a site may be depends on the version of the text.
+//! Event lines in their usual form, read in one pass over their bytes. One space stands between any two parts of a line:
+//! - a name, `read` or `write`, an address of at most 12 hexadecimal digits, and perhaps a site that the version of the text allows
+//! - a name, `lock`, `unlock`, `rlock` or `runlock`, and a lock
+//! - a name, `show` and such an address, or `reuse`, such an address and a size, or `level` and a number
+//! - a name, and `ignore-on` or `ignore-off`
 //!
 //! The steps are those of `parsing` and `adding`, in less than half the time. A line of any other form, or of a new thread, is left to
 //! `parsing`. A name that is found among the recent ones of the trace needs no look at its bytes.
@@ -72,7 +73,7 @@ fn leading_lock_verb(bytes: &[u8]) -> Option<(bool, Mode, &[u8])>
 }
 
 /// A verb that few lines have, and that one operand or two follow.
-#[derive(Clone, Copy, PartialEq, Eq)]
+#[derive(Clone, Copy)]
 pub(crate) enum Rare {
     Show,
     Reuse,
@@ -91,8 +92,8 @@ fn leading_rare_verb(bytes: &[u8]) -> Option<(Rare, &[u8])>
     }
 }
 
-/// The thread whose name is known and stands in front of one space, and what follows that. Most are found by a look at eight bytes. With `rare` no other
-/// is looked for, since each look was made before.
+/// The thread whose name is known and stands in front of one space, and what follows that. The recent names are tried first, by a look at eight bytes.
+/// With `rare` only these are tried: the other names were tried before, and to hash this one again takes longer than to leave the line to the parser.
 #[inline(always)]
 fn leading_thread<'a>(
     trace: &mut Trace,
@@ -105,8 +106,11 @@ fn leading_thread<'a>(
     if let Some(led) = trace.leading_thread(bytes) {
         return Some(led);
     }
+    if rare {
+        return None;
+    }
     let (word, rest) = split_at_space(bytes);
-    if rare || rest.is_empty() {
+    if rest.is_empty() {
         return None;
     }
     let thread = trace.names().known_thread(name_of(word)?)?;
@@ -203,16 +207,13 @@ fn whole_range(bytes: &[u8]) -> Option<WordRange>
         return None;
     };
     match number(size) {
-        Ok(count) if is_name(size) => match range_of(address, count) {
-            Ok(range) => range,
-            Err(_) => None,
-        },
+        Ok(count) if is_name(size) => range_of(address, count).ok()?,
         _ => None,
     }
 }
 
 /// The level that a word writes, if it writes one.
-fn level_in(word: &[u8]) -> Option<Level>
+fn whole_level(word: &[u8]) -> Option<Level>
     ensures { IfSome result (λ level. IsFastLevel word.now level) }
 {
     match number(word) {
@@ -236,7 +237,7 @@ fn lone_event(version: Version, bytes: &[u8]) -> Option<Event>
             (address, []) => Some(Event::Show(Word::new(address / Word::BYTES))),
             _ => None,
         },
-        (Rare::Level, rest) if version.has_levels() => Some(Event::Level(level_in(rest)?)),
+        (Rare::Level, rest) if version.has_levels() => Some(Event::Level(whole_level(rest)?)),
         _ => None,
     }
 }
@@ -402,7 +403,7 @@ fn add_usual_operation(
 }
 
 /// Adds the steps of a line of 8 bytes and more in its usual form, if its thread is known, and says whether it did. Another line adds nothing.
-/// Those four kinds of lines are for a call of their own, with `rare`: if both answers met, each line would be asked which one it has.
+/// With `rare` it reads shows, reuses, levels and brackets, else accesses and lock events. One call for both took 15 to 20 instructions more a line.
 ///
 /// It makes no value of an enum with names in it: such a value is copied in pieces that are wider than its parts, and each copy
 /// waits until the parts are written.

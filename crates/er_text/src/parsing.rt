@@ -55,13 +55,12 @@ impl<'a> ParsedLine<'a> {
 pub(crate) fn version_of(words: &Words<'_>) -> Option<Version>
     ensures { result ≡ version_of words.now.first.now words.now.second.now words.now.third.now words.now.fourth.now }
 {
-    if words.first != b"eraser".as_slice() || words.second != b"trace".as_slice() {
-        return None;
-    }
+    let begins = words.first == b"eraser".as_slice() && words.second == b"trace".as_slice();
     match words.third {
-        b"1" if words.fourth.is_empty() => Some(Version::One),
-        b"2" if words.fourth.is_empty() => Some(Version::Two),
-        b"3" if words.fourth.is_empty() => Some(Version::Three),
+        _ if !begins || !words.fourth.is_empty() => None,
+        b"1" => Some(Version::One),
+        b"2" => Some(Version::Two),
+        b"3" => Some(Version::Three),
         _ => None,
     }
 }

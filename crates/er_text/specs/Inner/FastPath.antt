@@ -17,7 +17,7 @@ use Rattle.er_lines.specs.Naming.{is_name, is_lock_name}
 use Rattle.er_lines.specs.Words.{number_in}
 use Rattle.er_trace.specs.Trace.{Recording, HasNames, with_lock_name, with_step}
 use Rattle.er_trace.specs.Names.{NameTable, is_known, number_of as place_of}
-use Rattle.er_text.specs.Events.{Operation, Acquires, Releases, Accesses, Reuses, Shows, EventLine, site_number, with_site_of, with_operation, with_line}
+use Rattle.er_text.specs.Events.{Operation, Acquires, Releases, Accesses, Reuses, EventLine, site_number, with_site_of, with_operation, with_line}
 use Rattle.er_text.specs.Trace.{IsSite, IsOperation, Says, acquire_word, release_word}
 use Rattle.er_text.specs.Inner.Idle.{other_thread, last_actor}
 use Rattle.er_text.specs.Inner.Parsing.{level_in, run_in}
@@ -88,10 +88,6 @@ abbrev pub rare_word : Rare → List ℕ
 rare_word rare.Show = codes "show"
 rare_word rare.Reuse = codes "reuse"
 rare_word rare.Level = codes "level"
-
--- behind the verb of a show
-abbrev pub IsFastShow : List ℕ → Operation → Type 0
-IsFastShow bytes operation = (n : ℕ) × IsLeadingAddress bytes n [] × (operation ≡ Shows (n / 4))
 
 -- behind the verb of a reuse: an address and a size, and not of nothing
 pub record IsFastReuse (bytes : List ℕ) (operation : Operation) : Type 0 where

@@ -14,6 +14,6 @@ returns-in_default-empty c =
     let led = c.in_ok-address-in-Show-default in
     rw c.new.ensures (show_alone c.args.version c.args.bytes.now c.in_ok-rest.field-0.1.now led.field-0.0 led.field-0.1.now (rw c.in-Show-default.is-0 at c.in_ok-rest.ensures) led.ensures c.in_default-empty.len_below)
 
-pub returns-in_ok-level_in-in-Level-default : goal.returns-in_ok-level_in-in-Level-default
-returns-in_ok-level_in-in-Level-default c =
-    level_alone c.args.version c.args.bytes.now c.in_ok-rest.field-0.1.now c.in_ok-level_in-in-Level-default.field-0 (rw c.in-Level-default.is-0 at c.in_ok-rest.ensures) (sym c.if-has_levels.ensures) c.in_ok-level_in-in-Level-default.ensures
+pub returns-in_ok-whole_level-in-Level-default : goal.returns-in_ok-whole_level-in-Level-default
+returns-in_ok-whole_level-in-Level-default c =
+    level_alone c.args.version c.args.bytes.now c.in_ok-rest.field-0.1.now c.in_ok-whole_level-in-Level-default.field-0 (rw c.in-Level-default.is-0 at c.in_ok-rest.ensures) (sym c.if-has_levels.ensures) c.in_ok-whole_level-in-Level-default.ensures
