@@ -19,11 +19,6 @@ pub err_from : {T E : Type 0} (r : Result T E) (G P : E → Type 0) → IsErrAnd
 err_from (Ok v) G P is f = tt
 err_from (Err e) G P is f = f e is
 
--- and what it is
-pub err_is : {T E : Type 0} (r : Result T E) (G : E → Type 0) (why : E) → IsErrAnd r G → ((e : E) → G e → e ≡ why) → r ≡ Err why
-err_is (Ok v) G why is f = absurd is
-err_is (Err e) G why is f = ap Err (f e is)
-
 -- what is written is what was there
 pub holding_rewritten : (threads more : List (ℕ × Holdings)) (thread : ℕ) (h : Holdings) → h ≡ holding_among threads thread →
     ((q : ℕ) → lookup (eqb q) more ≡ cond (eqb thread q) (Some h) (lookup (eqb q) threads)) →

@@ -238,7 +238,7 @@ impl<S: Store> MachineIn<S> {
             }
             Event::Show(_) => (Ok(Brief::Shown), false),
             Event::Sync(_) => (Ok(Brief::Done), false),
-            // Each is named, so that it is asked only once which event it is.
+            // An acquire and a release are built again, so that the compiler knows which event `change` gets, and tests for it only once.
             Event::Acquire(lock, mode) => {
                 brief_of(self.threads.change(thread, Event::Acquire(lock, mode)))
             }
@@ -330,7 +330,7 @@ impl<S: Store> MachineIn<S> {
     }
 }
 
-// What is answered in brief to a step that changed its thread's holdings so. No word is changed.
+// The answer in brief to a change of a thread's holdings, and that no word has changed.
 #[inline(always)]
 fn brief_of(done: Result<(), Refusal>) -> (Result<Brief, Refusal>, bool)
     ensures { MatchResult done (λ _. result ≡ (Ok Brief.Done, false)) (λ why. result ≡ (Err why, false)) }

@@ -88,7 +88,7 @@ impl Threads {
         }
     }
 
-    // The same of a thread that has no place. Apart, so that no step of another thread makes room for holdings.
+    // The same of a thread without a place. Apart, so that `change` keeps no room on the stack for new holdings.
     #[inline(never)]
     fn change_first(&mut self, thread: ThreadId, event: Event) -> Result<(), Refusal>
         requires change { IsTrue (changes_holdings event) }
