@@ -59,7 +59,7 @@ pub fn is_plain(answer: &Result<Reply, Refusal>) -> bool
 
 // Whether a step that is answered so needs no line.
 #[inline(always)]
-fn is_brief(answer: Result<Brief, Refusal>) -> bool
+fn needs_no_line(answer: Result<Brief, Refusal>) -> bool
     ensures plain { IsTrue result → (states : ℕ → WordStates) (event : Events) → is_plain (in_full states event answer) ≡ true }
     ensures room { IsTrue result → IsFalse (found_no_room answer) }
 {
@@ -73,7 +73,7 @@ fn says_nothing(explains: bool, answer: Result<Brief, Refusal>, changed: bool) -
     ensures room { IsTrue result → IsFalse (found_no_room answer) }
     ensures keeps { IsTrue result → explains ≡ true → changed ≡ false }
 {
-    is_brief(answer) && !(explains && changed)
+    needs_no_line(answer) && !(explains && changed)
 }
 
 // Adds `plain` steps at once that the report has no line for, and then the next step, which has none either, but which reasons may want. If they are wanted
@@ -153,7 +153,7 @@ fn answer_steps(
         let (brief, changed) = machine.take(&(), *step);
         if says_nothing(explains, brief, changed) {
             plain += 1;
-        } else if is_brief(brief) {
+        } else if needs_no_line(brief) {
             let cover = cover_in(machine.held(step.thread), step.event);
             add_reason(builder, plain, trace.lines()[k], step, cover)?;
             plain = 0;

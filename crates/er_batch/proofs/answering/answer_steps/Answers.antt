@@ -17,7 +17,7 @@ use Rattle.er_batch.proofs.LagLemmas.{come-plain, come-told, lags-end}
 use Rattle.er_batch.proofs.BatchLemmas.{number-behind, site-behind}
 use Rattle.er_batch.proofs.StepLemmas.{answer-here, covers-end, step-at}
 use Rattle.er_batch.proofs.answering.answer_steps.Goals as goal
-use Rattle.er_batch.proofs.answering.answer_steps.Goals.{then-says_nothing, else-says_nothing+then-is_brief+in_ok-add_reason, else-says_nothing+else-is_brief+in_default+in_ok-added}
+use Rattle.er_batch.proofs.answering.answer_steps.Goals.{then-says_nothing, else-says_nothing+then-needs_no_line+in_ok-add_reason, else-says_nothing+else-needs_no_line+in_default+in_ok-added}
 
 pub returns-in-Some-clause-run : goal.returns-in-Some-clause-run
 returns-in-Some-clause-run c = λ past lines sites long each before.
@@ -72,7 +72,7 @@ loop-k-preserved c =
             c.take-brief.ensures.unchanged (take at r.steps) (stands (take at r.steps) come.stands) room
             (c.says_nothing.ensures.keeps w.if-says_nothing.true (c.explains-explains.ensures ∙ sym c.loop-k.invariant.explains ∙ wanted)))));
       }
-      | else-says_nothing+then-is_brief+in_ok-add_reason w ↦ record {
+      | else-says_nothing+then-needs_no_line+in_ok-add_reason w ↦ record {
         steps = rw (w.builder-is, w.plain-is) (let so_far = c.loop-k.invariant.steps in let added = w.in_ok-add_reason.ensures.steps in omega arith);
         rules = rw w.builder-is (w.in_ok-add_reason.ensures.rules ∙ c.loop-k.invariant.rules);
         explains = rw w.builder-is (w.in_ok-add_reason.ensures.explains ∙ c.loop-k.invariant.explains);
@@ -80,11 +80,11 @@ loop-k-preserved c =
             let r : Recording = joined past lines sites c.args.trace.now in
             let at : ℕ = length past + k in
             let come : HasComeTo c.loop-k.machine c.loop-k.builder r at c.loop-k.plain = c.loop-k.invariant.run past lines sites long each before in
-            let room = w.is_brief.ensures.room w.if-is_brief.true in
+            let room = w.needs_no_line.ensures.room w.if-needs_no_line.true in
             let now = states c.take-brief.new.self in
             let behind : Stands c.take-brief.new.self (take at r.steps ++ step ∷ []) = next room (take at r.steps) come.stands in
             let line = ap (λ (numbers : List ℕ). slice_index numbers k) w.lines.ensures.value ∙ number-behind lines c.args.trace.now.lines (length past) k long in
-            let plain = ap is_plain (sym (answer-here r.steps at step (here past)) ∙ sym (answered room (take at r.steps) come.stands)) ∙ w.is_brief.ensures.plain w.if-is_brief.true now step.event in
+            let plain = ap is_plain (sym (answer-here r.steps at step (here past)) ∙ sym (answered room (take at r.steps) come.stands)) ∙ w.needs_no_line.ensures.plain w.if-needs_no_line.true now step.event in
             let reported : IsReported w.add_reason.new.builder r (at + 1) =
             w.in_ok-add_reason.ensures.reported r at come.lags (here past) line plain
             (λ _. w.cover_in-cover.ensures ∙ ap (λ (h : Holdings). cover_by h step.event) (w.held.ensures.past (take at r.steps ++ step ∷ []) behind) ∙ covers-end r.steps at step (here past)) in
@@ -93,7 +93,7 @@ loop-k-preserved c =
             (subst (λ (n : ℕ). HasComeTo c.take-brief.new.self w.add_reason.new.builder r n 0) one
             (come-told c.loop-k.machine c.take-brief.new.self r at c.loop-k.plain step (here past) behind w.add_reason.new.builder reported));
       }
-      | else-says_nothing+else-is_brief+in_default+in_ok-added w ↦ record {
+      | else-says_nothing+else-needs_no_line+in_default+in_ok-added w ↦ record {
         steps = rw (w.builder-is, w.plain-is) (let so_far = c.loop-k.invariant.steps in let added = w.in_ok-added.ensures.steps in omega arith);
         rules = rw w.builder-is (w.in_ok-added.ensures.rules ∙ c.loop-k.invariant.rules);
         explains = rw w.builder-is (w.in_ok-added.ensures.explains ∙ c.loop-k.invariant.explains);
@@ -105,14 +105,14 @@ loop-k-preserved c =
             brief-room (states c.take-brief.new.self) step.event c.take-brief.result.0 w.in_full-answer.result w.in_full-answer.ensures w.in_default.ensures in
             let whole_answer = whole (states c.take-brief.new.self) step.event c.take-brief.result.0 w.in_full-answer.result w.in_full-answer.ensures w.in_default.ensures in
             let behind : Stands c.take-brief.new.self (take at r.steps ++ step ∷ []) = next room (take at r.steps) come.stands in
-            let line = ap (λ (numbers : List ℕ). slice_index numbers k) w.lines-else-is_brief.ensures.value ∙ number-behind lines c.args.trace.now.lines (length past) k long in
+            let line = ap (λ (numbers : List ℕ). slice_index numbers k) w.lines-else-needs_no_line.ensures.value ∙ number-behind lines c.args.trace.now.lines (length past) k long in
             let inside : k < length w.sites.result.now = rw (w.sites.ensures.value, w.sites.ensures.one_per_step) (rw c.steps-steps.ensures.value at c.loop-k-test.true) in
             let site = site-behind w.sites.result.now sites c.args.trace.now.sites (length past) k w.index-sites-k.result w.sites.ensures.value each inside w.index-sites-k.is in
             let reported : IsReported w.add_behind-added.new.builder r (at + 1) =
             w.in_ok-added.ensures.reported r at come.lags
             (step-at r at _ _ _ step w.in_full-answer.result _ (here past) line site c.names-names.ensures (whole_answer ∙ answered room (take at r.steps) come.stands)
             (w.held-held.ensures.locks ∙ ap (λ (h : Holdings). h.held) (w.held-holder.ensures.past (take at r.steps ++ step ∷ []) behind)))
-            (λ _. w.cover_in-cover-else-is_brief.ensures ∙ ap (λ (h : Holdings). cover_by h step.event) (w.held-holder.ensures.past (take at r.steps ++ step ∷ []) behind) ∙ covers-end r.steps at step (here past)) in
+            (λ _. w.cover_in-cover-else-needs_no_line.ensures ∙ ap (λ (h : Holdings). cover_by h step.event) (w.held-holder.ensures.past (take at r.steps ++ step ∷ []) behind) ∙ covers-end r.steps at step (here past)) in
             let one : at + 1 ≡ length past + (k + 1) = omega arith in
             rw (w.builder-is, w.plain-is)
             (subst (λ (n : ℕ). HasComeTo c.take-brief.new.self w.add_behind-added.new.builder r n 0) one
