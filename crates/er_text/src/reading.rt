@@ -118,8 +118,8 @@ impl Header {
         }
     }
 
-    /// Reads a line behind the header if it has its usual form, and says whether it did. With `rare` it reads a show, a reuse, a level or a bracket, of
-    /// a thread among the recent names. Without, it reads an access or a lock event.
+    /// Reads a line behind the header if it has its usual form and its thread is known, and says whether it did. With `rare` it reads a show, a reuse,
+    /// a level or a bracket, and its thread must be among the recent names. Without, it reads an access or a lock event.
     #[inline(always)]
     fn read_usual(
         &mut self,
@@ -143,7 +143,7 @@ impl Header {
         Ok(true)
     }
 
-    /// Reads a line in the limits that isn't an access or a lock event in its usual form. Apart, so that none of these makes room for it.
+    /// Reads a line in the limits that `read_usual` didn't take without `rare`. It is a call of its own, as `add_usual` says.
     #[inline(never)]
     fn read_other(&mut self, trace: &mut Trace, line: u64, bytes: &[u8]) -> Done
         ensures read { Reads line (at_line (line + 1) self.new.stage self.new.idle trace.new) result (plain_at (at_line line self.old.stage self.old.idle trace.old) line bytes.now) }
