@@ -83,13 +83,6 @@ fit_behind names reader (p ∷ ps) before room all whole bound small =
           (All-tail IsWhole p ps whole) (omega (arith, few, bound)) small,
     )
 
--- one piece is numbered after another
-pub numbered_append : (ps qs vs ws : List ReadPiece) → AreNumbered ps vs → AreNumbered qs ws → AreNumbered (ps ++ qs) (vs ++ ws)
-numbered_append [] qs [] ws first second = second
-numbered_append [] qs (v ∷ vs) ws first second = absurd first
-numbered_append (p ∷ ps) qs [] ws first second = absurd first
-numbered_append (p ∷ ps) qs (v ∷ vs) ws first second = (first.0, numbered_append ps qs vs ws first.1 second)
-
 -- steps that have names have them once those of the pieces have appeared
 behind_named : (names : NameTable) (ps : List ReadPiece) (steps : List Step) → All (IsNamed names) steps → All (IsNamed (names_behind names ps)) steps
 behind_named names [] steps named = named

@@ -1,5 +1,5 @@
 -- Pieces behind others.
-use Rattle.std.proofs.Common.{◌≡◌, ℕ, ◌+◌, ◌≤◌, List, [], ◌∷◌, ◌++◌, length, take, drop, sym, ap, ◌∙◌, subst, arith}
+use Rattle.std.proofs.Common.{◌≡◌, ℕ, ◌+◌, List, [], ◌∷◌, length, take, drop, sym, ap, ◌∙◌, subst, arith}
 use Rattle.std.proofs.lemmas.List.{take-append-le, drop-append-le, length-append, length-drop}
 use Rattle.std.specs.Prelude.{Result, Ok, Err, OnOk}
 use Rattle.er_trace.proofs.RenumberingLemmas.{still_has_all}
@@ -12,24 +12,8 @@ use Rattle.er_text.specs.declared.verbs.Version.{Version}
 use Rattle.er_lines.specs.Lines.{AreWhole}
 use Rattle.er_text.specs.Pieces.{ReadPiece, IsPieceOf, StandsInFront}
 use Rattle.er_text.specs.Places.{Reached}
-use Rattle.er_reading.specs.Inner.Adding.{StandInFront, first_len}
+use Rattle.er_reading.specs.Inner.Adding.{StandInFront}
 use Rattle.er_reading.specs.Pieces.{ArePiecesOf}
-
-pub pieces_append : (v : Version) (names : NameTable) (a b : List ℕ) (ps qs : List ReadPiece) → ArePiecesOf v names a ps → ArePiecesOf v names b qs → ArePiecesOf v names (a ++ b) (ps ++ qs)
-pieces_append v names a b [] qs first second = subst (λ (c : List ℕ). ArePiecesOf v names (c ++ b) qs) (sym first) second
-pieces_append v names a b (p ∷ ps) qs first second =
-    let front : take p.len (a ++ b) ≡ take p.len a = take-append-le p.len a b first.0 in
-    let back : drop p.len (a ++ b) ≡ drop p.len a ++ b = drop-append-le p.len a b first.0 in (
-      omega (arith, first.0, length-append a b),
-      subst AreWhole (sym front) first.1,
-      subst (λ (c : List ℕ). IsPieceOf v names c p) (sym front) first.2,
-      subst (λ (c : List ℕ). ArePiecesOf v names c (ps ++ qs)) (sym back) (pieces_append v names (drop p.len a) b ps qs first.3 second),
-    )
-
--- if the first piece has bytes, it is the first of all
-pub first_append : (ps qs : List ReadPiece) → 1 ≤ first_len ps → 1 ≤ first_len (ps ++ qs)
-first_append [] qs some = absurd (omega (arith, some))
-first_append (p ∷ ps) qs some = some
 
 -- the first of the pieces in front of a reader
 pub first_in_front : (names : NameTable) (reader : Reached) (p : ReadPiece) (ps : List ReadPiece) → StandInFront names reader (p ∷ ps) → StandsInFront names reader p

@@ -1,10 +1,10 @@
 //! Lines cut into pieces, and each piece read and numbered in a thread of its own.
-ghost use Rattle.std.specs.Prelude.{◌≡◌, ◌+◌, ◌<◌, ◌≤◌, All, length, take, drop};
+ghost use Rattle.std.specs.Prelude.{◌≡◌, ◌≤◌, [], All, length, take, drop};
 ghost use Rattle.std.specs.Thread.{IsSync};
 ghost use Rattle.er_reading.specs.Inner.Adding.{AreNumbered, first_len};
 ghost use Rattle.er_reading.specs.Pieces.{ArePiecesOf};
 ghost use Rattle.er_lines.specs.Lines.{AreWhole};
-ghost use Rattle.er_text.specs.Pieces.{CanBeNumbered};
+ghost use Rattle.er_text.specs.Pieces.{CanBeNumbered, IsNumbered, IsPieceOf};
 
 use er_text::{Piece, Version};
 use er_trace::Names;
@@ -27,6 +27,9 @@ fn front_len(bytes: &[u8], least: usize) -> usize
 }
 
 /// Reads whole lines behind these names into so many pieces of about the same size, each in a thread of its own if one can be started.
+///
+/// The caller reads none and waits. A system may give a new thread the processor of the thread that started it, and leave it waiting there while other
+/// processors are idle.
 pub(crate) fn read_pieces<R: Threads + Sync>(
     rt: &R,
     version: Version,
@@ -34,56 +37,45 @@ pub(crate) fn read_pieces<R: Threads + Sync>(
     bytes: &[u8],
     pieces: &mut [Piece],
 )
-    requires some { (1 ≤ length pieces.old) × (length pieces.old ≤ 16) }
+    requires some { pieces.old ≡ [] → bytes.now ≡ [] }
     requires whole { AreWhole bytes.now }
     ensures pieces { ArePiecesOf version names.now bytes.now pieces.new }
     ensures first { 1 ≤ length bytes.now → 1 ≤ first_len pieces.new }
 {
     let count = pieces.len();
-    if count == 1 {
-        pieces[0].read(version, names, bytes);
+    let Some((first, others)) = pieces.split_first_mut() else {
         return;
-    }
-    let half = count / 2;
-    let (front, back) = bytes.split_at(front_len(bytes, bytes.len() / count * half));
-    let (first, second) = pieces.split_at_mut(half);
+    };
+    let (front, back) = bytes.split_at(front_len(bytes, bytes.len() / count));
     join_mut(
         rt,
         &mut ||
-            requires { IsSync R.row × (1 ≤ length first.now) × (length first.now ≤ 16) × AreWhole front.now }
-            ensures pieces { ArePiecesOf version names.entry.now front.entry.now first.exit.now }
-            ensures first { 1 ≤ length front.entry.now → 1 ≤ first_len first.exit.now }
-        { read_pieces(rt, version, names, front, first) },
+            ensures { IsPieceOf version names.entry.now front.entry.now first.exit.now }
+        { first.read(version, names, front) },
         &mut ||
-            requires { IsSync R.row × (1 ≤ length second.now) × (length second.now ≤ 16) × AreWhole back.now }
-            ensures { ArePiecesOf version names.entry.now back.entry.now second.exit.now }
-        { read_pieces(rt, version, names, back, second) },
+            requires { IsSync R.row × (others.now ≡ [] → back.now ≡ []) × AreWhole back.now }
+            ensures { ArePiecesOf version names.entry.now back.entry.now others.exit.now }
+        { read_pieces(rt, version, names, back, others) },
     );
 }
 
-/// Gives the steps of these pieces their numbers, each in a thread of its own if one can be started.
+/// Gives the steps of these pieces their numbers, each in a thread of its own if one can be started. The caller waits.
 pub(crate) fn number_pieces<R: Threads + Sync>(rt: &R, pieces: &mut [Piece])
     requires { All CanBeNumbered pieces.old }
     ensures { AreNumbered pieces.old pieces.new }
 {
-    let count = pieces.len();
-    if count == 0 {
+    let Some((first, others)) = pieces.split_first_mut() else {
         return;
-    }
-    if count == 1 {
-        pieces[0].number();
-        return;
-    }
-    let (first, second) = pieces.split_at_mut(count / 2);
+    };
     join_mut(
         rt,
         &mut ||
-            requires { IsSync R.row × All CanBeNumbered first.now }
-            ensures { AreNumbered first.entry.now first.exit.now }
-        { number_pieces(rt, first) },
+            requires { CanBeNumbered first.now }
+            ensures { IsNumbered first.entry.now first.exit.now }
+        { first.number() },
         &mut ||
-            requires { IsSync R.row × All CanBeNumbered second.now }
-            ensures { AreNumbered second.entry.now second.exit.now }
-        { number_pieces(rt, second) },
+            requires { IsSync R.row × All CanBeNumbered others.now }
+            ensures { AreNumbered others.entry.now others.exit.now }
+        { number_pieces(rt, others) },
     );
 }
