@@ -59,7 +59,8 @@ pub(crate) fn read_pieces<R: Threads + Sync>(
     );
 }
 
-/// Gives the steps of these pieces their numbers, each in a thread of its own if one can be started. The caller waits.
+/// Gives the steps of these pieces their numbers, each in a thread of its own if one can be started. The caller waits, but counts the lines of a piece
+/// whose names have their numbers already.
 pub(crate) fn number_pieces<R: Threads + Sync>(rt: &R, pieces: &mut [Piece])
     requires { All CanBeNumbered pieces.old }
     ensures { AreNumbered pieces.old pieces.new }
@@ -67,6 +68,11 @@ pub(crate) fn number_pieces<R: Threads + Sync>(rt: &R, pieces: &mut [Piece])
     let Some((first, others)) = pieces.split_first_mut() else {
         return;
     };
+    if first.has_its_numbers() {
+        first.number();
+        number_pieces(rt, others);
+        return;
+    }
     join_mut(
         rt,
         &mut ||
