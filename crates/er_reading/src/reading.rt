@@ -49,17 +49,21 @@ pub struct PieceReader {
     lines: TraceReader,
     pieces: Vec<Piece>,
     is_alone: bool,
+    // Whether the window was filled behind the last batch.
+    is_filled: bool,
 }
 
 impl Model for PieceReader {
-    ghost use Rattle.std.specs.Prelude.{◌≤◌, length};
+    ghost use Rattle.std.specs.Prelude.{◌+◌, ◌≤◌, length};
+    ghost use Rattle.er_lines.specs.Lending.{taken_by};
+    ghost use Rattle.er_lines.specs.Lines.{bytes_past_limit};
     ghost use Rattle.er_text.specs.Places.{Reached};
 
     ghost Value = { Reached };
 
     ghost view = { λ r. r.lines };
 
-    ghost invariant = { λ r. (1 ≤ length r.pieces.items) × (length r.pieces.items ≤ 16) };
+    ghost invariant = { λ r. (1 ≤ length r.pieces.items) × (length r.pieces.items ≤ 16) × (r.lines.place.start ≤ r.lines.place.limit) × (taken_by r.lines.place ≤ r.lines.place.limit + bytes_past_limit) };
 }
 
 impl PieceReader {
@@ -95,6 +99,7 @@ impl PieceReader {
             lines,
             pieces,
             is_alone,
+            is_filled: false,
         })
     }
 
@@ -145,8 +150,14 @@ impl PieceReader {
             };
             return self.lines.next_batch(reader, shortcut, trace, most_lines);
         }
-        self.lines.fill(reader, shortcut)?;
-        if add_ahead(rt, &mut self.lines, trace, self.pieces.as_mut_slice())? {
+        if !self.is_filled {
+            self.lines.fill(reader, shortcut)?;
+        }
+        let all = add_ahead(rt, &mut self.lines, trace, self.pieces.as_mut_slice())?;
+        self.is_filled = all;
+        if all {
+            // The next bytes are read while others still answer the last batch, and so the next call starts its threads at once.
+            self.lines.fill(reader, shortcut)?;
             return Ok(Batch::More);
         }
         let most_lines = if self.lines.lines_before() == 1 {
