@@ -72,7 +72,7 @@ fn add_numbered(lines: &mut TraceReader, trace: &mut Trace, pieces: &mut [Piece]
 }
 
 /// Reads the whole lines that were read ahead into these pieces, by several threads, and adds what they say. Their names are added one piece after
-/// another, and then each thread gives the steps of some of them their numbers. Says whether it came to the end of the lines: it doesn't if they are
+/// another, and steps that need other numbers get them, each piece in a thread. Says whether it came to the end of the lines: it doesn't if they are
 /// too few to be worth it, or some of them can't be read apart. Then the first piece of which not all was read is still in front.
 pub(crate) fn add_ahead<R: Threads + Sync>(
     rt: &R,

@@ -59,8 +59,8 @@ pub(crate) fn read_pieces<R: Threads + Sync>(
     );
 }
 
-/// Gives the steps of these pieces their numbers, each in a thread of its own if one can be started. The caller waits, but counts the lines of a piece
-/// whose names have their numbers already.
+/// Gives the steps of these pieces their numbers, each in a thread of its own if one can be started. The caller waits. If the names of a piece have their
+/// numbers already, it counts the lines of that piece itself.
 pub(crate) fn number_pieces<R: Threads + Sync>(rt: &R, pieces: &mut [Piece])
     requires { All CanBeNumbered pieces.old }
     ensures { AreNumbered pieces.old pieces.new }

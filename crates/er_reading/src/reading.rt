@@ -104,7 +104,8 @@ impl PieceReader {
     }
 
     /// Reads some of the next lines, or those up to the end of the text, and adds their steps to the trace. The shortcut may have
-    /// lines ready. If it has most of them ready, one thread takes them, and none are cut into pieces.
+    /// lines ready. If it has most of them ready, one thread takes them, and none are cut into pieces. Behind lines that were cut into pieces the
+    /// next bytes are read ahead. If that read fails, so does the call.
     ///
     /// A text that ends without a header has a fault at its end. After a fault the reader is not to be called again: nothing is known
     /// of what it would read.
@@ -156,7 +157,7 @@ impl PieceReader {
         let all = add_ahead(rt, &mut self.lines, trace, self.pieces.as_mut_slice())?;
         self.is_filled = all;
         if all {
-            // The next bytes are read while others still answer the last batch, and so the next call starts its threads at once.
+            // By the lockset rule others still answer the last batch meanwhile, and the next call starts its threads at once.
             self.lines.fill(reader, shortcut)?;
             return Ok(Batch::More);
         }
