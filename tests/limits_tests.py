@@ -246,6 +246,15 @@ def workers(record, preloaded):
                         is_right = found == wanted and "r" in notes and notes.count("s") == notes.count("j")
                         record(f"limits: {count} workers without thread {nth}, {len(lines)} lines {last}", is_right, f"{found}, {notes}"[:1000])
 
+        # Each thread of a replay by four but the first, which is the one that answers: also where each piece has names of its own, so that threads number
+        # its steps.
+        named = ["eraser trace 1", *[f"t1 write 0x1000 s{line // 500}" for line in range(80_000)]]
+        for what, lines in ("one name", trace), ("new names", named):
+            for nth in range(2, noting(4, lines, 0)[1].count("s") + 1):
+                found, notes = noting(4, lines, nth)
+                is_right = found == (text_of([totals(lines)]), b"", 0) and "r" in notes and notes.count("s") == notes.count("j")
+                record(f"limits: {what}, 4 workers without thread {nth}", is_right, f"{found}, {notes}"[:1000])
+
 
 # ---- Options with a number
 
