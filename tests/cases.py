@@ -168,7 +168,7 @@ FAULTY = [
     faulty("reuse_of_no_number_at_a_bad_site", text_of("t1 reuse x a \x7f", ORDERED), 2, "bad number"),
     faulty("level_too_high", text_of("t1 level 32", "eraser trace 2"), 2, "level too high"),
     faulty("level_in_text_one", text_of("t1 level 3"), 2, "bad verb"),
-    faulty("level_in_text_one_by_a_known_thread", text_of("t1 write 4", "t1 level 3"), 3, "bad verb"),
+    faulty("level_in_text_one_by_a_known_thread", text_of("t1 write 4; t1 level 3"), 3, "bad verb"),
     *(faulty(f"{verb}_in_text_{word}", text_of(f"t1 {verb} a", f"eraser trace {number}"), 2, "bad verb")
       for verb in ("start", "join", "signal", "await") for word, number in (("one", 1), ("two", 2))),
     *(faulty(f"{verb}_of_nothing", text_of(f"t1 {verb}", ORDERED), 2, "missing operand") for verb in ("start", "join", "signal", "await")),
