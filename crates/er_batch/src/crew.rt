@@ -149,7 +149,40 @@ impl<'r> Analyst for CrewAnalyst<'r> {
 }
 
 // The workers answer these steps while `beside` is called.
+//
+// The thread that is started first does nothing. A system may give it the processor of the thread that starts it, and later wake that one there: so a
+// thread that answers would be interrupted, while other processors are idle.
 fn take_beside<R: Threads + Wait + Sync, B, F: FnMut() -> B>(
+    rt: &R,
+    crew: &mut Crew,
+    steps: &[Step],
+    noting: bool,
+    beside: &mut F,
+) -> (Result<Vec<Unusual>, ReplayFault>, B)
+    requires callable { F.pre beside.old }
+    ensures called { F.step beside.old result.1 beside.new }
+    ensures goes_on { (past : List Steps) → HaveAnswered crew.old past → OnOk result.0 (HaveAnswered crew.new (past ++ steps.now)) }
+    ensures answers { (past : List Steps) → HaveAnswered crew.old past → IfOk result.0 (λ items. AreUnusual past steps.now items.items) }
+    ensures noted { (past : List Steps) → HaveAnswered crew.old past → IsTrue noting → IfOk result.0 (λ items. AreNoted past steps.now items.items) }
+    ensures fault { (past : List Steps) → HaveAnswered crew.old past → IfErr result.0 (λ why. MayFail (past ++ steps.now) why) }
+{
+    let (_, taken) = join_mut(
+        rt,
+        &mut || {},
+        &mut || -> (Result<Vec<Unusual>, ReplayFault>, B)
+            requires { IsSync R.row × F.pre beside.now }
+            ensures called { F.step beside.entry.now result.1 beside.exit.now }
+            ensures goes_on { (past : List Steps) → HaveAnswered crew.entry.now past → OnOk result.0 (HaveAnswered crew.exit.now (past ++ steps.entry.now)) }
+            ensures answers { (past : List Steps) → HaveAnswered crew.entry.now past → IfOk result.0 (λ items. AreUnusual past steps.entry.now items.items) }
+            ensures noted { (past : List Steps) → HaveAnswered crew.entry.now past → IsTrue noting → IfOk result.0 (λ items. AreNoted past steps.entry.now items.items) }
+            ensures fault { (past : List Steps) → HaveAnswered crew.entry.now past → IfErr result.0 (λ why. MayFail (past ++ steps.entry.now) why) }
+        { take_at_once(rt, crew, steps, noting, beside) },
+    );
+    taken
+}
+
+// The same, whichever thread is started first.
+fn take_at_once<R: Threads + Wait + Sync, B, F: FnMut() -> B>(
     rt: &R,
     crew: &mut Crew,
     steps: &[Step],

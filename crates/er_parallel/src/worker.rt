@@ -1,5 +1,5 @@
 //! A worker of a crew: it answers the steps of its shards, and follows what the other steps make of their threads' holdings.
-ghost use Rattle.std.specs.Prelude.{◌≡◌, ◌<◌, ◌%◌, ◌+◌, ◌≤◌, ◌++◌, [], ℕ, false, List, length, slice_get, IsTrue, IsFalse, IsSome, IfOk, OnOk, OnErr, IsErrOf, IfErr, MatchResult, Ok, Err, Some};
+ghost use Rattle.std.specs.Prelude.{◌≡◌, ◌<◌, ◌%◌, ◌+◌, ◌≤◌, ◌++◌, [], ℕ, false, List, drop, length, slice_get, take, IsTrue, IsFalse, IsSome, IfOk, OnOk, OnErr, IsErrOf, IfErr, MatchResult, Ok, Err, Some};
 ghost use Rattle.er_event.specs.declared.steps.Step.{Step as Steps};
 ghost use Rattle.er_parallel.specs.Crews.{HasFollowed};
 ghost use Rattle.er_parallel.specs.Faults.{AsksForSet};
@@ -17,6 +17,9 @@ use er_replay::{Brief, OwnMachine, no_room};
 use std::alloc::{AllocError, Global};
 use std::collections::VecDeque;
 use std::thread::Promise;
+
+/// How many steps a worker copies at a time if it is the only one: those of 8 KiB, which stay in its processor's cache.
+const COPIES: usize = 256;
 
 /// A step whose answer isn't the usual one. The usual answer to an access is `Quiet`, and to any other step `Done`. If changes are
 /// noted, it may also be an access that changed its word's state, with any answer.
@@ -118,7 +121,8 @@ fn answer_all(
     Ok(())
 }
 
-// The same for a worker that is the only one, so that all steps are its own. It looks at none twice, and reads the words of the next few ahead.
+// The same for a worker that is the only one, so that all steps are its own. It copies some of them at a time, since other threads have written them: to
+// copy them waits for fewer of them than to look at one after another.
 fn answer_alone(
     alloc: Global,
     steps: &[Step],
@@ -132,10 +136,52 @@ fn answer_alone(
     ensures done { (past : List Steps) → HasFollowed share.shards share.workers share.worker past machine.old → OnOk result (HasDone past steps.now share found.new.items machine.new) }
     ensures fault { (past : List Steps) → HasFollowed share.shards share.workers share.worker past machine.old → IfErr result (λ fault. MayBeFull (past ++ steps.now) fault) }
 {
-    for at in 0..steps.len() {
-        machine.look_ahead(steps, at);
-        let step = &steps[at];
-        if let Err(cause) = answer_own(alloc, steps, share, at, step, machine, found) {
+    let nothing = Step {
+        thread: ThreadId::new(0),
+        event: Event::IgnoreOn,
+    };
+    let mut copies = [nothing; COPIES];
+    let mut from = 0;
+    while from < steps.len() {
+        let near = copied(&mut copies, &steps[from..]);
+        answer_near(alloc, steps, share, from, near, machine, found)?;
+        from += near.len();
+    }
+    Ok(())
+}
+
+// Copies of the first of these steps, as many as there is room for.
+fn copied<'c>(copies: &'c mut [Step; COPIES], steps: &[Step]) -> &'c [Step]
+    ensures front { result.now ≡ take (length result.now) steps.now }
+    ensures within { length result.now ≤ length steps.now }
+    ensures some { 1 ≤ length steps.now → 1 ≤ length result.now }
+{
+    let count = steps.len().min(COPIES);
+    copies[..count].copy_from_slice(&steps[..count]);
+    &copies[..count]
+}
+
+// Answers the steps of a batch from this position on of which these are copies, and reads the words of the next few ahead.
+fn answer_near(
+    alloc: Global,
+    steps: &[Step],
+    share: Share,
+    from: usize,
+    near: &[Step],
+    machine: &mut OwnMachine,
+    found: &mut VecDeque<Unusual>,
+) -> Result<(), WorkFault>
+    requires share { IsShare share }
+    requires alone { share.workers ≡ 1 }
+    requires within { from + length near.now ≤ length steps.now }
+    requires copied { near.now ≡ take (length near.now) (drop from steps.now) }
+    ensures far { (past : List Steps) → HasCome from past steps.now share found.old.items machine.old → OnOk result (HasCome (from + length near.now) past steps.now share found.new.items machine.new) }
+    ensures fault { (past : List Steps) → HasCome from past steps.now share found.old.items machine.old → IfErr result (λ fault. MayBeFull (past ++ steps.now) fault) }
+{
+    for k in 0..near.len() {
+        machine.look_ahead(near, k);
+        let step = &near[k];
+        if let Err(cause) = answer_own(alloc, steps, share, from + k, step, machine, found) {
             let shard = shard_for(share.shards, step.event);
             return Err(WorkFault { shard, cause });
         }
