@@ -5,7 +5,7 @@ use er_event::{Kind, Word};
 use std::marker::Model;
 
 /// A word and whether an access reads or writes it, in six bytes. Contracts see both.
-#[derive(Drop)]
+#[derive(Clone, Drop)]
 pub(crate) struct BriefAccess {
     high: u16,
     middle: u16,
