@@ -5,7 +5,7 @@ ghost use Rattle.er_event.specs.declared.steps.Reply.TheVariants.{Done};
 
 use crate::accesses::BriefAccess;
 use crate::tickets::{LateTicket, TicketPlace};
-use crate::{BriefReply, KeptTicket};
+use crate::{BriefReply, Ticket};
 use er_event::{Event, Kind, Level, LockId, Mode, PageRange, Site, Sync, Word};
 use std::marker::Model;
 
@@ -76,13 +76,7 @@ impl Call {
 
     /// A counted access.
     #[inline(always)]
-    pub fn counted(
-        kind: Kind,
-        word: Word,
-        site: Site,
-        reply: BriefReply,
-        ticket: KeptTicket,
-    ) -> Call
+    pub fn counted(kind: Kind, word: Word, site: Site, reply: BriefReply, ticket: Ticket) -> Call
         ensures { result ≡ record { event = Event.Access kind word site; reply = reply; ticket = Some ticket } }
     {
         let kept = match ticket.place {
@@ -90,8 +84,7 @@ impl Call {
                 KeptCall::Counted(reply, BriefAccess::new(kind, word), site, number)
             }
             TicketPlace::Apart(mut late) => {
-                let number = late.number;
-                *late = LateTicket { number, site };
+                *late = LateTicket { site, ..*late };
                 KeptCall::Late(reply, BriefAccess::new(kind, word), late)
             }
         };
@@ -126,16 +119,8 @@ impl Call {
             KeptCall::OwnShow(_, word) => Event::Show(*word),
             KeptCall::OwnReuse(_, more, lo) => Event::Reuse(range_of(*lo, u64::from(*more))),
             KeptCall::OwnAccess(_, kind, site, word) => Event::Access(*kind, *word, *site),
-            KeptCall::Counted(_, access, site, _) => Event::Access(
-                access.kind(),
-                access.word(),
-                *site,
-            ),
-            KeptCall::Late(_, access, late) => Event::Access(
-                access.kind(),
-                access.word(),
-                late.site,
-            ),
+            KeptCall::Counted(_, access, site, _) => access.at(*site),
+            KeptCall::Late(_, access, late) => access.at(late.site),
             KeptCall::Reset(high, middle, low, _) => {
                 let middle = u64::from(*middle) * 4_294_967_296 + u64::from(*low);
                 let packed = u64::from(*high) * 281_474_976_710_656 + middle;

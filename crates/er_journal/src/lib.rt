@@ -24,7 +24,7 @@ pub use explanations::{Explanation, Uncovered};
 pub use laws::a_merge_is_legal;
 pub use locks::HeldLocks;
 pub use replies::BriefReply;
-pub use tickets::KeptTicket;
+pub use tickets::Ticket;
 
 mod accesses;
 mod answers;

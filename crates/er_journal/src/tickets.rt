@@ -7,7 +7,7 @@ use std::marker::Model;
 
 /// A ticket, on its way into an entry or a call. It takes four bytes there, or memory of its own that it brings along. Contracts see the number.
 #[derive(Drop)]
-pub struct KeptTicket {
+pub struct Ticket {
     pub(crate) place: TicketPlace,
 }
 
@@ -24,7 +24,7 @@ pub(crate) struct LateTicket {
     pub(crate) site: Site,
 }
 
-impl Model for KeptTicket {
+impl Model for Ticket {
     ghost use Rattle.std.specs.Prelude.{ℕ};
     ghost use Rattle.er_journal.specs.Inner.Tickets.{ticket_of};
 
@@ -33,10 +33,10 @@ impl Model for KeptTicket {
     ghost view = { λ t. ticket_of t.place };
 }
 
-impl KeptTicket {
+impl Ticket {
     /// A ticket with what keeps it. Only one of 2^32 or more takes memory, and can be refused.
     #[inline]
-    pub fn new(alloc: Global, ticket: u64) -> Result<KeptTicket, AllocError>
+    pub fn new(alloc: Global, ticket: u64) -> Result<Ticket, AllocError>
         ensures ticket { IfOk result (λ kept. kept ≡ ticket) }
         ensures free { ticket < 2 ^ 32 → IsOk result }
     {
@@ -46,6 +46,6 @@ impl KeptTicket {
             let (number, site) = (ticket, Site::MISSING);
             TicketPlace::Apart(Box::new(alloc, LateTicket { number, site })?)
         };
-        Ok(KeptTicket { place })
+        Ok(Ticket { place })
     }
 }

@@ -19,7 +19,7 @@ use er_event::{
     Word,
 };
 use er_held::Held;
-use er_journal::{BriefReply, Call, HeldLocks, KeptTicket, Stamp};
+use er_journal::{BriefReply, Call, HeldLocks, Stamp, Ticket};
 use er_shard::ShardIn;
 use er_table::{Grow, Store};
 use std::alloc::{AllocError, Global};
@@ -271,8 +271,8 @@ impl Seat {
         ensures table_full { IsErrOf result NoRoom.TableFull → IsTrue (needs_set (journal_state shard.old.journal word) self.old.thread) }
     {
         self.calls.reserve(1 + calls_to_unwind(&self.held))?;
-        let listed = KeptTicket::new(self.alloc, ticket)?;
-        let entered = KeptTicket::new(self.alloc, ticket)?;
+        let listed = Ticket::new(self.alloc, ticket)?;
+        let entered = Ticket::new(self.alloc, ticket)?;
         let locks = match &self.recent {
             Some(last) if self.stamped == self.calls.len() => last.share()?,
             _ => stamped_locks(self.alloc, &mut self.recent, self.thread, &self.held)?,

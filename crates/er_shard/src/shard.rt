@@ -8,7 +8,7 @@ ghost use Rattle.er_shadow.specs.Shadows.{needs_set, states};
 ghost use Rattle.er_shard.specs.Journaled.{entry_of};
 
 use er_event::{Kind, NoRoom, PageRange, Reply, Word, WordState};
-use er_journal::{BriefReply, Entry, HeldLocks, KeptTicket, Stamp};
+use er_journal::{BriefReply, Entry, HeldLocks, Stamp, Ticket};
 use er_shadow::{OwnWords, ShadowMap, Words};
 use er_table::{Grow, LocksetTable, Owned, Shared, Store};
 use std::alloc::{AllocError, Global};
@@ -128,12 +128,7 @@ impl<S: Store> ShardIn<S> {
     /// Takes a counted access, and returns `Race` if it is reported, else `Quiet`. Refused if the journal is full (`JournalFull`), if a set of locks
     /// finds no place in the table (`TableFull`), and if there is no memory (`OutOfMemory`).
     #[inline(always)]
-    pub fn apply<R>(
-        &mut self,
-        rt: &R,
-        ticket: KeptTicket,
-        stamp: Stamp,
-    ) -> Result<BriefReply, NoRoom>
+    pub fn apply<R>(&mut self, rt: &R, ticket: Ticket, stamp: Stamp) -> Result<BriefReply, NoRoom>
     where
         S: Grow<R>,
         ensures entry { IfOk result (λ reply. self.new ≡ with_entry self.old (entry_of ticket stamp.thread (Access stamp) reply)) }
@@ -167,7 +162,8 @@ impl<S: Store> ShardIn<S> {
         Ok(reply)
     }
 
-    /// Makes the words of a range virgin, for the thread of these locks. Refused if the journal is full (`JournalFull`), and if there is no memory (`OutOfMemory`).
+    /// Makes the words of a range virgin, for the thread of these locks. Refused if the journal is full (`JournalFull`), and if there is no memory
+    /// (`OutOfMemory`).
     pub fn reset(&mut self, ticket: u64, locks: HeldLocks, range: PageRange) -> Result<(), NoRoom>
         ensures entry { OnOk result (self.new ≡ with_entry self.old (entry_of ticket locks.thread (Reset range) Reply.Done)) }
         ensures err { OnErr result (self.new ≡ self.old) }

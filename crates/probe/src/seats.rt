@@ -4,7 +4,7 @@ use crate::work::{Detectors, Fault, Found, Made, Work, World, count_of, made};
 use crate::writing::{put_reply, put_run, put_seat};
 use er_detector::{Config, Detector, settle};
 use er_event::{Event, Kind, LockId, Lockset, Mode, NoRoom, Refusal, Reply, Site, ThreadId, Word};
-use er_journal::{HeldLocks, KeptTicket, Stamp};
+use er_journal::{HeldLocks, Stamp, Ticket};
 use er_seat::Seat;
 use er_shard::Shard;
 use std::alloc::Global;
@@ -116,7 +116,7 @@ pub(crate) fn enter<R: Host>(rt: &R, detectors: &Detectors, work: &mut Work) -> 
         shard.reset(ticket, locks, range).map(|_| Reply::Done)
     } else {
         let stamp = stamp_of(rt.alloc(), thread, work)?;
-        let ticket = KeptTicket::new(rt.alloc(), ticket)?;
+        let ticket = Ticket::new(rt.alloc(), ticket)?;
         let mut shard = detectors.shard(rt, place)?;
         shard.apply(rt, ticket, stamp).map(|reply| reply.reply())
     };
