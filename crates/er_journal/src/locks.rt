@@ -1,4 +1,4 @@
-//! The thread and its locks that stamps share.
+//! The locks that stamps share, with their thread.
 ghost use Rattle.std.specs.Prelude.{◌≡◌, ◌↔◌, IfOk, IsTrue};
 ghost use Rattle.std.specs.Arc.{arc_value};
 

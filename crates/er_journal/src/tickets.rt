@@ -17,7 +17,7 @@ pub(crate) enum TicketPlace {
     Apart(Box<LateTicket>),
 }
 
-/// A ticket that doesn't fit in place, with the site of its access, where the pointer to both takes the place of the two.
+/// A ticket that doesn't fit in place, and the site of its access: the pointer to both stands where these would.
 #[derive(Clone, Copy)]
 pub(crate) struct LateTicket {
     pub(crate) number: u64,
