@@ -167,7 +167,7 @@ static uint32_t write_without_memory(unsigned seat, uint64_t address)
     return status;
 }
 
-/* A call under a ticket of 2^32 or more takes memory of its own. Without it the access is refused and changes nothing. */
+/* An access under a ticket of 2^32 or more takes memory of its own. Without it the access is refused and changes nothing. */
 static void check_late_tickets(void)
 {
     begin();
@@ -176,10 +176,10 @@ static void check_late_tickets(void)
     CHECK(write_without_memory(0, 8192) == ERASER_OUT_OF_MEMORY && write_without_memory(0, 8196) == ERASER_OUT_OF_MEMORY && steps_of_all() == 2);
     CHECK(eraser_state(&shards[0], 8196) == ERASER_VIRGIN && write_word(0, 8196) == ERASER_QUIET && steps_of_all() == 3);
     CHECK(write_without_memory(0, 8196) == ERASER_OUT_OF_MEMORY);
-    /* The shard refuses an access, and its memory is left to the next one. */
+    /* The shard refuses an access, which gives its memory back. */
     CHECK(eraser_journal_new(&shards[1], NAME, 0) == ERASER_QUIET && eraser_acquire(&seats[1], 1, true) == ERASER_QUIET);
     CHECK(write_word(0, 4096) == ERASER_QUIET && write_word(1, 4096) == ERASER_TABLE_FULL && steps_of_all() == 5);
-    CHECK(write_without_memory(1, 4100) == ERASER_QUIET && write_without_memory(1, 4100) == ERASER_OUT_OF_MEMORY && steps_of_all() == 6);
+    CHECK(write_without_memory(1, 4100) == ERASER_OUT_OF_MEMORY && write_word(1, 4100) == ERASER_QUIET && steps_of_all() == 6);
 }
 
 /* A shard's sets are its own and limited. What is refused is no step. */

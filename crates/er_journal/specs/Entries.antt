@@ -6,8 +6,9 @@ use Rattle.er_event.specs.declared.steps.Event.TheVariants as event
 use Rattle.er_event.specs.declared.steps.Kind.{Kind}
 use Rattle.er_event.specs.declared.steps.Reply.{Reply}
 
--- the locks that a thread holds in any mode, and those in write mode
+-- a thread, the locks that it holds in any mode, and those in write mode
 pub record LocksHeld : Type 0 where
+  pub thread : ℕ
   pub held : List ℕ
   pub write_held : List ℕ
 
@@ -47,9 +48,9 @@ abbrev pub first_word_of : What → ℕ
 first_word_of (Access stamp) = stamp.word
 first_word_of (Reset range) = range.lo
 
--- the locks of an access; a reuse has none
+-- the thread of an access with its locks; a reuse has none
 abbrev pub locks_of : What → Option LocksHeld
-locks_of (Access stamp) = Some (record { held = stamp.held; write_held = stamp.write_held })
+locks_of (Access stamp) = Some (record { thread = stamp.thread; held = stamp.held; write_held = stamp.write_held })
 locks_of (Reset range) = None
 
 -- an accepted call of a seat, with the number that it drew, where it stands in a journal

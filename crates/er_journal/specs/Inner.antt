@@ -3,3 +3,4 @@ pub mod Briefs
 pub mod KeptCalls
 pub mod KeptEntries
 pub mod Replies
+pub mod Tickets

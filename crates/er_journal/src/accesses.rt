@@ -1,11 +1,11 @@
 //! Accesses, kept small.
 ghost use Rattle.std.specs.Prelude.{◌≡◌};
 
-use er_event::{Kind, Word};
+use er_event::{Event, Kind, Site, Word};
 use std::marker::Model;
 
 /// A word and whether an access reads or writes it, in six bytes. Contracts see both.
-#[derive(Drop)]
+#[derive(Clone, Drop)]
 pub(crate) struct BriefAccess {
     high: u16,
     middle: u16,
@@ -40,24 +40,18 @@ impl BriefAccess {
         }
     }
 
-    /// Whether it reads or writes.
+    /// The access, made at this place of the program.
     #[inline]
-    pub(crate) fn kind(&self) -> Kind
-        ensures { result ≡ self.now.kind }
+    pub(crate) fn at(&self, site: Site) -> Event
+        ensures { result ≡ Event.Access self.now.kind self.now.word site }
     {
-        if self.low % 2 == 0 {
+        let kind = if self.low % 2 == 0 {
             Kind::Read
         } else {
             Kind::Write
-        }
-    }
-
-    /// The word.
-    #[inline]
-    pub(crate) fn word(&self) -> Word
-        ensures { result ≡ self.now.word }
-    {
+        };
         let middle = u64::from(self.middle) * 65_536 + u64::from(self.low);
-        Word::new((u64::from(self.high) * 4_294_967_296 + middle) / 2)
+        let number = (u64::from(self.high) * 4_294_967_296 + middle) / 2;
+        Event::Access(kind, Word::new(number), site)
     }
 }

@@ -1,32 +1,22 @@
 //! What seats keep of the calls that they take.
-ghost use Rattle.std.specs.Prelude.{◌≡◌, ◌+◌, ◌-◌, ◌/◌, ◌<◌, ◌≤◌, ◌^◌, ◌⊎◌, IsTrue, OnErr, OnOk, is_some, Some, None};
+ghost use Rattle.std.specs.Prelude.{◌≡◌, ◌+◌, ◌/◌, Some, None};
 ghost use Rattle.er_event.specs.Span.{part_of};
 ghost use Rattle.er_event.specs.declared.steps.Reply.TheVariants.{Done};
 
-use crate::BriefReply;
 use crate::accesses::BriefAccess;
+use crate::tickets::{LateTicket, TicketPlace};
+use crate::{BriefReply, Ticket};
 use er_event::{Event, Kind, Level, LockId, Mode, PageRange, Site, Sync, Word};
-use std::alloc::{AllocError, Global};
 use std::marker::Model;
 
 /// One accepted call of a seat, in 16 bytes. Contracts see what its thread did, what it was answered, and its number if it stands in a journal.
-#[derive(Drop)]
+#[derive(Clone, Drop)]
 pub struct Call {
     kept: KeptCall,
 }
 
-/// Memory for one call whose ticket doesn't fit in place, if there is some.
-pub type Spare = Option<Box<LateCall>>;
-
-/// What a counted access did, and such a ticket.
-#[derive(Drop)]
-pub struct LateCall {
-    event: Event,
-    ticket: u64,
-}
-
 // The small fields lie first, so that each of them takes 16 bytes.
-#[derive(Drop)]
+#[derive(Clone, Drop)]
 enum KeptCall {
     // What stands in no journal. A reuse has so many words behind its first one.
     Own(BriefReply, OwnEvent),
@@ -35,13 +25,13 @@ enum KeptCall {
     OwnShow(BriefReply, Word),
     // A counted access, and one whose ticket doesn't fit in place.
     Counted(BriefReply, BriefAccess, Site, u32),
-    Late(BriefReply, Box<LateCall>),
+    Late(BriefReply, BriefAccess, Box<LateTicket>),
     // A reuse: 1,024 times its first word and how many words it has behind that one, in three parts, and the ticket.
     Reset(u8, u16, u32, u64),
 }
 
 // An event that names no word.
-#[derive(Drop)]
+#[derive(Clone, Copy, Drop)]
 enum OwnEvent {
     Acquire(LockId, Mode),
     Release(LockId, Mode),
@@ -63,9 +53,6 @@ impl Model for Call {
 }
 
 impl Call {
-    /// Tickets below this one fit in place. A call with another one takes memory of its own.
-    pub const TICKETS_IN_PLACE: u64 = 1 << 32;
-
     /// A call that stands in no journal.
     pub fn own(event: Event, reply: BriefReply) -> Call
         ensures { result ≡ record { event = event; reply = reply; ticket = None } }
@@ -87,40 +74,19 @@ impl Call {
         Call { kept }
     }
 
-    /// Memory for a call with this ticket. It takes some only if the ticket doesn't fit in place and there is none, and can only then be refused.
-    #[inline]
-    pub fn reserve(alloc: Global, spare: &mut Spare, ticket: u64) -> Result<(), AllocError>
-        ensures ready { OnOk result (2 ^ 32 ≤ ticket → IsTrue (is_some spare.new)) }
-        ensures refused { OnErr result ((2 ^ 32 ≤ ticket) × ((spare.old ≡ None) × (spare.new ≡ None))) }
-        ensures kept { (ticket < 2 ^ 32) ⊎ IsTrue (is_some spare.old) → spare.new ≡ spare.old }
-    {
-        if ticket >= Call::TICKETS_IN_PLACE && spare.is_none() {
-            let event = Event::IgnoreOn;
-            *spare = Some(Box::new(alloc, LateCall { event, ticket })?);
-        }
-        Ok(())
-    }
-
-    /// A counted access. It takes the spare memory, unless its ticket fits in place.
+    /// A counted access.
     #[inline(always)]
-    pub fn counted(
-        kind: Kind,
-        word: Word,
-        site: Site,
-        reply: BriefReply,
-        ticket: u64,
-        spare: &mut Spare,
-    ) -> Call
-        requires { 2 ^ 32 ≤ ticket → IsTrue (is_some spare.old) }
+    pub fn counted(kind: Kind, word: Word, site: Site, reply: BriefReply, ticket: Ticket) -> Call
         ensures { result ≡ record { event = Event.Access kind word site; reply = reply; ticket = Some ticket } }
     {
-        let kept = if ticket < Call::TICKETS_IN_PLACE {
-            KeptCall::Counted(reply, BriefAccess::new(kind, word), site, ticket as u32)
-        } else {
-            let mut late = spare.take().unwrap();
-            let event = Event::Access(kind, word, site);
-            *late = LateCall { event, ticket };
-            KeptCall::Late(reply, late)
+        let kept = match ticket.place {
+            TicketPlace::Here(number) => {
+                KeptCall::Counted(reply, BriefAccess::new(kind, word), site, number)
+            }
+            TicketPlace::Apart(mut late) => {
+                *late = LateTicket { site, ..*late };
+                KeptCall::Late(reply, BriefAccess::new(kind, word), late)
+            }
         };
         Call { kept }
     }
@@ -153,12 +119,8 @@ impl Call {
             KeptCall::OwnShow(_, word) => Event::Show(*word),
             KeptCall::OwnReuse(_, more, lo) => Event::Reuse(range_of(*lo, u64::from(*more))),
             KeptCall::OwnAccess(_, kind, site, word) => Event::Access(*kind, *word, *site),
-            KeptCall::Counted(_, access, site, _) => Event::Access(
-                access.kind(),
-                access.word(),
-                *site,
-            ),
-            KeptCall::Late(_, late) => late.event,
+            KeptCall::Counted(_, access, site, _) => access.at(*site),
+            KeptCall::Late(_, access, late) => access.at(late.site),
             KeptCall::Reset(high, middle, low, _) => {
                 let middle = u64::from(*middle) * 4_294_967_296 + u64::from(*low);
                 let packed = u64::from(*high) * 281_474_976_710_656 + middle;
@@ -178,7 +140,7 @@ impl Call {
             | KeptCall::OwnReuse(reply, _, _)
             | KeptCall::OwnShow(reply, _)
             | KeptCall::Counted(reply, _, _, _)
-            | KeptCall::Late(reply, _) => *reply,
+            | KeptCall::Late(reply, _, _) => *reply,
             KeptCall::Reset(_, _, _, _) => BriefReply::done(),
         }
     }
@@ -190,7 +152,7 @@ impl Call {
     {
         match &self.kept {
             KeptCall::Counted(_, _, _, ticket) => Some(u64::from(*ticket)),
-            KeptCall::Late(_, late) => Some(late.ticket),
+            KeptCall::Late(_, _, late) => Some(late.number),
             KeptCall::Reset(_, _, _, ticket) => Some(*ticket),
             _ => None,
         }

@@ -18,12 +18,13 @@
 #![tactic(auto)]
 
 pub use answers::{Answer, Answers, Outcome, Stopped};
-pub use calls::{Call, LateCall, Spare};
+pub use calls::Call;
 pub use entries::{Entry, Stamp};
 pub use explanations::{Explanation, Uncovered};
 pub use laws::a_merge_is_legal;
 pub use locks::HeldLocks;
 pub use replies::BriefReply;
+pub use tickets::Ticket;
 
 mod accesses;
 mod answers;
@@ -33,3 +34,4 @@ mod explanations;
 mod laws;
 mod locks;
 mod replies;
+mod tickets;

@@ -19,7 +19,7 @@ use er_event::{
     Word,
 };
 use er_held::Held;
-use er_journal::{BriefReply, Call, HeldLocks, Spare, Stamp};
+use er_journal::{BriefReply, Call, HeldLocks, Stamp, Ticket};
 use er_shard::ShardIn;
 use er_table::{Grow, Store};
 use std::alloc::{AllocError, Global};
@@ -66,7 +66,6 @@ impl VacantSeat {
             recent: None,
             stamped: 0,
             calls,
-            spare: None,
             alloc,
         }
     }
@@ -83,7 +82,6 @@ pub struct Seat {
     recent: Option<HeldLocks>,
     stamped: usize,
     calls: Vec<Call>,
-    spare: Spare,
     alloc: Global,
 }
 
@@ -97,7 +95,7 @@ impl Model for Seat {
 
     ghost view = { λ s. record { name = s.name; thread = s.thread; calls = s.calls.items } };
 
-    ghost invariant = { λ s. IsSeat s.thread s.calls.items s.held (vec_capacity s.calls) × IsStamped s.stamped s.recent s.calls.items s.held };
+    ghost invariant = { λ s. IsSeat s.thread s.calls.items s.held (vec_capacity s.calls) × IsStamped s.thread s.stamped s.recent s.calls.items s.held };
 }
 
 impl Seat {
@@ -273,27 +271,27 @@ impl Seat {
         ensures table_full { IsErrOf result NoRoom.TableFull → IsTrue (needs_set (journal_state shard.old.journal word) self.old.thread) }
     {
         self.calls.reserve(1 + calls_to_unwind(&self.held))?;
-        Call::reserve(self.alloc, &mut self.spare, ticket)?;
+        let listed = Ticket::new(self.alloc, ticket)?;
+        let entered = Ticket::new(self.alloc, ticket)?;
         let locks = match &self.recent {
             Some(last) if self.stamped == self.calls.len() => last.share()?,
-            _ => stamped_locks(self.alloc, &mut self.recent, &self.held)?,
+            _ => stamped_locks(self.alloc, &mut self.recent, self.thread, &self.held)?,
         };
         let stamp = Stamp {
-            thread: self.thread,
             word,
             kind,
             site,
             locks,
         };
-        let reply = shard.apply(rt, ticket, stamp)?;
-        let call = Call::counted(kind, word, site, reply, ticket, &mut self.spare);
+        let reply = shard.apply(rt, entered, stamp)?;
+        let call = Call::counted(kind, word, site, reply, listed);
         self.calls.push_reserved(call);
         self.stamped = self.calls.len();
         Ok(reply.reply())
     }
 
-    /// Makes one page part of a reuse in a shard, under a ticket, and lists it. Refused if there is no memory for the list (`OutOfMemory`), and then
-    /// if the shard refuses it.
+    /// Makes one page part of a reuse in a shard, under a ticket, and lists it. Refused if there is no memory for the list and for the first locks that
+    /// the seat shares (`OutOfMemory`), and then if the shard refuses it.
     pub fn reuse<S: Store>(
         &mut self,
         shard: &mut ShardIn<S>,
@@ -309,8 +307,13 @@ impl Seat {
         ensures refusals { ¬ IsErrOf result NoRoom.TableFull }
     {
         self.calls.reserve(1 + calls_to_unwind(&self.held))?;
+        // The entry has only the thread of these locks, so any that the seat has will do.
+        let locks = match &self.recent {
+            Some(last) => last.share()?,
+            None => stamped_locks(self.alloc, &mut self.recent, self.thread, &self.held)?,
+        };
         let range = &range;
-        shard.reset(ticket, self.thread, *range)?;
+        shard.reset(ticket, locks, *range)?;
         self.calls.push_reserved(Call::reuse(*range, ticket));
         Ok(())
     }
@@ -335,15 +338,16 @@ fn calls_to_unwind(held: &Held) -> usize
 fn stamped_locks(
     alloc: Global,
     recent: &mut Option<HeldLocks>,
+    thread: ThreadId,
     held: &Held,
 ) -> Result<HeldLocks, AllocError>
-    ensures locks { IfOk result (λ locks. (locks ≡ record { held = held.now.held; write_held = held.now.write_held }) × (recent.new ≡ Some locks)) }
+    ensures locks { IfOk result (λ locks. (locks ≡ record { thread = thread; held = held.now.held; write_held = held.now.write_held }) × (recent.new ≡ Some locks)) }
     ensures err { OnErr result (recent.new ≡ recent.old) }
 {
     match recent {
-        Some(last) if last.are(held.held(), held.write_held()) => last.share(),
+        Some(last) if last.are(thread, held.held(), held.write_held()) => last.share(),
         _ => {
-            let locks = HeldLocks::new(alloc, held.held(), held.write_held())?;
+            let locks = HeldLocks::new(alloc, thread, held.held(), held.write_held())?;
             let shared = locks.share()?;
             *recent = Some(locks);
             Ok(shared)

@@ -179,11 +179,7 @@ fn is_stamped(held: &Held, thread: ThreadId, entry: &Entry) -> bool
     ensures { IsTrue result ↔ (stamp_by held.now thread (event_of entry.now.what) ≡ stamps_in (entry.now ∷ [])) }
 {
     match entry.locks() {
-        Some(locks) => {
-            !held.ignoring()
-                && entry.thread() == thread
-                && locks.are(held.held(), held.write_held())
-        }
+        Some(locks) => { !held.ignoring() && locks.are(thread, held.held(), held.write_held()) }
         None => true,
     }
 }

@@ -7,8 +7,8 @@ ghost use Rattle.er_model.specs.Parts.{FitsEnd};
 ghost use Rattle.er_shadow.specs.Shadows.{needs_set, states};
 ghost use Rattle.er_shard.specs.Journaled.{entry_of};
 
-use er_event::{Kind, NoRoom, PageRange, Reply, ThreadId, Word, WordState};
-use er_journal::{BriefReply, Entry, Stamp};
+use er_event::{Kind, NoRoom, PageRange, Reply, Word, WordState};
+use er_journal::{BriefReply, Entry, HeldLocks, Stamp, Ticket};
 use er_shadow::{OwnWords, ShadowMap, Words};
 use er_table::{Grow, LocksetTable, Owned, Shared, Store};
 use std::alloc::{AllocError, Global};
@@ -128,7 +128,7 @@ impl<S: Store> ShardIn<S> {
     /// Takes a counted access, and returns `Race` if it is reported, else `Quiet`. Refused if the journal is full (`JournalFull`), if a set of locks
     /// finds no place in the table (`TableFull`), and if there is no memory (`OutOfMemory`).
     #[inline(always)]
-    pub fn apply<R>(&mut self, rt: &R, ticket: u64, stamp: Stamp) -> Result<BriefReply, NoRoom>
+    pub fn apply<R>(&mut self, rt: &R, ticket: Ticket, stamp: Stamp) -> Result<BriefReply, NoRoom>
     where
         S: Grow<R>,
         ensures entry { IfOk result (λ reply. self.new ≡ with_entry self.old (entry_of ticket stamp.thread (Access stamp) reply)) }
@@ -147,7 +147,7 @@ impl<S: Store> ShardIn<S> {
             Kind::Write => stamp.locks.write_held(),
         };
         // Most accesses leave their word as it is, and these are found first.
-        let (thread, word, kind) = (stamp.thread, stamp.word, stamp.kind);
+        let (thread, word, kind) = (stamp.locks.thread(), stamp.word, stamp.kind);
         let quick = self.words.access_quickly(thread, word, kind, locks);
         let is_race = match quick {
             Some(_) => false,
@@ -162,9 +162,10 @@ impl<S: Store> ShardIn<S> {
         Ok(reply)
     }
 
-    /// Makes the words of a range virgin. Refused if the journal is full (`JournalFull`), and if there is no memory (`OutOfMemory`).
-    pub fn reset(&mut self, ticket: u64, thread: ThreadId, range: PageRange) -> Result<(), NoRoom>
-        ensures entry { OnOk result (self.new ≡ with_entry self.old (entry_of ticket thread (Reset range) Reply.Done)) }
+    /// Makes the words of a range virgin, for the thread of these locks. Refused if the journal is full (`JournalFull`), and if there is no memory
+    /// (`OutOfMemory`).
+    pub fn reset(&mut self, ticket: u64, locks: HeldLocks, range: PageRange) -> Result<(), NoRoom>
+        ensures entry { OnOk result (self.new ≡ with_entry self.old (entry_of ticket locks.thread (Reset range) Reply.Done)) }
         ensures err { OnErr result (self.new ≡ self.old) }
         ensures full { self.old.limit ≤ length self.old.journal → IsErrOf result NoRoom.JournalFull }
         ensures full_only { IsErrOf result NoRoom.JournalFull → self.old.limit ≤ length self.old.journal }
@@ -174,7 +175,7 @@ impl<S: Store> ShardIn<S> {
         let range = &range;
         self.words.reset(*range);
         self.journal
-            .push_reserved(Entry::reset(ticket, thread, *range));
+            .push_reserved(Entry::reset(ticket, locks, *range));
         Ok(())
     }
 }

@@ -4,7 +4,7 @@ use crate::work::{Detectors, Fault, Found, Made, Work, World, count_of, made};
 use crate::writing::{put_reply, put_run, put_seat};
 use er_detector::{Config, Detector, settle};
 use er_event::{Event, Kind, LockId, Lockset, Mode, NoRoom, Refusal, Reply, Site, ThreadId, Word};
-use er_journal::{HeldLocks, Stamp};
+use er_journal::{HeldLocks, Stamp, Ticket};
 use er_seat::Seat;
 use er_shard::Shard;
 use std::alloc::Global;
@@ -110,10 +110,13 @@ pub(crate) fn enter<R: Host>(rt: &R, detectors: &Detectors, work: &mut Work) -> 
     let thread = work.thread()?;
     let reply = if work.take("reset").is_ok() {
         let range = work.part()?;
+        let none = Lockset::new(rt.alloc());
+        let locks = HeldLocks::new(rt.alloc(), thread, &none, &none)?;
         let mut shard = detectors.shard(rt, place)?;
-        shard.reset(ticket, thread, range).map(|_| Reply::Done)
+        shard.reset(ticket, locks, range).map(|_| Reply::Done)
     } else {
         let stamp = stamp_of(rt.alloc(), thread, work)?;
+        let ticket = Ticket::new(rt.alloc(), ticket)?;
         let mut shard = detectors.shard(rt, place)?;
         shard.apply(rt, ticket, stamp).map(|reply| reply.reply())
     };
@@ -123,19 +126,18 @@ pub(crate) fn enter<R: Host>(rt: &R, detectors: &Detectors, work: &mut Work) -> 
 // `KIND ADDRESS holding LOCK ..`.
 fn stamp_of(alloc: Global, thread: ThreadId, work: &mut Work) -> Found<Stamp> {
     Ok(Stamp {
-        thread,
         kind: work.kind()?,
         word: work.word()?,
         site: Site::MISSING,
-        locks: held_of(alloc, work)?,
+        locks: held_of(alloc, thread, work)?,
     })
 }
 
 // `holding LOCK ..`: the locks that a thread holds, in which `LOCKr` is held in read mode alone.
-fn held_of(alloc: Global, work: &mut Work) -> Found<HeldLocks> {
+fn held_of(alloc: Global, thread: ThreadId, work: &mut Work) -> Found<HeldLocks> {
     work.take("holding")?;
     let (mut held, mut write_held) = (Lockset::new(alloc), Lockset::new(alloc));
-    let locks = read_held(alloc, work, &mut held, &mut write_held);
+    let locks = read_held(alloc, thread, work, &mut held, &mut write_held);
     drop(held);
     drop(write_held);
     locks
@@ -143,6 +145,7 @@ fn held_of(alloc: Global, work: &mut Work) -> Found<HeldLocks> {
 
 fn read_held(
     alloc: Global,
+    thread: ThreadId,
     work: &mut Work,
     held: &mut Lockset,
     write_held: &mut Lockset,
@@ -155,7 +158,7 @@ fn read_held(
             write_held.insert(lock)?;
         }
     }
-    Ok(HeldLocks::new(alloc, held, write_held)?)
+    Ok(HeldLocks::new(alloc, thread, held, write_held)?)
 }
 
 /// `swap SIDE N SIDE M`: two shards change places, each under its lock.

@@ -35,7 +35,7 @@ call_of (kept.OwnAccess reply kind site word) = record { event = event.Access ki
 call_of (kept.OwnReuse reply more lo) = record { event = event.Reuse (run_of lo more); reply = reply; ticket = None }
 call_of (kept.OwnShow reply word) = record { event = event.Show word; reply = reply; ticket = None }
 call_of (kept.Counted reply access site ticket) = record { event = event.Access access.kind access.word site; reply = reply; ticket = Some ticket }
-call_of (kept.Late reply late) = record { event = late.value.event; reply = reply; ticket = Some late.value.ticket }
+call_of (kept.Late reply access late) = record { event = event.Access access.kind access.word late.value.site; reply = reply; ticket = Some late.value.number }
 call_of (kept.Reset high middle low ticket) = record { event = event.Reuse (run_of (reuse_number high middle low / 1024) (reuse_number high middle low % 1024)); reply = Done; ticket = Some ticket }
 
 -- the words of a reuse lie on one page

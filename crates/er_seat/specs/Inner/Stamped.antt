@@ -4,7 +4,8 @@ use Rattle.std.specs.declared.option.Option.{Option}
 use Rattle.er_journal.specs.Entries.{Call, LocksHeld}
 use Rattle.er_model.specs.Holdings.{Holdings}
 
--- how many calls there were at the last stamp; if no call came since, its locks are those that are held
-pub record IsStamped (stamped : ℕ) (recent : Option LocksHeld) (calls : List Call) (held : Holdings) : Type 0 where
+-- how many calls there were at the last stamp, whose locks are the thread's; if no call came since, they are those that are held
+pub record IsStamped (thread stamped : ℕ) (recent : Option LocksHeld) (calls : List Call) (held : Holdings) : Type 0 where
   pub before : stamped ≤ length calls
-  pub locks : (locks : LocksHeld) → recent ≡ Some locks → stamped ≡ length calls → locks ≡ record { held = held.held; write_held = held.write_held }
+  pub own : (locks : LocksHeld) → recent ≡ Some locks → locks.thread ≡ thread
+  pub locks : (locks : LocksHeld) → recent ≡ Some locks → stamped ≡ length calls → locks ≡ record { thread = thread; held = held.held; write_held = held.write_held }

@@ -7,14 +7,14 @@ use Rattle.er_event.proofs.SpanLemmas.{same_range}
 use Rattle.er_journal.proofs.RangeLemmas.{reuse-parts}
 use Rattle.er_journal.proofs.entries.Entry.records.Goals as goal
 
-pub returns-in-Reset-Reuse : goal.returns-in-Reset-Reuse
-returns-in-Reset-Reuse c =
-    let range = c.in-Reset-Reuse.range in
-    let reused = c.in-Reset-Reuse.reused in
-    rw (← c.self.view_is, c.in-Reset-Reuse.is-0, c.in-Reset-Reuse.is-1) (
-      λ yes. (let both = and_parts _ _ (sym c.eq-in-Reset-Reuse.ensures ∙ yes) in
+pub returns-in-Reuse-Reuse : goal.returns-in-Reuse-Reuse
+returns-in-Reuse-Reuse c =
+    let range = c.in-Reuse-Reuse.range in
+    let reused = c.in-Reuse-Reuse.reused in
+    rw (← c.event-own.ensures, c.in-Reuse-Reuse.is-0, c.in-Reuse-Reuse.is-1) (
+      λ yes. (let both = and_parts _ _ (sym c.eq-in-Reuse-Reuse.ensures ∙ yes) in
           ap Reuse (same_range reused range (eqb-true reused.lo range.lo both.0) (eqb-true reused.hi range.hi both.1))),
       λ same. (let parts = reuse-parts reused range same in
-          c.eq-in-Reset-Reuse.ensures
+          c.eq-in-Reuse-Reuse.ensures
           ∙ and_from _ _ (eq-eqb reused.lo range.lo (ap (λ (r : PageRange). r.lo) parts)) (eq-eqb reused.hi range.hi (ap (λ (r : PageRange). r.hi) parts))),
     )

@@ -11,7 +11,7 @@ invariant_of-self-2 g c =
     let thread : c.match-self.self-inside.thread ≡ c.self.inside.thread = elim c.match-self.branch [ in-Some+in_ok-locks-in-Some w ↦ search rules | in_default+in_ok-locks-in_default w ↦ search rules ] in
     let held : c.match-self.self-inside.held ≡ c.self.inside.held = elim c.match-self.branch [ in-Some+in_ok-locks-in-Some w ↦ search rules | in_default+in_ok-locks-in_default w ↦ search rules ] in
     let calls : c.match-self.self-inside.calls ≡ c.reserve.new.self = elim c.match-self.branch [ in-Some+in_ok-locks-in-Some w ↦ search rules | in_default+in_ok-locks-in_default w ↦ search rules ] in
-    let recent : c.match-self.self-inside.recent ≡ Some (record { held = c.self.inside.held.held; write_held = c.self.inside.held.write_held }) = elim c.match-self.branch [
+    let recent : c.match-self.self-inside.recent ≡ Some (record { thread = c.self.inside.thread; held = c.self.inside.held.held; write_held = c.self.inside.held.write_held }) = elim c.match-self.branch [
       | in-Some+in_ok-locks-in-Some w ↦
           let last : c.self.inside.stamped ≡ length c.self.inside.calls.items = search rules in
           let these = c.self.invariant.1.locks w.in-Some.last w.in-Some.is last in
@@ -22,6 +22,6 @@ invariant_of-self-2 g c =
     let end : c.len-self-inside.result ≡ length c.push_reserved.new.self.items = search rules in (
       rw (thread, held)
           (seat-counted c.self.inside.thread c.self.inside.calls.items _ _ c.self.inside.held _ _ c.args.ticket c.args.word c.args.site c.args.kind _ c.self.invariant.0
-          c.reserve.ensures.items (rw (calls, c.counted-call.ensures) at c.push_reserved.ensures.items) flat (omega (arith, c.in_ok-reserve.ensures.ok, c.calls_to_unwind.ensures.count, room))),
-      stamped-now _ _ _ _ end (rw held recent),
+          c.reserve.ensures.items (rw (calls, c.counted-call.ensures, c.in_ok-listed.ensures.ticket) at c.push_reserved.ensures.items) flat (omega (arith, c.in_ok-reserve.ensures.ok, c.calls_to_unwind.ensures.count, room))),
+      stamped-now _ _ _ _ _ (omega (arith, end)) (rw (thread, held) recent),
     )
