@@ -3,7 +3,7 @@ ghost use Rattle.std.specs.Prelude.{◌≡◌, ◌+◌, ◌++◌, ◌<◌, ◌�
 ghost use Rattle.std.specs.Thread.{IsSync};
 ghost use Rattle.er_batch.specs.Analysts.{Asked, HasCrewRun};
 ghost use Rattle.er_batch.specs.Inner.Answering.{Lags};
-ghost use Rattle.er_batch.specs.Inner.Items.{AreItems, Holds, IsNext, is_reuse};
+ghost use Rattle.er_batch.specs.Inner.Items.{AreItems, Holds, IsNext, IsTold, is_reuse};
 ghost use Rattle.er_event.specs.declared.steps.Step.{Step as Steps};
 ghost use Rattle.er_parallel.specs.Crews.{AreNoted, AreUnusual, HaveAnswered, Rise};
 ghost use Rattle.er_parallel.specs.Faults.{MayFail};
@@ -249,6 +249,7 @@ fn next_told(explains: bool, steps: &[Step], items: &[Unusual], next: usize, fro
     ensures behind { from ≤ result }
     ensures within { result ≤ length steps.now }
     ensures place { Rise items.now → IsNext items.now next from → IsNext items.now next result }
+    ensures told { IsNext items.now next from → result < length steps.now → IsTold explains steps.now items.now next result }
     ensures still { explains ≡ true → (k : ℕ) (step : Steps) → from ≤ k → k < result → slice_get steps.now k ≡ Some step → is_reuse step.event ≡ false }
 {
     let end = match items.get(next) {

@@ -1,5 +1,5 @@
 //! `ReportBuilder`, a report that grows by one step after another.
-ghost use Rattle.std.specs.Prelude.{◌≡◌, ◌<◌, ◌≤◌, ◌+◌, ◌^◌, ◌&&◌, ℕ, [], All, List, Option, None, Some, false, is_none, is_some, length, map, option_copied, slice_get, slice_index, OnOk, OnErr, IfOk, IfSome, IsTrue};
+ghost use Rattle.std.specs.Prelude.{◌≡◌, ◌<◌, ◌≤◌, ◌+◌, ◌^◌, ◌&&◌, ℕ, [], All, List, Option, None, Some, false, is_none, is_some, length, map, option_copied, slice_get, slice_index, OnOk, OnErr, IfOk, IfSome, IsOk, IsTrue};
 ghost use Rattle.std.specs.Option.{option_to_list};
 ghost use Rattle.er_trace.specs.Trace.{Recording, IsNamed, HasSiteName as IsSite};
 ghost use Rattle.er_explain.specs.Following.{CoversAt};
@@ -252,7 +252,7 @@ fn is_printed(answer: Answer<'_>, rule: Option<usize>) -> bool
     matches!((answer, rule), (Answer::Race, None))
 }
 
-// Adds a refused step of this line, as `add_step` does, and takes no room for the other lines.
+// Adds a refused step of this line, and takes no room for the other lines.
 fn add_refused(report: &mut Report, line: u64, step: &Step, refusal: Refusal) -> Made<()>
     requires room { HasRoom (told report.old) }
     ensures ok { OnOk result (told report.new ≡ with_answer (told report.old) line 0 [] step.now (Err refusal) None) }
@@ -269,7 +269,7 @@ fn add_refused(report: &mut Report, line: u64, step: &Step, refusal: Refusal) ->
     Ok(())
 }
 
-// Adds a step of this line and answer, whose race the rule takes, if there is one.
+// Adds a step of this line and answer that wasn't refused, whose race the rule takes, if there is one.
 fn add_step(
     report: &mut Report,
     number: u64,
@@ -280,6 +280,7 @@ fn add_step(
     held: &Lockset,
 ) -> Made<()>
     requires room { HasRoom (told report.old) }
+    requires taken { IsOk (shown answer) }
     requires rule { IfSome rule (λ rule. rule < length report.old.rule_counts.items) }
     ensures ok { OnOk result (told report.new ≡ with_answer (told report.old) number site held.now step.now (shown answer.entry) rule) }
     ensures err { OnErr result (told report.new ≡ told report.old) }
@@ -294,10 +295,8 @@ fn add_step(
             if let Some(line) = line_of(alloc, number, site, step, answer, held)? {
                 report.lines.push(line)?;
             }
-            match answer {
-                Answer::Race => report.races += 1,
-                Answer::Refused(_) => report.refused += 1,
-                _ => {}
+            if let Answer::Race = answer {
+                report.races += 1;
             }
         }
     }
@@ -305,7 +304,7 @@ fn add_step(
     Ok(())
 }
 
-// The line of a step, if its answer gives it one. A set of locks is copied for a race alone.
+// The line of a step that wasn't refused, if its answer gives it one. A set of locks is copied for a race alone.
 fn line_of(
     alloc: Global,
     number: u64,
@@ -314,6 +313,7 @@ fn line_of(
     answer: Answer<'_>,
     held: &Lockset,
 ) -> Made<Option<Line>>
+    requires { IsOk (shown answer) }
     ensures { IfOk result (λ line. map line_view (option_to_list line) ≡ answer_line number site held.now [] step.now (shown answer.entry)) }
 {
     Ok(match (answer, step.event) {
@@ -336,11 +336,6 @@ fn line_of(
             line: number,
             word,
             state: Box::new(alloc, state.copy()?)?,
-        }),
-        (Answer::Refused(refusal), _) => Some(Line::Refused {
-            refusal,
-            step: *step,
-            line: number,
         }),
         _ => None,
     })

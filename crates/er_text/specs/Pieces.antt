@@ -2,7 +2,7 @@
 use Rattle.std.specs.Prelude.{◌≡◌, ℕ, ◌+◌, ◌<◌, ◌≤◌, ◌^◌, Bool, true, List, [], Option, None, length, map, take}
 use Rattle.std.specs.List.{All}
 use Rattle.er_event.specs.declared.steps.Step.{Step}
-use Rattle.er_trace.specs.Appended.{AreNumbers, HasAll, renumbered_site, renumbered_step}
+use Rattle.er_trace.specs.Appended.{AreNumbers, BeginAnew, HasAll, renumbered_site, renumbered_step}
 use Rattle.er_trace.specs.Names.{NameTable}
 use Rattle.er_trace.specs.Trace.{Recording, IsNamed, HasSiteName, no_steps}
 use Rattle.er_trace.specs.declared.appending.NewTable.{NewTable}
@@ -42,6 +42,12 @@ pub record ReadPiece : Type 0 where
 pub record IsReadOver (v : Version) (names : NameTable) (lines : List Line) (piece : ReadPiece) : Type 0 where
   pub kept : NameTable
   pub has : HasAll names kept
+  pub read : AreRead v lines 0 (record no_steps { names = kept }) piece.lines piece.told
+
+-- the piece was read of these lines, over names that begin anew over these and had been its own before
+pub record IsReadAnew (v : Version) (names own : NameTable) (lines : List Line) (piece : ReadPiece) : Type 0 where
+  pub kept : NameTable
+  pub begin : BeginAnew names own kept
   pub read : AreRead v lines 0 (record no_steps { names = kept }) piece.lines piece.told
 
 -- the piece is these bytes, and if all of it was read, it says what they say behind these names

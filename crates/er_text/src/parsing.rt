@@ -56,8 +56,10 @@ pub(crate) fn version_of(words: &Words<'_>) -> Option<Version>
     ensures { result ≡ version_of words.now.first.now words.now.second.now words.now.third.now words.now.fourth.now }
 {
     let begins = words.first == b"eraser".as_slice() && words.second == b"trace".as_slice();
+    if !begins || !words.fourth.is_empty() {
+        return None;
+    }
     match words.third {
-        _ if !begins || !words.fourth.is_empty() => None,
         b"1" => Some(Version::One),
         b"2" => Some(Version::Two),
         b"3" => Some(Version::Three),

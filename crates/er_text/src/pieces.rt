@@ -1,14 +1,14 @@
 //! Pieces of a text: lines that are read apart from those before them, over names of their own.
-ghost use Rattle.std.specs.Prelude.{◌≡◌, ◌+◌, ◌-◌, ◌<◌, ◌≤◌, ◌^◌, ◌&&◌, nat_eq, ℕ, All, List, Option, take, drop, length, OnOk, IfSome, [], true};
+ghost use Rattle.std.specs.Prelude.{◌≡◌, ◌+◌, ◌-◌, ◌<◌, ◌≤◌, ◌^◌, ◌&&◌, nat_eq, ℕ, All, IsTrue, List, Option, take, drop, length, OnOk, IfSome, [], true};
 ghost use Rattle.er_event.specs.declared.steps.Step.{Step as Steps};
 ghost use Rattle.er_text.specs.Batches.{HasRead};
 ghost use Rattle.er_lines.specs.Lending.{taken_by};
 ghost use Rattle.er_text.specs.Inner.Pieces.{AreRead, IsReadInFront, comment_behind};
 ghost use Rattle.er_text.specs.Ending.{comment_past, comment_after};
 ghost use Rattle.er_lines.specs.Lines.{bytes_past_limit, lines_of, placed_from};
-ghost use Rattle.er_text.specs.Pieces.{ReadPiece, CanBeNumbered, IsEntered, IsNumbered, IsPieceOf, IsReady, MayBeAdded, StandsInFront};
+ghost use Rattle.er_text.specs.Pieces.{ReadPiece, CanBeNumbered, IsEntered, IsNumbered, IsPieceOf, IsReadAnew, IsReady, MayBeAdded, StandsInFront};
 ghost use Rattle.er_trace.specs.Appended.{with_table};
-ghost use Rattle.er_trace.specs.Names.{NameTable};
+ghost use Rattle.er_trace.specs.Names.{NameTable, AreSame};
 ghost use Rattle.er_trace.specs.Trace.{IsNamed, HasSiteName, with_steps};
 
 use crate::endings::Lost;
@@ -95,19 +95,16 @@ impl Piece {
     ///
     /// A line can't be read apart if what it says depends on threads that are named in lines before: a start, and most joins.
     pub fn read(&mut self, version: Version, names: &Names, bytes: &[u8])
-        ensures { IsPieceOf version names.now bytes.now self.new }
+        ensures of { IsPieceOf version names.now bytes.now self.new }
+        ensures begins { self.new.whole ≡ true → IsReadAnew version names.now self.old.told.names (lines_of bytes.now) self.new }
     {
         let mut header = Header::new(self.alloc, Stage::Events(version));
         self.trace.restart(names, self.alloc, self.keys);
         self.len = bytes.len();
-        match read_lines(&mut header, version, &mut self.trace, bytes) {
-            Some(lines) => {
-                self.lines = lines;
-                self.comment = header.comment;
-                self.whole = true;
-            }
-            None => self.whole = false,
-        }
+        let lines = read_lines(&mut header, version, &mut self.trace, bytes);
+        self.whole = lines.is_some();
+        self.lines = lines.unwrap_or(0);
+        self.comment = header.comment;
     }
 
     /// Adds the names of the piece to a trace, and notes their numbers there, and how many lines of the text stand before its own.
@@ -124,7 +121,9 @@ impl Piece {
 
     /// Whether its names have the same numbers in the trace, so that [`number`](Piece::number) has only lines to count. It may be asked once
     /// they were added there.
-    pub fn has_its_numbers(&self) -> bool {
+    pub fn has_its_numbers(&self) -> bool
+        ensures { IsTrue result → AreSame self.now.numbers.threads × AreSame self.now.numbers.locks × AreSame self.now.numbers.sites }
+    {
         self.numbers.are_same()
     }
 

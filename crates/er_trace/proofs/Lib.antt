@@ -5,6 +5,7 @@ pub mod NumberLemmas
 pub mod AppendedLemmas
 pub mod AppendedSteps
 pub mod RenumberingLemmas
+pub mod FirstLemmas
 pub mod SameLemmas
 pub mod InPlaceLemmas
 pub mod RecentLemmas

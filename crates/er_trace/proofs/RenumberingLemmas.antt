@@ -35,7 +35,7 @@ all_known a b =
     recursion_from_All P b (All-from_get_or P b [] (λ i below. there a b (name_at b i) (known_at b i below)))
 
 -- names that are there add nothing, and still don't once others have appeared
-adds_nothing : (a b : List (List ℕ)) → AllByRecursion (λ y. is_known a y ≡ true) b → with_names a b ≡ a
+pub adds_nothing : (a b : List (List ℕ)) → AllByRecursion (λ y. is_known a y ≡ true) b → with_names a b ≡ a
 adds_nothing a [] known = refl
 adds_nothing a (y ∷ b) known = ap (λ (names : List (List ℕ)). with_names names b) (with_known a y known.0) ∙ adds_nothing a b known.1
 

@@ -1,5 +1,5 @@
 -- A recording that is appended to another one: its names are numbered again behind those that are there.
-use Rattle.std.specs.Prelude.{◌≡◌, ℕ, zero, suc, ◌+◌, ◌++◌, List, [], ◌∷◌, map, get_or}
+use Rattle.std.specs.Prelude.{◌≡◌, ℕ, zero, suc, ◌+◌, ◌++◌, ◌⊎◌, List, [], ◌∷◌, map, get_or, length, take}
 use Rattle.er_trace.specs.declared.appending.NewTable.{NewTable}
 use Rattle.er_trace.specs.Names.{NameTable, number_of, with_name}
 use Rattle.er_trace.specs.Trace.{Recording}
@@ -22,6 +22,18 @@ with_table names more =
 -- all of these have appeared already
 abbrev pub HasAll : NameTable → NameTable → Type 0
 HasAll names more = with_table names more ≡ names
+
+-- these are the first of the names, in the same order, and so have the same numbers
+abbrev pub AreFirst : List (List ℕ) → List (List ℕ) → Type 0
+AreFirst names first = first ≡ take (length first) names
+
+-- the same of each sort
+abbrev pub AreFirstOf : NameTable → NameTable → Type 0
+AreFirstOf names first = AreFirst names.threads first.threads × AreFirst names.locks first.locks × AreFirst names.sites first.sites
+
+-- names that begin anew over others are the first of these, perhaps none, or stay as they were if they have all appeared among these
+abbrev pub BeginAnew : NameTable → NameTable → NameTable → Type 0
+BeginAnew others old new = AreFirstOf others new ⊎ ((new ≡ old) × HasAll others old)
 
 -- the name that has this number, or no byte if there is none
 abbrev pub name_at : List (List ℕ) → ℕ → List ℕ

@@ -1,6 +1,6 @@
 //! Numbers for the names of threads, locks and sites.
 ghost use Rattle.std.specs.Prelude.{◌≡◌, ◌+◌, ◌-◌, ◌<◌, ◌≤◌, ◌++◌, ◌∷◌, ℕ, List, [], length, drop, map, Some, slice_get, IsTrue, IsOk, IsErr, IfOk, IfSome, IfNone, OnOk, OnErr, true, false};
-ghost use Rattle.er_trace.specs.Appended.{AreNumbers, HasAll, with_names, with_table};
+ghost use Rattle.er_trace.specs.Appended.{AreFirst, AreFirstOf, AreNumbers, BeginAnew, HasAll, with_names, with_table};
 ghost use Rattle.er_trace.specs.Inner.Recent.{Knows, IsLed, bytes_of};
 ghost use Rattle.er_trace.specs.Inner.Renumbering.{HasMore};
 ghost use Rattle.er_trace.specs.Names.{is_known, number_of, with_name, no_names, most_names, is_allowed_name, IsPlain};
@@ -27,13 +27,13 @@ struct CachedNames {
 
 impl Model for CachedNames {
     ghost use Rattle.std.specs.Prelude.{ℕ, List};
-    ghost use Rattle.er_trace.specs.Inner.Recent.{AreRight, LeadsRight};
+    ghost use Rattle.er_trace.specs.Inner.Recent.{AreDistinct, AreRight, LeadsRight};
 
     ghost Value = { List (List ℕ) };
 
     ghost view = { λ n. n.list };
 
-    ghost invariant = { λ n. AreRight n.list n.recent × LeadsRight n.list n.leading };
+    ghost invariant = { λ n. AreRight n.list n.recent × LeadsRight n.list n.leading × AreDistinct n.list };
 }
 
 impl CachedNames {
@@ -143,7 +143,7 @@ impl CachedNames {
 
     /// Whether those names begin with these, in the same order.
     fn are_first_of(&self, others: &CachedNames) -> bool
-        ensures { IsTrue result → with_names others.now self.now ≡ others.now }
+        ensures { IsTrue result → AreFirst others.now self.now }
     {
         for at in 0..self.list.len() {
             if !others.list.is_at(at, self.list.name(at).as_bytes()) {
@@ -155,7 +155,7 @@ impl CachedNames {
 
     /// Adds those names that stand behind as many as these, until memory is refused.
     fn add_rest(&mut self, others: &CachedNames)
-        ensures { with_names others.now self.old ≡ others.now → with_names others.now self.new ≡ others.now }
+        ensures { AreFirst others.now self.old → AreFirst others.now self.new }
     {
         for at in self.list.len()..others.list.len() {
             let Ok(_number) = self.number(others.list.name(at)) else {
@@ -326,7 +326,7 @@ impl Names {
     /// If those names are few, these become a copy of them, or of the first of them if memory is refused. Otherwise these stay if they are few
     /// and have all appeared in those, and else they are forgotten. Where they don't stay, names are hashed by these keys from then on.
     pub(crate) fn follow(&mut self, others: &Names, alloc: Global, keys: NameKeys)
-        ensures { HasAll others.now self.new }
+        ensures { BeginAnew others.now self.old self.new }
     {
         if others.are_few() {
             if !self.are_first_of(others) {
@@ -345,7 +345,7 @@ impl Names {
 
     /// Whether those names of each sort begin with these, in the same order.
     fn are_first_of(&self, others: &Names) -> bool
-        ensures { IsTrue result → HasAll others.now self.now }
+        ensures { IsTrue result → AreFirstOf others.now self.now }
     {
         self.threads.are_first_of(&others.threads)
             && self.locks.are_first_of(&others.locks)
@@ -354,7 +354,7 @@ impl Names {
 
     /// Adds those names of each sort that stand behind as many as these, until memory is refused.
     fn add_rest(&mut self, others: &Names)
-        ensures { HasAll others.now self.old → HasAll others.now self.new }
+        ensures { AreFirstOf others.now self.old → AreFirstOf others.now self.new }
     {
         self.threads.add_rest(&others.threads);
         self.locks.add_rest(&others.locks);

@@ -1,6 +1,6 @@
 //! `Trace`, steps with their lines, sites and names.
 ghost use Rattle.std.specs.Prelude.{◌≡◌, ◌+◌, ◌^◌, ◌<◌, ◌≤◌, ◌++◌, ◌∷◌, ℕ, List, IfSome, All, length, map, IsTrue, IsOk, IsErr, IfOk, OnOk, OnErr, false};
-ghost use Rattle.er_trace.specs.Appended.{AreNumbers, HasAll, renumbered_site, renumbered_step, with_table};
+ghost use Rattle.er_trace.specs.Appended.{AreNumbers, BeginAnew, HasAll, renumbered_site, renumbered_step, with_table};
 ghost use Rattle.er_trace.specs.Names.{NameTable, IsPlain, is_known, number_of, most_names};
 ghost use Rattle.er_trace.specs.Trace.{IsNamed, HasSiteName, no_steps, with_step, with_steps, without_steps, with_thread_name, with_lock_name, with_site_name};
 
@@ -201,6 +201,7 @@ impl Trace {
     /// those, and else forgets them. Where they don't stay, names are hashed by these keys from then on.
     pub fn restart(&mut self, others: &Names, alloc: Global, keys: NameKeys)
         ensures empty { self.new ≡ record no_steps { names = self.new.names } }
+        ensures begins { BeginAnew others.now self.old.names self.new.names }
         ensures known { HasAll others.now self.new.names }
     {
         self.clear();

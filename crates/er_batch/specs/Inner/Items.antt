@@ -1,5 +1,5 @@
 -- The unusual answers of a batch, which go into a report with the usual ones.
-use Rattle.std.specs.Prelude.{◌≡◌, ◌<◌, ◌≤◌, ℕ, Bool, true, false, List, slice_get, Some, IsTrue}
+use Rattle.std.specs.Prelude.{◌≡◌, ◌<◌, ◌≤◌, ◌⊎◌, ℕ, Bool, true, false, List, slice_get, Some, IsTrue}
 use Rattle.er_event.specs.declared.steps.Event.{Event}
 use Rattle.er_event.specs.declared.steps.Event.TheVariants.{Reuse}
 use Rattle.er_event.specs.declared.steps.Step.{Step}
@@ -26,3 +26,9 @@ Holds wanted machine steps n = IsTrue wanted → (t : ℕ) → holding machine t
 abbrev pub is_reuse : Event → Bool
 is_reuse (Reuse range) = true
 is_reuse _ = false
+
+-- the next item is that of position k, or reasons are wanted and the step there reuses words
+abbrev pub IsTold : Bool → List Step → List Unusual → ℕ → ℕ → Type 0
+IsTold wanted batch items next k =
+    ((item : Unusual) × (slice_get items next ≡ Some item) × (item.at ≡ k))
+    ⊎ ((wanted ≡ true) × ((step : Step) × (slice_get batch k ≡ Some step) × (is_reuse step.event ≡ true)))

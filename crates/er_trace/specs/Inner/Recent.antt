@@ -2,6 +2,7 @@
 use Rattle.std.specs.Prelude.{◌≡◌, Bool, true, ℕ, zero, suc, ◌<◌, ◌≤◌, ◌+◌, ◌-◌, ◌/◌, ◌%◌, ◌++◌, List, [], ◌∷◌, min, length, take, drop}
 use Rattle.std.specs.Int.Bits.{bit_and}
 use Rattle.std.specs.List.{All, list_all}
+use Rattle.er_trace.specs.Appended.{with_names}
 use Rattle.er_trace.specs.declared.recent.Leading.{Leading}
 use Rattle.er_trace.specs.declared.recent.ShortName.{ShortName}
 use Rattle.er_trace.specs.declared.recent.Slot.{Slot}
@@ -21,6 +22,10 @@ pub record Knows (names : List (List ℕ)) (name : List ℕ) (number : ℕ) : Ty
   pub known : is_known names name ≡ true
   pub is : number_of names name ≡ number
   pub small : number < most_names
+
+-- each name is new where it stands
+abbrev pub AreDistinct : List (List ℕ) → Type 0
+AreDistinct names = with_names [] names ≡ names
 
 -- the same of a name of plain bytes
 pub record IsRight (names : List (List ℕ)) (name : List ℕ) (number : ℕ) : Type 0 where

@@ -1,11 +1,18 @@
-use Rattle.std.proofs.Common.{◌≡◌, ℕ, List, Some, slice_get, subst, ap, ◌∙◌}
+use Rattle.std.proofs.Common.{◌≡◌, ◌∙◌, ℕ, [], List, Some, slice_get, length, subst, sym, ap, take}
 use Rattle.er_trace.specs.Appended.{with_names}
-use Rattle.er_trace.proofs.RenumberingLemmas.{known_there, nothing_on}
+use Rattle.er_trace.specs.Inner.Recent.{AreDistinct}
+use Rattle.er_trace.proofs.FirstLemmas.{ends_first}
+use Rattle.er_trace.proofs.RenumberingLemmas.{names_on}
 use Rattle.er_trace.proofs.names.CachedNames.add_rest.Goals as goal
 
 pub loop-at-preserved : goal.loop-at-preserved
-loop-at-preserved c = λ same.
+loop-at-preserved c = λ first.
     let others = c.args.others.now in
     let name = c.name.result.now in
-    let there = known_there others c.loop-at.at name (subst (λ (names : List (List ℕ)). slice_get names c.loop-at.at ≡ Some name) c.others.view_is c.name.ensures) in
-    ap (with_names others) c.in-Ok.ensures.ok ∙ nothing_on others c.loop-at.self name there (c.loop-at.invariant same)
+    names_on [] others c.loop-at.self c.number.new.self c.loop-at.at name
+    (subst (λ (names : List (List ℕ)). slice_get names c.loop-at.at ≡ Some name) c.others.view_is c.name.ensures)
+    (c.loop-at.invariant first) c.in-Ok.ensures.ok
+
+pub returns-in_default : goal.returns-in_default
+returns-in_default c = λ first.
+    ends_first c.args.others.now c.number.new.self c.loop-at.at (subst AreDistinct c.others.view_is c.others.invariant.2) (c.in_default.ensures.err ∙ c.loop-at.invariant first)
