@@ -119,8 +119,7 @@ impl Piece {
         Ok(())
     }
 
-    /// Whether its names have the same numbers in the trace, so that [`number`](Piece::number) has only lines to count. It may be asked once
-    /// they were added there.
+    /// Whether its names, once added to the trace, are known to have the same numbers there: then [`number`](Piece::number) only counts lines.
     pub fn has_its_numbers(&self) -> bool
         ensures { IsTrue result → AreSame self.now.numbers.threads × AreSame self.now.numbers.locks × AreSame self.now.numbers.sites }
     {

@@ -1,11 +1,11 @@
 -- The first of some names, each of which is new where it stands.
-use Rattle.std.proofs.Common.{◌≡◌, ℕ, zero, suc, ◌+◌, ◌<◌, ◌≤◌, ◌⊎◌, inl, inr, Bool, true, false, List, [], ◌∷◌, ◌++◌, take, length, length-append, get_or, Result, Ok, Err, OnOk, OnErr, refl, ap, sym, ◌∙◌, subst, arith}
+use Rattle.std.proofs.Common.{◌≡◌, ℕ, zero, suc, ◌+◌, ◌<◌, ◌≤◌, inl, inr, Bool, true, false, List, [], ◌∷◌, ◌++◌, take, length, length-append, get_or, Result, Ok, Err, OnOk, OnErr, ap, sym, ◌∙◌, subst, arith}
 use Rattle.std.specs.Prelude.{if◌then◌else◌}
 use Rattle.std.specs.declared.alloc.AllocError.{AllocError}
 use Rattle.std.proofs.lemmas.List.{append-nil, append_assoc, get_or-take, length-take, take_all, take_min, take_more_same}
 use Rattle.std.proofs.lemmas.List.Elements.{All-from_get_or, recursion_from_All}
-use Rattle.er_trace.specs.Names.{NameTable, is_known, number_of, with_name}
-use Rattle.er_trace.specs.Appended.{AreFirst, AreFirstOf, BeginAnew, HasAll, with_names, with_table}
+use Rattle.er_trace.specs.Names.{NameTable, is_known, with_name}
+use Rattle.er_trace.specs.Appended.{AreFirst, BeginAnew, HasAll, with_names}
 use Rattle.er_trace.specs.Inner.Recent.{AreDistinct, Knows}
 use Rattle.er_trace.proofs.AppendedLemmas.{known_at, with_more}
 use Rattle.er_trace.proofs.NumberLemmas.{named, within}

@@ -1,8 +1,7 @@
 -- What holds of all names holds of this one.
-use Rattle.std.proofs.Common.{◌≡◌, true, List, ℕ, IsTrue, sym, ◌∙◌, subst}
+use Rattle.std.proofs.Common.{◌≡◌, true, sym, ◌∙◌, subst}
 use Rattle.std.specs.List.{list_all}
-use Rattle.er_trace.specs.Names.{is_plain_name, is_shown_name, is_allowed_name}
-use Rattle.er_trace.specs.Inner.Recent.{Knows}
+use Rattle.er_trace.specs.Names.{is_plain_name, is_shown_name}
 use Rattle.er_trace.proofs.RecentLemmas.{known_one}
 use Rattle.er_trace.proofs.list.NameList.is_allowed_at.Goals as goal
 use Rattle.er_trace.proofs.list.NameList.is_allowed_at.Goals.{then-may_be_other, else-may_be_other}

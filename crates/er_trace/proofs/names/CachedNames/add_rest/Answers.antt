@@ -1,5 +1,4 @@
-use Rattle.std.proofs.Common.{◌≡◌, ◌∙◌, ℕ, [], List, Some, slice_get, length, subst, sym, ap, take}
-use Rattle.er_trace.specs.Appended.{with_names}
+use Rattle.std.proofs.Common.{◌≡◌, ◌∙◌, ℕ, [], List, Some, slice_get, subst}
 use Rattle.er_trace.specs.Inner.Recent.{AreDistinct}
 use Rattle.er_trace.proofs.FirstLemmas.{ends_first}
 use Rattle.er_trace.proofs.RenumberingLemmas.{names_on}
