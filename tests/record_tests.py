@@ -904,7 +904,7 @@ def terminal(folder, findings, counter, right, busy):
     status, output, text = on_terminal([RUN, "-o", trace, counter])
     findings.check("on a terminal, a trace alone", re.fullmatch(r"record: \d+ events recorded, 0 lost\n", text), text)
     status, output, text = on_terminal([RUN, "--limit", "100000", busy, "30000"], env=settings)
-    is_told = text.startswith("record: the trace has reached its limit of 100000 bytes") and re.search(r"^record: \d+ events recorded, [1-9]\d* lost, \d+ repeats left out: the trace is incomplete", text, re.M)
+    is_told = text.startswith("record: the trace has reached its limit of 100000 bytes") and re.search(r"^record: \d+ events? recorded, [1-9]\d* lost(?:, \d+ repeats? left out)?: the trace is incomplete", text, re.M)
     findings.check("on a terminal, a limit", (status, output) == (0, "done\n") and is_told, f"{status} {text}")
     status, output, text = on_terminal([RUN, counter], env={**os.environ, "TMPDIR": str(folder / "nowhere")})
     findings.check("on a terminal, no folder for temporary files", (status, output) == (125, "") and f"cannot write a temporary file in {folder}/nowhere" in text, f"{status} {text}")
@@ -1112,7 +1112,7 @@ def early_ends(folder, findings, busy):
     for name, text in (("fault", "head -c 100000 >/dev/null; exit 2"), ("killed", "head -c 100000 >/dev/null; kill -TERM $$"), ("absent", "exit 0")):
         replay = as_script(folder, name, text)
         found = command([RUN, busy, "300000"], env={**os.environ, "ERASER": replay})
-        lost = re.search(r"events recorded, (\d+) lost, \d+ repeats left out: the trace is incomplete", found.stderr)
+        lost = re.search(r"events? recorded, (\d+) lost(?:, \d+ repeats? left out)?: the trace is incomplete", found.stderr)
         unharmed = found.returncode == 0 and found.stdout == "done\n"
         findings.check(f"a replay that ends early, {name}", unharmed and lost and int(lost[1]) > 0 and "record: the replay" in found.stderr, f"{found}")
     trace = folder / "limited.trace"
