@@ -34,6 +34,7 @@ use er_triage::{Triaged, Wishes, triage};
 use std::alloc::{AllocError, Global};
 use std::fs::File;
 use std::io::{Read, Write};
+use std::mem::forget;
 use std::rt::Files;
 use std::sync::Wait;
 use std::thread::Threads;
@@ -260,7 +261,9 @@ fn finish<R: Files>(
         drop(triaged);
         return Err(fault);
     }
-    let Triaged { notes, .. } = triaged;
+    let Triaged { notes, reports, .. } = triaged;
+    // The end of the process frees the lines and reasons of all races at once.
+    forget(reports);
     Ok(Ended {
         status: status_of(verdict),
         notes,
