@@ -1,8 +1,7 @@
 -- The name of a known thread stands before the first space.
-use Rattle.std.proofs.Common.{◌≡◌, true, length, subst, rules}
-use Rattle.er_trace.specs.Names.{NameTable, is_known, number_of}
+use Rattle.std.proofs.Common.{◌≡◌, true, length, rules}
 use Rattle.er_text.proofs.FastPathLaws.{front_found}
-use Rattle.er_text.proofs.fast_path.leading_thread.Goals as goal
+use Rattle.er_text.proofs.fast_path.other_thread.Goals as goal
 
 pub returns-clause-led : goal.returns-clause-led
 returns-clause-led c =
@@ -10,9 +9,7 @@ returns-clause-led c =
     let word = c.split_at_space.result.0.now in
     let rest = c.split_at_space.result.1.now in
     let some : length rest ≡ 0 → ⊥ = search rules in
-    let same : c.names.result.now ≡ c.args.trace.now.names = search rules in
-    let P : NameTable → Type 0 = λ names. (c.in_ok-thread.thread ≡ number_of names.threads name) × (is_known names.threads name ≡ true) in
-    let found = subst P same c.in_ok-thread.ensures.some in
+    let found = c.in_ok-thread.ensures.some in
     record {
       name = name;
       front = front_found c.args.bytes.now word rest name c.split_at_space.ensures.before c.split_at_space.ensures.behind some c.in_ok-name_of.ensures;
