@@ -95,7 +95,7 @@ fn leading_rare_verb(bytes: &[u8]) -> Option<(Rare, &[u8])>
 /// The thread whose name is known and stands in front of one space, and what follows that. A recent name is found sooner. It is a call of its own, so that
 /// `add_usual` can be made part of its caller.
 #[inline(never)]
-fn other_thread<'a>(names: &Names, bytes: &'a [u8]) -> Option<(ThreadId, &'a [u8])>
+fn any_leading_thread<'a>(names: &Names, bytes: &'a [u8]) -> Option<(ThreadId, &'a [u8])>
     ensures led { IfSome result (λ led. IsLeadingThread names.now.threads bytes.now led.0 led.1.now) }
 {
     let (word, rest) = split_at_space(bytes);
@@ -118,7 +118,7 @@ fn leading_thread<'a>(
     ensures same { trace.new ≡ trace.old }
 {
     match trace.leading_thread(bytes) {
-        None if !rare => other_thread(trace.names(), bytes),
+        None if !rare => any_leading_thread(trace.names(), bytes),
         led => led,
     }
 }
