@@ -6,6 +6,7 @@ more. Which rows may find none, and that each of them does, stands in the case. 
 3, behind a beginning of what it prints.
 """
 
+import itertools
 import pathlib
 import re
 import subprocess
@@ -32,6 +33,11 @@ BAD_ROWS = [
     ("table 4\ndetector 7 1 100 0\n", 2),
     ("table 4\ndetector 7 1 100 1073741825\n", 2),
     ("table 4\ndetector 7 1 100\n", 2),
+    ("table 4\ndetector 7 1 100 2 drawing\n", 2),
+    ("table 4\ndetector 7 1 100 2 drawing 0\n", 2),
+    ("table 4\ndetector 7 1 100 2 drawing 1073741825\n", 2),
+    ("table 4\ndetector 7 65 100 2 drawing 1\n", 2),
+    ("table 4\ndetector 7 1 100 2 any 1\n", 2),
     ("table 4\nword 0\n\n# comment\nword x\n", 5),
     ("table 4\nthread 1073741824 write 0\n", 2),
     ("table 4\nthread 1 write 0 1 2\n", 2),
@@ -119,10 +125,10 @@ def is_lacking(verb, usual, answer):
 def rates(record):
     """Threads make all calls that are measured, and none is a race. How long they took goes to the errors."""
     for shape in ("own", "spread", "one"):
-        for threads in (1, 4, 16):
-            output, errors, status = run(f"table 4\ndetector 1 4 1073741824 17\nrate {shape} {threads} 1000\n")
+        for threads, drawing in itertools.product((1, 4, 16), ("", " drawing 64")):
+            output, errors, status = run(f"table 4\ndetector 1 4 1073741824 17{drawing}\nrate {shape} {threads} 1000\n")
             is_right = (output, status) == (f"done\ncalls {1000 * threads}, races 0\n", 0) and re.fullmatch(r"\d+ microseconds\n", errors)
-            record(f"rate {shape} {threads}", bool(is_right), f"{output} {errors} {status}")
+            record(f"rate {shape} {threads}{drawing}", bool(is_right), f"{output} {errors} {status}")
 
 
 def refusals(record, preloaded):

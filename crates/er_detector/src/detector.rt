@@ -168,7 +168,7 @@ impl<'t> Detector<'t> {
         if seat.ignoring() {
             return ignored(seat, word, kind, site);
         }
-        let ticket = self.next_ticket();
+        let ticket = self.next_ticket(seat, shard);
         Ok(seat.record_access(rt, shard, ticket, word, kind, site)?)
     }
 
@@ -205,7 +205,7 @@ impl<'t> Detector<'t> {
         if shard.name() != self.config.name || shard.number() != number {
             return Err(Refusal::ForeignSeat);
         }
-        let ticket = self.next_ticket();
+        let ticket = self.next_ticket(seat, &shard);
         Ok(seat.record_access(rt, &mut shard, ticket, word, kind, site)?)
     }
 
@@ -287,14 +287,20 @@ impl<'t> Detector<'t> {
         if !self.has(&shard, part.lo) {
             return Err(Refusal::ForeignSeat);
         }
-        let ticket = self.next_ticket();
+        let ticket = self.next_ticket(seat, &shard);
         Ok(seat.reuse(&mut shard, ticket, *part)?)
     }
 
     // No clause rests on the number: settling compares tickets.
     #[inline(always)]
-    fn next_ticket(&self) -> u64 {
-        self.tickets.fetch_add(1, Ordering::SeqCst)
+    fn next_ticket(&self, seat: &mut Seat, shard: &Shard<'t>) -> u64
+        ensures { seat.new ≡ seat.old }
+    {
+        let draw = |count| { self.tickets.fetch_add(count, Ordering::SeqCst) };
+        match self.config.most_drawn {
+            1 => draw(1),
+            most => seat.next_ticket(shard.journal(), u64::from(most), draw),
+        }
     }
 
     fn has(&self, shard: &Shard<'t>, word: Word) -> bool

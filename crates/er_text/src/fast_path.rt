@@ -17,7 +17,7 @@ use crate::parsing::{level_of, range_of};
 use crate::verbs::Version;
 use er_event::{Event, Kind, Level, LockId, Mode, Site, Step, ThreadId, Word, WordRange};
 use er_lines::{class_of, is_name, name_of, name_text, number, site_text, split_at_space};
-use er_trace::Trace;
+use er_trace::{Names, Trace};
 use std::alloc::AllocError;
 use std::simd::prelude::*;
 
@@ -92,8 +92,22 @@ fn leading_rare_verb(bytes: &[u8]) -> Option<(Rare, &[u8])>
     }
 }
 
-/// The thread whose name is known and stands in front of one space, and what follows that. The recent names are tried first, by a look at eight bytes.
-/// With `rare` only these are tried: the other names were tried before, and to hash this one again takes longer than to leave the line to the parser.
+/// The thread whose name is known and stands in front of one space, and what follows that. A recent name is found sooner. It is a call of its own, so that
+/// `add_usual` can be made part of its caller.
+#[inline(never)]
+fn any_leading_thread<'a>(names: &Names, bytes: &'a [u8]) -> Option<(ThreadId, &'a [u8])>
+    ensures led { IfSome result (λ led. IsLeadingThread names.now.threads bytes.now led.0 led.1.now) }
+{
+    let (word, rest) = split_at_space(bytes);
+    if rest.is_empty() {
+        return None;
+    }
+    let thread = names.known_thread(name_of(word)?)?;
+    Some((thread, rest))
+}
+
+/// The same, by a look at eight bytes if the name is recent. With `rare` only these names are tried: the others were tried before, and to hash this one
+/// again takes longer than to leave the line to the parser.
 #[inline(always)]
 fn leading_thread<'a>(
     trace: &mut Trace,
@@ -103,18 +117,10 @@ fn leading_thread<'a>(
     ensures led { IfSome result (λ led. IsLeadingThread trace.old.names.threads bytes.now led.0 led.1.now) }
     ensures same { trace.new ≡ trace.old }
 {
-    if let Some(led) = trace.leading_thread(bytes) {
-        return Some(led);
+    match trace.leading_thread(bytes) {
+        None if !rare => any_leading_thread(trace.names(), bytes),
+        led => led,
     }
-    if rare {
-        return None;
-    }
-    let (word, rest) = split_at_space(bytes);
-    if rest.is_empty() {
-        return None;
-    }
-    let thread = trace.names().known_thread(name_of(word)?)?;
-    Some((thread, rest))
 }
 
 /// The value of the hexadecimal digits in front, of which at most 12 are read one by one, and how many these are.
@@ -406,7 +412,7 @@ fn add_usual_operation(
 /// With `rare` it reads shows, reuses, levels and brackets, else accesses and lock events. One call for both took 15 to 20 instructions more a line.
 ///
 /// It makes no value of an enum with names in it: such a value is copied in pieces that are wider than its parts, and each copy
-/// waits until the parts are written.
+/// waits until the parts are written. It is made part of its caller only as long as it is small with all that is part of it: `docs/BENCHMARKS.md`, "Reading".
 #[inline(always)]
 pub(crate) fn add_usual(
     trace: &mut Trace,

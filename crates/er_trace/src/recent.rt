@@ -6,8 +6,20 @@ ghost use Rattle.er_trace.specs.Inner.Recent.{unpacked, bytes_of, IsRight, AreRi
 
 use std::alloc::Global;
 
-/// The number with these bytes as its digits, the first of them the lowest. Each length has a form of its own, without a loop, so that
-/// bytes that lie side by side are loaded together.
+/// The number with these eight bytes as its digits, the first of them the lowest. What reads a line asks for it at many places, so it is short: the
+/// toolchain doesn't make a function part of its caller if that would grow too large.
+#[inline(always)]
+fn packed_eight(bytes: &[u8]) -> u64
+    requires { length bytes.now ≡ 8 }
+    ensures { unpacked (length bytes.now) result ≡ bytes.now }
+{
+    match *bytes {
+        [a, b, c, d, e, f, g, h] => u64::from_le_bytes([a, b, c, d, e, f, g, h]),
+        _ => 0,
+    }
+}
+
+/// The same of at most eight bytes. Each length has a form of its own, without a loop, so that bytes that lie side by side are loaded together.
 #[inline(always)]
 fn packed(bytes: &[u8]) -> u64
     requires { length bytes.now ≤ 8 }
@@ -21,7 +33,7 @@ fn packed(bytes: &[u8]) -> u64
         [a, b, c, d, e] => u64::from_le_bytes([a, b, c, d, e, 0, 0, 0]),
         [a, b, c, d, e, f] => u64::from_le_bytes([a, b, c, d, e, f, 0, 0]),
         [a, b, c, d, e, f, g] => u64::from_le_bytes([a, b, c, d, e, f, g, 0]),
-        [a, b, c, d, e, f, g, h] => u64::from_le_bytes([a, b, c, d, e, f, g, h]),
+        [_, _, _, _, _, _, _, _] => packed_eight(bytes),
         _ => 0,
     }
 }
@@ -107,7 +119,7 @@ impl ShortName {
         if bytes.len() < 8 {
             return None;
         }
-        let block = packed(&bytes[..8]);
+        let block = packed_eight(&bytes[..8]);
         let len = space_near(block);
         if len >= 8 || bytes[len] != b' ' {
             return None;
@@ -133,7 +145,7 @@ impl ShortName {
         let last = ShortName::near_space(back)?;
         Some(ShortName {
             len: 8 + last.len,
-            first: packed(front),
+            first: packed_eight(front),
             rest: last.first,
         })
     }
@@ -147,7 +159,7 @@ impl ShortName {
         if bytes.len() < 8 || len == 0 || len > 8 {
             return None;
         }
-        let block = packed(&bytes[bytes.len() - 8..]);
+        let block = packed_eight(&bytes[bytes.len() - 8..]);
         Some(ShortName {
             len,
             first: block >> (64 - 8 * len),
@@ -210,7 +222,7 @@ impl Leading {
         }
         let mask = u64::MAX >> (56 - 8 * len);
         Leading {
-            front: packed(&bytes[..8]) & mask,
+            front: packed_eight(&bytes[..8]) & mask,
             mask,
             len,
             number,
@@ -222,7 +234,7 @@ impl Leading {
     pub(crate) fn find(&self, bytes: &[u8]) -> Option<(u32, usize)>
         ensures { (names : List (List ℕ)) → LeadsRight names self.now → IfSome result (λ led. IsLed names bytes.now led.0 led.1) }
     {
-        if bytes.len() < 8 || packed(&bytes[..8]) & self.mask != self.front {
+        if bytes.len() < 8 || packed_eight(&bytes[..8]) & self.mask != self.front {
             return None;
         }
         Some((self.number, self.len))

@@ -14,10 +14,13 @@ use std::sync::Wait;
 use std::thread;
 use std::time::Instant;
 
-/// `detector NUMBER SHARDS JOURNAL SEATS`: one more detector, of which the first is `a` and the second `b`.
+/// `detector NUMBER SHARDS JOURNAL SEATS`, with `drawing MOST` or not: one more detector, of which the first is `a` and the second `b`.
 pub(crate) fn detector(alloc: Global, world: &mut World, work: &mut Work) -> Made {
     let name = work.number()?;
-    let config = Config::new(name, work.count()?, work.count()?, work.count()?);
+    let mut config = Config::new(name, work.count()?, work.count()?, work.count()?);
+    if work.take("drawing").is_ok() {
+        config = config.ok_or(Fault::BadRow)?.drawing(work.count()?);
+    }
     world.detectors.list.reserve(1)?;
     let detector = Detector::new(alloc, world.table, config.ok_or(Fault::BadRow)?)?;
     world.detectors.list.push_reserved(Some(detector));

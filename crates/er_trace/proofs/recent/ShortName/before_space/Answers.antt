@@ -12,6 +12,6 @@ returns-clause-bytes c =
     let back : c.in_ok-front.back.now ≡ drop 8 bytes = search rules in
     let long : 8 ≤ length bytes = search rules in
     let size : length c.in_ok-front.front.now ≡ 8 = let few = length-take 8 bytes in let same = ap length front in omega (arith, few, same, long) in
-    let P : ℕ → Type 0 = λ n. unpacked n c.packed.result ≡ c.in_ok-front.front.now in
+    let P : ℕ → Type 0 = λ n. unpacked n c.packed_eight.result ≡ c.in_ok-front.front.now in
     let Q : List ℕ → Type 0 = λ b. b ≡ bytes_of last ++ 32 ∷ drop (last.len + 1) b in
-    far_space bytes c.packed.result last (subst P size c.packed.ensures ∙ front) c.in_ok-last.ensures.within.0 (subst Q back c.in_ok-last.ensures.bytes)
+    far_space bytes c.packed_eight.result last (subst P size c.packed_eight.ensures ∙ front) c.in_ok-last.ensures.within.0 (subst Q back c.in_ok-last.ensures.bytes)
