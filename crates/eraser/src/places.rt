@@ -132,8 +132,7 @@ pub(crate) fn excerpts_of<R: Files + AllocGlobal>(
     Ok(excerpts)
 }
 
-// The trace once more, if its reports have reasons whose places are shown. What is no ordinary file can't be read twice. While it is read, what it
-// says of the program is noted.
+// The trace once more, if its reports have reasons whose places are shown and it is an ordinary file. What it says of the program is noted meanwhile.
 fn open_again<R: Files + AllocGlobal>(
     rt: &R,
     job: Job<'_>,

@@ -34,7 +34,6 @@ use er_triage::{Triaged, Wishes, triage};
 use std::alloc::{AllocError, Global};
 use std::fs::File;
 use std::io::{Read, Write};
-use std::mem::forget;
 use std::rt::Files;
 use std::sync::Wait;
 use std::thread::Threads;
@@ -241,7 +240,7 @@ fn write_headed<O: Write>(
     Ok(())
 }
 
-// Writes the file of rules behind the reports, unless the replay stopped.
+// Writes the file of rules behind the reports, unless the replay stopped. The reports are left to the end of the process, which frees them at once.
 fn finish<R: Files>(
     rt: &R,
     path: Option<&str>,
@@ -262,8 +261,7 @@ fn finish<R: Files>(
         return Err(fault);
     }
     let Triaged { notes, reports, .. } = triaged;
-    // The end of the process frees the lines and reasons of all races at once.
-    forget(reports);
+    std::mem::forget(reports);
     Ok(Ended {
         status: status_of(verdict),
         notes,
