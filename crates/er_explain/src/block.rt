@@ -1,6 +1,6 @@
 //! `Block`, the books of words that lie side by side.
-ghost use Rattle.std.specs.Prelude.{◌≡◌, ◌<◌, ◌≤◌, ◌+◌, ◌&&◌, ℕ, nat_eq, nat_le, cond, length, option_copied, OnOk, ◌==◌};
-ghost use Rattle.er_explain.specs.Book.{Untouched};
+ghost use Rattle.std.specs.Prelude.{◌≡◌, ◌<◌, ◌≤◌, ◌+◌, ◌&&◌, ℕ, nat_eq, nat_le, cond, length, option_copied, IfOk, OnOk, ◌==◌};
+ghost use Rattle.er_explain.specs.Book.{Owned, Untouched};
 ghost use Rattle.er_explain.specs.Books.{book_accessed};
 ghost use Rattle.er_explain.specs.Inner.Places.{book_of, number_at, place_at, AreApart};
 ghost use Rattle.er_explain.specs.WordBooks.{book_at_place, joining_in};
@@ -40,16 +40,20 @@ impl<A> Model for Block<A> {
 }
 
 impl<A: Copy> Block<A> {
-    pub(crate) fn new(alloc: Global) -> Block<A>
-        ensures { (i : ℕ) → book_at_place result i ≡ Untouched }
+    /// A block with one book, of the word at a place, which begins by this access.
+    pub(crate) fn begin(alloc: Global, place: usize, access: Access<A>) -> Made<Block<A>>
+        requires { place < 256 }
+        ensures { IfOk result (λ block. (i : ℕ) → book_at_place block i ≡ cond (nat_eq place i) (Owned access.thread access) Untouched) }
     {
-        Block {
-            books: Vec::new(alloc),
-            places: [0; 256],
-        }
+        let mut books = Vec::with_capacity(alloc, 4)?;
+        books.push_reserved(Book::begin(access));
+        let mut places = [0; 256];
+        places[0] = place as u8;
+        Ok(Block { books, places })
     }
 
     /// The book of the word at a place goes on by a counted access. A joining may be a spare one.
+    #[inline(always)]
     pub(crate) fn access(
         &mut self,
         alloc: Global,
@@ -70,7 +74,9 @@ impl<A: Copy> Block<A> {
         if count >= 256 {
             return Err(AllocError);
         }
-        self.books.push(Book::begin(access))?;
+        // A push would be a call, which returns the book that it finds no memory for.
+        self.books.reserve(1)?;
+        self.books.push_reserved(Book::begin(access));
         self.places[count] = place as u8;
         Ok(())
     }
@@ -144,7 +150,7 @@ fn remove<A: Copy>(
 const LANES: usize = 16;
 
 /// The number at which a place stands first, if that is one of the first `count`, and else one that isn't.
-#[inline]
+#[inline(always)]
 pub(crate) fn number_at(places: &[u8; 256], count: usize, place: u8) -> usize
     requires { count ≤ 256 }
     ensures found { result < count → result ≡ number_at places.now place }

@@ -195,6 +195,7 @@ impl<A: Copy> Book<A> {
     }
 
     /// Goes on by a counted access of the word. A joining may be a spare one.
+    #[inline(never)]
     pub(crate) fn access(
         &mut self,
         alloc: Global,

@@ -1,6 +1,7 @@
 //! `WordBooks`, the books of all words.
-ghost use Rattle.std.specs.Prelude.{◌≡◌, ◌==◌, ◌<◌, ℕ, cond, option_copied, Some, None, OnOk};
-ghost use Rattle.er_explain.specs.Book.{Untouched, access_of};
+ghost use Rattle.std.specs.Map.{lookup};
+ghost use Rattle.std.specs.Prelude.{◌≡◌, ◌==◌, ◌<◌, ◌/◌, ℕ, cond, nat_eq, option_copied, Some, None, OnOk};
+ghost use Rattle.er_explain.specs.Book.{Owned, Untouched, access_of};
 ghost use Rattle.er_explain.specs.Books.{book_accessed, book_after};
 ghost use Rattle.er_explain.specs.WordBooks.{book_in, is_place_in, joining_in};
 ghost use Rattle.er_explain.specs.Following.{cover_by};
@@ -72,6 +73,8 @@ impl<A: Copy> WordBooks<A> {
         Ok(())
     }
 
+    // Most accesses find their block. What is seldom taken, here and below, is a call of its own: so the others save fewer registers.
+    #[inline(always)]
     fn access(&mut self, cover: &Lockset, word: Word, access: Access<A>) -> Made<()>
         ensures { OnOk result ((w : ℕ) → book_in self.new w ≡ cond (word == w) (book_accessed (book_in self.old word) access access.thread access.kind cover.now) (book_in self.old w)) }
     {
@@ -84,16 +87,26 @@ impl<A: Copy> WordBooks<A> {
                 block.access(self.alloc, &mut self.spare, cover, place, access)?;
                 Ok(())
             }
-            None => {
-                let mut block = Block::new(self.alloc);
-                block.access(self.alloc, &mut self.spare, cover, place, access)?;
-                self.hints.note(number, self.blocks.len());
-                self.blocks.insert(number, block)?;
-                Ok(())
-            }
+            None => self.begin_block(word, access),
         }
     }
 
+    // The first access of a word whose block isn't there.
+    #[inline(never)]
+    fn begin_block(&mut self, word: Word, access: Access<A>) -> Made<()>
+        requires { lookup (nat_eq (word / 256)) self.old ≡ None }
+        ensures books { OnOk result ((w : ℕ) → book_in self.new w ≡ cond (word == w) (Owned access.thread access) (book_in self.old w)) }
+        ensures first { OnOk result (book_in self.old word ≡ Untouched) }
+    {
+        let at = word.number();
+        let (number, place) = (at / WORDS, (at % WORDS) as usize);
+        let block = Block::begin(self.alloc, place, access)?;
+        self.hints.note(number, self.blocks.len());
+        self.blocks.insert(number, block)?;
+        Ok(())
+    }
+
+    #[inline(never)]
     fn reuse(&mut self, range: PageRange)
         ensures { (w : ℕ) → book_in self.new w ≡ cond (is_within w range) Untouched (book_in self.old w) }
     {

@@ -31,8 +31,8 @@ returns-then-number-count g c =
 pub invariant_of-self-2 : goal.invariant_of-self-2
 invariant_of-self-2 g c =
     let count : c.len-count.result ≡ length c.self.inside.books.items = omega (arith, c.len-count.ensures) in
-    apart-as (slice_set c.self.inside.places c.len-count.result c.args.place) (c.len-count.result + 1) (length c.push.new.self.items)
-    (sym (ap (λ bs. length bs) c.in_ok-push.ensures.items ∙ one_longer c.self.inside.books.items c.begin.result c.len-count.result (sym count)))
+    apart-as (slice_set c.self.inside.places c.len-count.result c.args.place) (c.len-count.result + 1) (length c.push_reserved.new.self.items)
+    (sym (ap (λ bs. length bs) (c.push_reserved.ensures.items ∙ ap (λ bs. bs ++ (c.begin.result ∷ [])) c.reserve.ensures.items) ∙ one_longer c.self.inside.books.items c.begin.result c.len-count.result (sym count)))
     (apart-more c.self.inside.places (slice_set c.self.inside.places c.len-count.result c.args.place) c.args.place c.len-count.result (apart-as c.self.inside.places _ c.len-count.result (sym count) c.self.invariant)
     (omega (arith, c.if-count-ge256.false)) refl (c.number_at-number.ensures.none (omega (arith, c.if-number-count.false))))
 
@@ -40,7 +40,7 @@ pub returns : goal.returns
 returns g c i =
     let count : c.len-count.result ≡ length c.self.inside.books.items = omega (arith, c.len-count.ensures) in
     let none : c.len-count.result ≤ number_at c.self.inside.places c.args.place = c.number_at-number.ensures.none (omega (arith, c.if-number-count.false)) in
-    ap (λ bs. book_at_place (kept_books (slice_set c.self.inside.places c.len-count.result c.args.place) bs) i) c.in_ok-push.ensures.items
+    ap (λ bs. book_at_place (kept_books (slice_set c.self.inside.places c.len-count.result c.args.place) bs) i) (c.push_reserved.ensures.items ∙ ap (λ bs. bs ++ (c.begin.result ∷ [])) c.reserve.ensures.items)
     ∙ goes_on c.self.inside.places (slice_set c.self.inside.places c.len-count.result c.args.place) c.self.inside.books.items (c.self.inside.books.items ++ (c.begin.result ∷ [])) c.args.self.now c.args.place c.begin.result
     (λ b. book_accessed b c.args.access c.args.access.thread c.args.access.kind c.args.cover.now)
     c.self.view_is c.requires

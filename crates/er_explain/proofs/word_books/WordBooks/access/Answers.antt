@@ -2,7 +2,7 @@ use Rattle.std.proofs.Common.{◌≡◌, ◌==◌, ◌/◌, ◌%◌, ℕ, cond, 
 use Rattle.er_explain.specs.Books.{book_accessed}
 use Rattle.er_explain.specs.WordBooks.{book_in}
 use Rattle.indexmap.specs.IndexMap.{with_value_at}
-use Rattle.er_explain.proofs.BlockLemmas.{one_book, first_book}
+use Rattle.er_explain.proofs.BlockLemmas.{one_book}
 use Rattle.er_keys.proofs.MapLemmas.{entry_found, entry_put}
 use Rattle.er_explain.proofs.word_books.WordBooks.access.Goals as goal
 
@@ -16,11 +16,3 @@ returns-in_ok-access-in-Some g c =
     (entry_found c.self.inside.blocks c.in-Some.index (c.number-at.result / 256) c.index_mut-block.result.now c.in-Some.ensures.unique c.in-Some.ensures.key c.index_mut-block.ensures.value)
     (entry_put c.self.inside.blocks c.in-Some.index (c.number-at.result / 256) c.index_mut-block.result.now c.in-Some.ensures.unique c.in-Some.ensures.key c.index_mut-block.ensures.value c.access.new.self)
     c.in_ok-access-in-Some.ensures)
-
-pub returns-in_ok-insert-in-None : goal.returns-in_ok-insert-in-None
-returns-in_ok-insert-in-None g c =
-    subst (λ old. (w : ℕ) → book_in c.insert.new.self.entries w
-    ≡ cond (c.args.word == w) (book_accessed (book_in old c.args.word) c.args.access c.args.access.thread c.args.access.kind c.args.cover.now) (book_in old w)) c.self.view_is
-    (first_book c.self.inside.blocks.entries c.insert.new.self.entries c.args.word (c.number-at.result / 256) (c.number-at.result % 256) c.new-block.result c.access-in-None.new.self
-    (λ b. book_accessed b c.args.access c.args.access.thread c.args.access.kind c.args.cover.now)
-    (ap (λ n. n / 256) c.number-at.ensures.value) (ap (λ n. n % 256) c.number-at.ensures.value) c.in-None.ensures.none c.in_ok-insert-in-None.ensures.updates.0 c.new-block.ensures c.in_ok-access-in-None.ensures)
