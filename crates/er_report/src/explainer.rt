@@ -72,7 +72,8 @@ impl Explainer {
         Ok(())
     }
 
-    // The reasons that the book of an event's word tells, if the event is an access.
+    // The reasons that the book of an event's word tells, if the event is an access. Few accesses are races: so it is a call.
+    #[inline(never)]
     fn reasons_for(&self, event: Event) -> Made<Vec<Because>>
         ensures { IfOk result (λ reasons. reasons.items ≡ word_reasons (book_in self.now.books) (word_in event)) }
     {
