@@ -1,12 +1,16 @@
 -- One book, or some that lie side by side, change in one block: what that makes of the books of all words.
-use Rattle.std.proofs.Common.{◌≡◌, ◌≢◌, ◌∙◌, ◌==◌, ℕ, zero, suc, ◌+◌, ◌<◌, ◌≤◌, ◌/◌, ◌%◌, ◌&&◌, nat_eq, nat_le, nat_lt, Bool, true, false, cond, List, [], ◌∷◌, ◌++◌, length, slice_index_or, slice_set, Option, Some, None, refl, sym, ap, arith}
+use Rattle.std.proofs.Common.{◌≡◌, ◌≢◌, ◌∙◌, ◌==◌, ℕ, zero, suc, ◌+◌, ◌<◌, ◌≤◌, ◌/◌, ◌%◌, ◌&&◌, nat_eq, nat_le, nat_lt, Bool, true, false, cond, List, [], Option, Some, None, refl, sym, ap, arith}
 use Rattle.std.specs.Map.{lookup}
 use Rattle.std.proofs.lemmas.Bool.Decides.{nat_tests}
-use Rattle.std.proofs.lemmas.List.{get_or-set_same, get_or-set_other}
 use borrow.Author.Tests.{eqb-true, eqb-false, eq-eqb, lt-ltb}
 use Rattle.er_event.specs.declared.addresses.PageRange.{PageRange}
 use Rattle.er_model.specs.Words.{is_within}
-use Rattle.er_explain.specs.Inner.Places.{listed, book_of, kept_books}
+use Rattle.std.specs.Option.{option_or}
+use Rattle.er_explain.specs.Inner.Packing.{unpacked}
+use Rattle.er_explain.specs.Inner.Places.{listed, found_at, opened, book_of, kept_books}
+use Rattle.er_explain.specs.declared.book.Access.{Access}
+use Rattle.er_explain.specs.declared.book.Packed.{Packed}
+use Rattle.er_explain.specs.declared.book.Packed.TheVariants.{Alone, Together}
 use Rattle.er_explain.specs.WordBooks.{Blocks, book_at_place, book_in_block, book_in, is_place_in}
 use Rattle.er_explain.specs.Book.{Book, Untouched}
 
@@ -236,59 +240,71 @@ module _ {A : Type 0} where
       by true false = refl
       by false t = refl
 
-  -- one book more
-  pub appended_at : (books : List (Book A)) (b : Book A) (i : ℕ) → slice_index_or (books ++ (b ∷ [])) i Untouched ≡ cond (nat_eq (length books) i) b (slice_index_or books i Untouched)
-  appended_at [] b zero = refl
-  appended_at [] b (suc i) = ap (λ c. cond c b Untouched) (sym (other i))
-    where
-      other : (k : ℕ) → nat_eq 0 (suc k) ≡ false
-      other k = grind (arith, nat_tests)
-  appended_at (x ∷ books) b zero = ap (λ c. cond c b x) (sym (other (length books)))
-    where
-      other : (k : ℕ) → nat_eq (suc k) 0 ≡ false
-      other k = grind (arith, nat_tests)
-  appended_at (x ∷ books) b (suc i) = appended_at books b i ∙ ap (λ c. cond c b (slice_index_or books i Untouched)) (one_less (length books) i)
-    where
-      one_less : (x y : ℕ) → nat_eq x y ≡ nat_eq (suc x) (suc y)
-      one_less x y = grind (arith, nat_tests)
-
-  -- a book is written over
-  pub set_at : (books : List (Book A)) (slot : ℕ) (b : Book A) → slot < length books → (i : ℕ) → slice_index_or (slice_set books slot b) i Untouched ≡ cond (nat_eq slot i) b (slice_index_or books i Untouched)
-  set_at books slot b within i = by (nat_eq slot i) refl
-    where
-      by : (at : Bool) → nat_eq slot i ≡ at → slice_index_or (slice_set books slot b) i Untouched ≡ cond at b (slice_index_or books i Untouched)
-      by true e = ap (λ k. slice_index_or (slice_set books slot b) k Untouched) (sym (eqb-true slot i e)) ∙ get_or-set_same books slot b Untouched within
-      by false e = get_or-set_other books slot i b Untouched (λ at. eqb-false slot i e (sym at))
-
-  -- the book of a place is the one that has its number
-  pub own_book : (places : List ℕ) (books now : List (Book A)) (place : ℕ) → kept_books places books ≡ now → place < 256 → book_at_place now place ≡ book_of places books place
+-- the books of a block
+module _ {A : Type 0} where
+  -- the book of a place is the one that is found there
+  pub own_book : (places : List ℕ) (books : List (Packed A)) (now : List (Book (Access A))) (place : ℕ) → kept_books places books ≡ now → place < 256 → book_at_place now place ≡ book_of places books place
   unfolding kept_books
   own_book places books now place seen within = kept_at _ now place seen within
 
-  -- the books of a block without books
-  pub nothing_kept : (places : List ℕ) (books : List (Book A)) → books ≡ [] → (i : ℕ) → book_at_place (kept_books places books) i ≡ Untouched
+  -- a block with one book
+  pub one_kept : (places : List ℕ) (books : List (Packed A)) (place : ℕ) (book : Packed A) → place < 256 → ((i : ℕ) → found_at places books i ≡ cond (nat_eq place i) (Some book) None)
+      → (i : ℕ) → book_at_place (kept_books places books) i ≡ cond (nat_eq place i) (unpacked book) Untouched
   unfolding kept_books
-  nothing_kept places books none i = no_books (book_of places books) (λ k. ap (λ bs. book_of places bs k) none) i
+  one_kept places books place book within found i =
+      one_changed (λ _. Untouched) (book_of places books) (listed (λ _. Untouched) 0 256) place (unpacked book) refl within
+      (λ k. ap opened (found k) ∙ by (nat_eq place k)) i
+      ∙ ap (λ b. cond (nat_eq place i) (unpacked book) b) (no_books (λ _. Untouched) (λ _. refl) i)
+    where
+      by : (t : Bool) → opened (cond t (Some book) None) ≡ cond t (unpacked book) Untouched
+      by true = refl
+      by false = refl
 
   -- some books are empty now
-  pub emptied_books : (places left : List ℕ) (books fewer now : List (Book A)) (test : ℕ → Bool) → kept_books places books ≡ now
-      → ((i : ℕ) → book_of left fewer i ≡ cond (test i) Untouched (book_of places books i))
+  pub emptied_books : (places left : List ℕ) (books fewer : List (Packed A)) (now : List (Book (Access A))) (test : ℕ → Bool) → kept_books places books ≡ now
+      → ((i : ℕ) → found_at left fewer i ≡ cond (test i) None (found_at places books i))
       → (i : ℕ) → book_at_place (kept_books left fewer) i ≡ cond (test i) Untouched (book_at_place now i)
   unfolding kept_books
-  emptied_books places left books fewer now test seen less = some_emptied (book_of places books) (book_of left fewer) now test seen less
+  emptied_books places left books fewer now test seen less =
+      some_emptied (book_of places books) (book_of left fewer) now test seen (λ i. ap opened (less i) ∙ by (test i) (found_at places books i))
+    where
+      by : (t : Bool) (o : Option (Packed A)) → opened (cond t None o) ≡ cond t Untouched (opened o)
+      by true o = refl
+      by false o = refl
 
   -- one book of a block goes on
-  pub goes_on : (places left : List ℕ) (books more now : List (Book A)) (place : ℕ) (after : Book A) (f : Book A → Book A)
+  pub goes_on : (places left : List ℕ) (books more : List (Packed A)) (now : List (Book (Access A))) (place : ℕ) (after : Packed A) (f : Book (Access A) → Book (Access A))
       → kept_books places books ≡ now → place < 256
-      → ((i : ℕ) → book_of left more i ≡ cond (nat_eq place i) after (book_of places books i))
-      → after ≡ f (book_of places books place)
+      → ((i : ℕ) → found_at left more i ≡ cond (nat_eq place i) (Some after) (found_at places books i))
+      → unpacked after ≡ f (book_of places books place)
       → (i : ℕ) → book_at_place (kept_books left more) i ≡ cond (nat_eq place i) (f (book_at_place now place)) (book_at_place now i)
   unfolding kept_books
   goes_on places left books more now place after f seen within changes goes i =
-      one_changed (book_of places books) (book_of left more) now place after seen within changes i
+      one_changed (book_of places books) (book_of left more) now place (unpacked after) seen within (λ k. ap opened (changes k) ∙ by (nat_eq place k) (found_at places books k)) i
       ∙ ap (λ b. cond (nat_eq place i) b (book_at_place now i)) (goes ∙ ap f (sym (own_book places books now place seen within)))
+    where
+      by : (t : Bool) (o : Option (Packed A)) → opened (cond t (Some after) o) ≡ cond t (unpacked after) (opened o)
+      by true o = refl
+      by false o = refl
 
-  pub past_end : (books : List (Book A)) (n : ℕ) → length books ≤ n → slice_index_or books n Untouched ≡ Untouched
-  past_end [] n past = refl
-  past_end (x ∷ books) zero past = absurd (omega (arith, past))
-  past_end (x ∷ books) (suc n) past = past_end books n (omega (arith, past))
+  -- a place whose book is empty has none
+  pub none_found : (o : Option (Packed A)) → opened o ≡ Untouched → o ≡ None
+  none_found None empty = refl
+  none_found (Some (Alone kind thread at)) empty = cc
+  none_found (Some (Together joining)) empty = cc
+
+  -- and gets one
+  pub one_put : (places left : List ℕ) (books more : List (Packed A)) (now : List (Book (Access A))) (place : ℕ) (book : Packed A) → kept_books places books ≡ now → place < 256
+      → book_at_place now place ≡ Untouched → ((i : ℕ) → found_at left more i ≡ option_or (found_at places books i) (cond (nat_eq place i) (Some book) None))
+      → (i : ℕ) → book_at_place (kept_books left more) i ≡ cond (nat_eq place i) (unpacked book) (book_at_place now i)
+  one_put places left books more now place book seen within empty puts =
+      goes_on places left books more now place book (λ _. unpacked book) seen within (λ i. puts i ∙ by i (nat_eq place i) refl (found_at places books i) refl) refl
+    where
+      none : found_at places books place ≡ None
+      none = none_found (found_at places books place) (sym (own_book places books now place seen within) ∙ empty)
+
+      by : (i : ℕ) (t : Bool) → nat_eq place i ≡ t → (o : Option (Packed A)) → found_at places books i ≡ o → option_or o (cond t (Some book) None) ≡ cond t (Some book) o
+      by i true here None is = refl
+      by i true here (Some b) is = let never : None ≡ Some b = sym none ∙ (ap (λ k. found_at places books k) (eqb-true place i here) ∙ is) in cc
+      by i false other None is = refl
+      by i false other (Some b) is = refl

@@ -1,5 +1,5 @@
 -- Where the places of a block's books stand, and what a book more or one less changes.
-use Rattle.std.proofs.Common.{◌≡◌, ◌≢◌, ◌∙◌, ◌==◌, ℕ, ◌+◌, ◌<◌, ◌≤◌, ◌&&◌, nat_eq, nat_le, nat_lt, Bool, true, false, cond, List, [], ◌∷◌, ◌++◌, length, slice_index_or, slice_set, ◌⊎◌, inl, inr, refl, sym, ap, subst, arith, length-append}
+use Rattle.std.proofs.Common.{◌≡◌, ◌≢◌, ◌∙◌, ◌==◌, ℕ, ◌+◌, ◌<◌, ◌≤◌, ◌&&◌, nat_eq, nat_le, nat_lt, Bool, true, false, cond, List, [], ◌∷◌, ◌++◌, length, slice_index_or, slice_set, ◌⊎◌, inl, inr, refl, sym, ap, arith, not, zero, suc, take, slice_get, Option, Some, None}
 use Rattle.std.proofs.lemmas.Bool.Decides.{nat_tests}
 use Rattle.std.proofs.lemmas.List.{get_or-set_same, get_or-set_other, length-set}
 use Rattle.std.proofs.lemmas.Simd.{run_in_chunk_fails, run_in_chunk_stops}
@@ -7,9 +7,15 @@ use Rattle.std.specs.List.{position_or_len}
 use lib.Lanes.{chunk}
 use Rattle.std.proofs.lemmas.List.Sums.{position_or_len_is, fails_before_first, passes_at_first}
 use borrow.Author.Tests.{eqb-true, eqb-false, eq-eqb, ltb-true, ltb-false}
-use Rattle.er_explain.proofs.BlockLemmas.{appended_at, past_end, set_at}
-use Rattle.er_explain.specs.Book.{Book, Untouched}
-use Rattle.er_explain.specs.Inner.Places.{place_at, number_at, book_of, AreApart}
+use Rattle.std.proofs.lemmas.List.{take_more, take_all, take-set-le, length-take-le}
+use Rattle.std.proofs.lemmas.Option.{slice_get_past}
+use Rattle.std.specs.Option.{option_or}
+use Rattle.std.specs.List.{SwappedAt}
+use Rattle.er_explain.specs.Inner.Places.{number_at, found_at}
+
+-- the place of the book of this number
+abbrev pub place_at : List ℕ → ℕ → ℕ
+place_at places number = slice_index_or places number 0
 
 -- a number is below another, or it isn't
 pub below_or : (a b : ℕ) → (a < b) ⊎ (b ≤ a)
@@ -53,254 +59,109 @@ number_past ps i n within others = by (below_or (number_at ps i) n)
     by (inl below) = absurd (others (number_at ps i) below (place_there ps i (omega (arith, below, within))))
     by (inr past) = past
 
--- two numbers of one place are the same
-pub one_number : (ps : List ℕ) (count i n : ℕ) → AreApart ps count → n < count → place_at ps n ≡ i → number_at ps i ≡ n
-one_number ps count i n was within is = ap (number_at ps) (sym is) ∙ was.apart n within
+-- Books by their places
 
--- One book more
-
-module _ (ps left : List ℕ) (place count : ℕ) (was : AreApart ps count) (room : count < 256) (put : left ≡ slice_set ps count place) (new : count ≤ number_at ps place) where
-  put_here : place_at left count ≡ place
-  put_here = ap (λ l. place_at l count) put ∙ get_or-set_same ps count place 0 (let long = was.long in omega (arith, room, long))
-
-  put_other : (k : ℕ) → k ≢ count → place_at left k ≡ place_at ps k
-  put_other k other = ap (λ l. place_at l k) put ∙ get_or-set_other ps count k place 0 other
-
-  as_long : length left ≡ 256
-  as_long = ap (λ l. length l) put ∙ length-set ps count place ∙ was.long
-
-  new_number : number_at left place ≡ count
-  new_number =
-      number_is left place count (omega (arith, room, as_long)) put_here
-      (λ k before same. other_before ps place k (omega (arith, before, new)) (sym (put_other k (less k before)) ∙ same))
+module _ {X : Type 0} where
+  -- the first book of a place has the number at which it stands first
+  pub found-number : (ps : List ℕ) (books : List X) (i : ℕ) → length books ≤ length ps → found_at ps books i ≡ slice_get books (number_at ps i)
+  unfolding found_at
+  found-number [] [] i room = refl
+  found-number [] (b ∷ books) i room = absurd (omega arith)
+  found-number (p ∷ ps) [] i room = refl
+  found-number (p ∷ ps) (b ∷ books) i room = by (p == i) (found-number ps books i (omega arith))
     where
-      less : (k : ℕ) → k < count → k ≢ count
-      less k before same = omega (arith, before, same)
+      one_on : (n : ℕ) → suc n ≡ 1 + n
+      one_on n = omega arith
 
-  old_number : (i : ℕ) → number_at ps i < count → number_at left i ≡ number_at ps i
-  old_number i below =
-      number_is left i (number_at ps i) (omega (arith, below, room, as_long))
-      (put_other (number_at ps i) (less (number_at ps i) below) ∙ place_there ps i (let long = was.long in omega (arith, below, room, long)))
-      (λ k before same. other_before ps i k before (sym (put_other k (less k (omega (arith, before, below)))) ∙ same))
+      by : (t : Bool) → found_at ps books i ≡ slice_get books (number_at ps i) → cond t (Some b) (found_at ps books i) ≡ slice_get (b ∷ books) (cond (not t) (1 + number_at ps i) 0)
+      by true same = refl
+      by false same = same ∙ ap (slice_get (b ∷ books)) (one_on (number_at ps i))
+
+  one_there : (books : List X) (n : ℕ) → n < length books → (x : X) × ((d : X) → slice_index_or books n d ≡ x)
+  one_there [] n within = absurd (omega arith)
+  one_there (x ∷ books) zero within = (x, λ d. refl)
+  one_there (x ∷ books) (suc n) within = one_there books n (omega arith)
+
+  -- among none there is none
+  found-none : (ps : List ℕ) (i : ℕ) → found_at {X = X} ps [] i ≡ None
+  unfolding found_at
+  found-none [] i = refl
+  found-none (p ∷ ps) i = refl
+
+  -- one book more counts if its place had none
+  found-more : (ps : List ℕ) (books : List X) (b : X) (i : ℕ) → length books < length ps
+      → found_at ps (books ++ (b ∷ [])) i ≡ option_or (found_at ps books i) (cond (place_at ps (length books) == i) (Some b) None)
+  unfolding found_at
+  found-more [] books b i room = absurd (omega arith)
+  found-more (p ∷ ps) [] b i room = ap (λ o. cond (p == i) (Some b) o) (found-none ps i)
+  found-more (p ∷ ps) (x ∷ books) b i room = by (p == i) (found-more ps books b i (omega arith))
     where
-      less : (k : ℕ) → k < count → k ≢ count
-      less k before same = omega (arith, before, same)
+      by : (t : Bool) → found_at ps (books ++ (b ∷ [])) i ≡ option_or (found_at ps books i) (cond (place_at ps (length books) == i) (Some b) None)
+          → cond t (Some x) (found_at ps (books ++ (b ∷ [])) i) ≡ option_or (cond t (Some x) (found_at ps books i)) (cond (place_at ps (length books) == i) (Some b) None)
+      by true same = refl
+      by false same = same
 
-  still_none : (i : ℕ) → place ≢ i → count ≤ number_at ps i → count + 1 ≤ number_at left i
-  still_none i differ past =
-      number_past left i (count + 1) (omega (arith, room, as_long))
-      (λ k before same. by k before same (same_or k count))
+  -- a place behind the books says nothing
+  found-behind : (ps : List ℕ) (books : List X) (n place i : ℕ) → length books ≤ n → found_at (slice_set ps n place) books i ≡ found_at ps books i
+  unfolding found_at
+  found-behind [] books n place i behind = refl
+  found-behind (p ∷ ps) [] n place i behind = found-none (slice_set (p ∷ ps) n place) i
+  found-behind (p ∷ ps) (b ∷ books) zero place i behind = absurd (omega arith)
+  found-behind (p ∷ ps) (b ∷ books) (suc n) place i behind = ap (λ o. cond (p == i) (Some b) o) (found-behind ps books n place i (omega arith))
+
+  -- so a book that gets the place behind the others counts if the place had none
+  pub found-put : (ps : List ℕ) (books : List X) (b : X) (place i : ℕ) → length books < length ps
+      → found_at (slice_set ps (length books) place) (books ++ (b ∷ [])) i ≡ option_or (found_at ps books i) (cond (place == i) (Some b) None)
+  found-put ps books b place i room =
+      found-more (slice_set ps (length books) place) books b i (omega (arith, room, length-set ps (length books) place))
+      ∙ (λ k. option_or (found-behind ps books (length books) place i (omega arith) k) (cond (get_or-set_same ps (length books) place 0 room k == i) (Some b) None))
+
+  pub found-first : (ps : List ℕ) (b : X) (place i : ℕ) → 0 < length ps → found_at (slice_set ps 0 place) (b ∷ []) i ≡ cond (place == i) (Some b) None
+  found-first ps b place i room = found-put ps [] b place i room ∙ ap (λ o. option_or o (cond (place == i) (Some b) None)) (found-none ps i)
+
+  -- what a search finds
+  pub found-by : (ps : List ℕ) (books : List X) (place n : ℕ) → length books ≤ length ps → (n < length books → n ≡ number_at ps place) → (length books ≤ n → length books ≤ number_at ps place)
+      → slice_get books n ≡ found_at ps books place
+  found-by ps books place n room found past = by (below_or n (length books))
     where
-      by : (k : ℕ) → k < count + 1 → place_at left k ≡ i → (k ≡ count) ⊎ (k ≢ count) → ⊥
-      by k before same (inl last) = differ (sym put_here ∙ ap (λ n. place_at left n) (sym last) ∙ same)
-      by k before same (inr other) = other_before ps i k (less k before other) (sym (put_other k other) ∙ same)
-        where
-          less : (k : ℕ) → k < count + 1 → k ≢ count → k < number_at ps i
-          less k before other = by_order (below_or k count)
-            where
-              by_order : (k < count) ⊎ (count ≤ k) → k < number_at ps i
-              by_order (inl below) = omega (arith, below, past)
-              by_order (inr above) = absurd (other (omega (arith, above, before)))
+      by : (n < length books) ⊎ (length books ≤ n) → slice_get books n ≡ found_at ps books place
+      by (inl below) = ap (slice_get books) (found below) ∙ sym (found-number ps books place room)
+      by (inr none) = slice_get_past books n none ∙ sym (found-number ps books place room ∙ slice_get_past books (number_at ps place) (past none))
 
-  pub apart-more : AreApart left (count + 1)
-  apart-more = record { few = omega (arith, room); long = as_long; apart = λ n within. by n within (same_or n count) }
+  -- the first book of a place is another one now
+  pub found-set : (ps : List ℕ) (books : List X) (place : ℕ) (after : X) (i : ℕ) → length books ≤ length ps → number_at ps place < length books
+      → found_at ps (slice_set books (number_at ps place) after) i ≡ cond (place == i) (Some after) (found_at ps books i)
+  unfolding found_at
+  found-set ps [] place after i room within = absurd (omega arith)
+  found-set [] (b ∷ books) place after i room within = absurd (omega arith)
+  found-set (p ∷ ps) (b ∷ books) place after i room within = by (p == place) refl within (λ below. found-set ps books place after i (omega arith) below)
     where
-      by : (n : ℕ) → n < count + 1 → (n ≡ count) ⊎ (n ≢ count) → number_at left (place_at left n) ≡ n
-      by n within (inl last) = ap (λ m. number_at left (place_at left m)) last ∙ (ap (number_at left) put_here ∙ (new_number ∙ sym last))
-      by n within (inr other) =
-          ap (number_at left) (put_other n other)
-          ∙ (old_number (place_at ps n) (below (place_at ps n) (was.apart n less)) ∙ was.apart n less)
-        where
-          less : n < count
-          less = by_order (below_or n count)
-            where
-              by_order : (n < count) ⊎ (count ≤ n) → n < count
-              by_order (inl below) = below
-              by_order (inr above) = absurd (other (omega (arith, above, within)))
+      rest : Option X
+      rest = found_at ps books i
 
-          below : (i : ℕ) → number_at ps i ≡ n → number_at ps i < count
-          below i is = omega (arith, is, less)
+      one_on : (n : ℕ) → 1 + n ≡ suc n
+      one_on n = omega arith
 
-  pub book_more : {A : Type 0} (books : List (Book A)) (book : Book A) → length books ≡ count
-      → (i : ℕ) → book_of left (books ++ (book ∷ [])) i ≡ cond (nat_eq place i) book (book_of ps books i)
-  book_more books book long i = by (nat_eq place i) refl (below_or (number_at ps i) count)
-    where
-      at_end : (n : ℕ) → n ≡ count → nat_eq (length books) n ≡ true
-      at_end n is = eq-eqb (length books) n (long ∙ sym is)
+      twice : (t : Bool) → cond t (Some after) rest ≡ cond t (Some after) (cond t (Some b) rest)
+      twice true = refl
+      twice false = refl
 
-      before_end : (n : ℕ) → n < count → nat_eq (length books) n ≡ false
-      before_end n below = no_equal (length books) n (λ same. omega (arith, below, same, long))
+      turned : (t u : Bool) → (p == i) ≡ t → (place == i) ≡ u → (p == place) ≡ false → cond t (Some b) (cond u (Some after) rest) ≡ cond u (Some after) (cond t (Some b) rest)
+      turned true true one other apart =
+          absurd (eqb-false p place apart (eqb-true p i one ∙ sym (eqb-true place i other)))
+      turned true false one other apart = refl
+      turned false u one other apart = refl
 
-      by : (t : Bool) → nat_eq place i ≡ t → (number_at ps i < count) ⊎ (count ≤ number_at ps i)
-          → book_of left (books ++ (book ∷ [])) i ≡ cond t book (book_of ps books i)
-      by true e order =
-          let here : place ≡ i = eqb-true place i e in
-          ap (book_of left (books ++ (book ∷ []))) (sym here)
-          ∙ (appended_at books book (number_at left place) ∙ ap (λ t. cond t book (slice_index_or books (number_at left place) Untouched)) (at_end (number_at left place) new_number))
-      by false e (inl below) =
-          ap (λ n. slice_index_or (books ++ (book ∷ [])) n Untouched) (old_number i below)
-          ∙ (appended_at books book (number_at ps i) ∙ ap (λ t. cond t book (slice_index_or books (number_at ps i) Untouched)) (before_end (number_at ps i) below))
-      by false e (inr past) =
-          let none = still_none i (eqb-false place i e) past in
-          past_end (books ++ (book ∷ [])) (number_at left i) (omega (arith, none, long, length-append books (book ∷ [])))
-          ∙ sym (past_end books (number_at ps i) (omega (arith, past, long)))
+      by : (t : Bool) → (p == place) ≡ t → cond (not t) (1 + number_at ps place) 0 < suc (length books)
+          → (number_at ps place < length books → found_at ps (slice_set books (number_at ps place) after) i ≡ cond (place == i) (Some after) rest)
+          → found_at (p ∷ ps) (slice_set (b ∷ books) (cond (not t) (1 + number_at ps place) 0) after) i ≡ cond (place == i) (Some after) (cond (p == i) (Some b) rest)
+      by true e below same = rw (eqb-true p place e) (twice (place == i))
+      by false e below same =
+          ap (λ n. found_at (p ∷ ps) (slice_set (b ∷ books) n after) i) (one_on (number_at ps place))
+          ∙ ap (λ o. cond (p == i) (Some b) o) (same (omega arith))
+          ∙ turned (p == i) (place == i) refl refl e
 
--- One book less: the last one takes its place
-
-module _ (ps left : List ℕ) (number last : ℕ) (was : AreApart ps (last + 1)) (within : number ≤ last) (put : left ≡ slice_set ps number (place_at ps last)) where
-  moved : place_at left number ≡ place_at ps last
-  moved = ap (λ l. place_at l number) put ∙ get_or-set_same ps number (place_at ps last) 0 (let few = was.few in let long = was.long in omega (arith, within, few, long))
-
-  kept : (k : ℕ) → k ≢ number → place_at left k ≡ place_at ps k
-  kept k other = ap (λ l. place_at l k) put ∙ get_or-set_other ps number k (place_at ps last) 0 other
-
-  long_still : length left ≡ 256
-  long_still = ap (λ l. length l) put ∙ length-set ps number (place_at ps last) ∙ was.long
-
-  -- the place that moves has the last number
-  last_number : number_at ps (place_at ps last) ≡ last
-  last_number = was.apart last (omega arith)
-
-  -- a book before the one that goes, or behind it, stays
-  pub number_before : (i : ℕ) → number_at ps i < number → number_at left i ≡ number_at ps i
-  number_before i below =
-      number_is left i (number_at ps i) (let few = was.few in omega (arith, below, within, few, long_still))
-      (kept (number_at ps i) (less (number_at ps i) below) ∙ place_there ps i (let few = was.few in let long = was.long in omega (arith, below, within, few, long)))
-      (λ k before same. other_before ps i k before (sym (kept k (less k (omega (arith, before, below)))) ∙ same))
-    where
-      less : (k : ℕ) → k < number → k ≢ number
-      less k before same = omega (arith, before, same)
-
-  number_behind : (i : ℕ) → number < number_at ps i → number_at ps i < last → number_at left i ≡ number_at ps i
-  number_behind i above below =
-      number_is left i (number_at ps i) (let few = was.few in omega (arith, below, few, long_still))
-      (kept (number_at ps i) (more (number_at ps i) above) ∙ place_there ps i (let few = was.few in let long = was.long in omega (arith, below, few, long)))
-      (λ k before same. by k before same (same_or k number))
-    where
-      more : (k : ℕ) → number < k → k ≢ number
-      more k after same = omega (arith, after, same)
-
-      by : (k : ℕ) → k < number_at ps i → place_at left k ≡ i → (k ≡ number) ⊎ (k ≢ number) → ⊥
-      by k before same (inl here) =
-          let is : number_at ps i ≡ last = one_number ps (last + 1) i last was (omega arith) (sym moved ∙ (ap (λ n. place_at left n) (sym here) ∙ same)) in
-          omega (arith, is, below)
-      by k before same (inr other) = other_before ps i k before (sym (kept k other) ∙ same)
-
-  -- the last one gets the number
-  number_moved : (i : ℕ) → number_at ps i ≡ last → number < last → number_at left i ≡ number
-  number_moved i is below =
-      number_is left i number (let few = was.few in omega (arith, below, few, long_still))
-      (moved ∙ (ap (λ n. place_at ps n) (sym is) ∙ place_there ps i (let few = was.few in let long = was.long in omega (arith, is, few, long))))
-      (λ k before same. other_before ps i k (omega (arith, before, below, is)) (sym (kept k (less k before)) ∙ same))
-    where
-      less : (k : ℕ) → k < number → k ≢ number
-      less k before same = omega (arith, before, same)
-
-  -- the one that goes has no number any more
-  number_gone : (i : ℕ) → number_at ps i ≡ number → last ≤ number_at left i
-  number_gone i is =
-      number_past left i last (let few = was.few in omega (arith, few, long_still))
-      (λ k before same. by k before same (same_or k number))
-    where
-      by : (k : ℕ) → k < last → place_at left k ≡ i → (k ≡ number) ⊎ (k ≢ number) → ⊥
-      by k before same (inl here) =
-          let at : number_at ps i ≡ last = one_number ps (last + 1) i last was (omega arith) (sym moved ∙ (ap (λ n. place_at left n) (sym here) ∙ same)) in
-          omega (arith, is, at, here, before)
-      by k before same (inr other) =
-          let at : number_at ps i ≡ k = one_number ps (last + 1) i k was (omega (arith, before)) (sym (kept k other) ∙ same) in
-          other (sym at ∙ is)
-
-  -- nor has one that had none
-  number_none : (i : ℕ) → last < number_at ps i → last ≤ number_at left i
-  number_none i past =
-      number_past left i last (let few = was.few in omega (arith, few, long_still))
-      (λ k before same. by k before same (same_or k number))
-    where
-      by : (k : ℕ) → k < last → place_at left k ≡ i → (k ≡ number) ⊎ (k ≢ number) → ⊥
-      by k before same (inl here) = other_before ps i last past (sym moved ∙ (ap (λ n. place_at left n) (sym here) ∙ same))
-      by k before same (inr other) = other_before ps i k (omega (arith, before, past)) (sym (kept k other) ∙ same)
-
-  pub apart-less : AreApart left last
-  apart-less = record { few = let few = was.few in omega (arith, few); long = long_still; apart = λ n below. by n below (same_or n number) (below_or n number) }
-    where
-      by : (n : ℕ) → n < last → (n ≡ number) ⊎ (n ≢ number) → (n < number) ⊎ (number ≤ n) → number_at left (place_at left n) ≡ n
-      by n below (inl here) order =
-          ap (λ m. number_at left (place_at left m)) here
-          ∙ (ap (number_at left) moved ∙ (number_moved (place_at ps last) last_number (omega (arith, here, below)) ∙ sym here))
-      by n below (inr other) (inl before) =
-          let is : number_at ps (place_at ps n) ≡ n = was.apart n (omega (arith, below)) in
-          ap (number_at left) (kept n other) ∙ (number_before (place_at ps n) (omega (arith, is, before)) ∙ is)
-      by n below (inr other) (inr above) =
-          let is : number_at ps (place_at ps n) ≡ n = was.apart n (omega (arith, below)) in
-          ap (number_at left) (kept n other) ∙ (number_behind (place_at ps n) (behind (number_at ps (place_at ps n)) is) (omega (arith, is, below)) ∙ is)
-        where
-          behind : (m : ℕ) → m ≡ n → number < m
-          behind m is = strict (same_or m number)
-            where
-              strict : (m ≡ number) ⊎ (m ≢ number) → number < m
-              strict (inl same) = absurd (other (sym is ∙ same))
-              strict (inr differ) = by_order (below_or number m)
-                where
-                  by_order : (number < m) ⊎ (m ≤ number) → number < m
-                  by_order (inl less) = less
-                  by_order (inr more) = absurd (differ (omega (arith, more, above, is)))
-
-  module _ {A : Type 0} (books fewer : List (Book A)) (all : length books ≡ last + 1) (one_less : length fewer ≡ last)
-      (taken : number < last → slice_index_or fewer number Untouched ≡ slice_index_or books last Untouched)
-      (others : (k : ℕ) → k ≢ number → k < last → slice_index_or fewer k Untouched ≡ slice_index_or books k Untouched) where
-    -- the place had the number
-    not_gone : (i : ℕ) → number_at ps i ≢ number → number_at ps i ≤ last → nat_eq (place_at ps number) i ≡ false
-    not_gone i differ some = no_equal (place_at ps number) i (λ same. differ (one_number ps (last + 1) i number was (omega (arith, within)) same))
-
-    stays : (i n : ℕ) → nat_eq (place_at ps number) i ≡ false → number_at left i ≡ n → slice_index_or fewer n Untouched ≡ book_of ps books i
-        → book_of left fewer i ≡ cond (nat_eq (place_at ps number) i) Untouched (book_of ps books i)
-    stays i n other is same =
-        ap (λ m. slice_index_or fewer m Untouched) is ∙ (same ∙ ap (λ t. cond t Untouched (book_of ps books i)) (sym other))
-
-    -- whichever it is, nothing is kept
-    none : (i : ℕ) (t : Bool) → last ≤ number_at left i → (t ≡ false → book_of ps books i ≡ Untouched) → book_of left fewer i ≡ cond t Untouched (book_of ps books i)
-    none i true past was_none = past_end fewer (number_at left i) (omega (arith, past, one_less))
-    none i false past was_none = past_end fewer (number_at left i) (omega (arith, past, one_less)) ∙ sym (was_none refl)
-
-    pub book_less : (i : ℕ) → book_of left fewer i ≡ cond (nat_eq (place_at ps number) i) Untouched (book_of ps books i)
-    book_less i = by (below_or (number_at ps i) number) (same_or (number_at ps i) number) (below_or (number_at ps i) last) (same_or (number_at ps i) last)
-      where
-        by : (number_at ps i < number) ⊎ (number ≤ number_at ps i) → (number_at ps i ≡ number) ⊎ (number_at ps i ≢ number)
-            → (number_at ps i < last) ⊎ (last ≤ number_at ps i) → (number_at ps i ≡ last) ⊎ (number_at ps i ≢ last)
-            → book_of left fewer i ≡ cond (nat_eq (place_at ps number) i) Untouched (book_of ps books i)
-        by order (inl same) end at =
-            let here : place_at ps number ≡ i =
-            ap (λ n. place_at ps n) (sym same) ∙ place_there ps i (let few = was.few in let long = was.long in omega (arith, same, within, few, long)) in
-            none i (nat_eq (place_at ps number) i) (number_gone i same) (λ never. absurd (eqb-false (place_at ps number) i never here))
-        by (inl before) (inr differ) end at =
-            stays i (number_at ps i) (not_gone i differ (omega (arith, before, within))) (number_before i before) (others (number_at ps i) differ (omega (arith, before, within)))
-        by (inr above) (inr differ) (inl below) at =
-            stays i (number_at ps i) (not_gone i differ (omega (arith, below))) (number_behind i (behind above differ) below) (others (number_at ps i) differ below)
-          where
-            behind : number ≤ number_at ps i → number_at ps i ≢ number → number < number_at ps i
-            behind above differ = by_order (below_or number (number_at ps i))
-              where
-                by_order : (number < number_at ps i) ⊎ (number_at ps i ≤ number) → number < number_at ps i
-                by_order (inl less) = less
-                by_order (inr more) = absurd (differ (omega (arith, more, above)))
-        by (inr above) (inr differ) (inr end) (inl at) =
-            let less : number < last = lower (below_or number last) in
-            stays i number (not_gone i differ (omega (arith, at))) (number_moved i at less) (taken less ∙ ap (λ n. slice_index_or books n Untouched) (sym at))
-          where
-            lower : (number < last) ⊎ (last ≤ number) → number < last
-            lower (inl less) = less
-            lower (inr more) = absurd (differ (omega (arith, at, more, within)))
-        by (inr above) (inr differ) (inr end) (inr not_last) =
-            none i (nat_eq (place_at ps number) i) (number_none i past) (λ _. past_end books (number_at ps i) (omega (arith, past, all)))
-          where
-            past : last < number_at ps i
-            past = by_order (below_or last (number_at ps i))
-              where
-                by_order : (last < number_at ps i) ⊎ (number_at ps i ≤ last) → last < number_at ps i
-                by_order (inl less) = less
-                by_order (inr more) = absurd (not_last (omega (arith, more, end)))
-
--- The books from a number on that stand within bounds have gone
+-- The books of the places from lo to hi go, and the others move together
 
 -- the place is one of those from lo to hi
 abbrev pub is_between : ℕ → ℕ → ℕ → Bool
@@ -315,98 +176,138 @@ between_low lo hi i low = grind (arith, nat_tests)
 pub between_high : (lo hi i : ℕ) → hi < i → is_between lo hi i ≡ false
 between_high lo hi i high = grind (arith, nat_tests)
 
--- those of them that are left have numbers below this one
-pub record AreEmptiedFrom {A : Type 0} (ps : List ℕ) (books : List (Book A)) (left : List ℕ) (fewer : List (Book A)) (lo hi number : ℕ) : Type 0 where
-  pub apart : AreApart left (length fewer)
-  pub few : number ≤ length fewer
-  pub outside : (i : ℕ) → is_between lo hi i ≡ false → book_of left fewer i ≡ book_of ps books i
-  pub inside : (i : ℕ) → is_between lo hi i ≡ true → (number_at left i < number) ⊎ (book_of left fewer i ≡ Untouched)
+-- of the first so many books those that stay stand in front, and those behind stand where they did
+pub record AreKeptTo {X : Type 0} (ps : List ℕ) (books : List X) (left : List ℕ) (fewer : List X) (lo hi kept number : ℕ) : Type 0 where
+  pub before : kept ≤ number
+  pub few : number ≤ length books
+  pub all : length fewer ≡ length books
+  pub long : length left ≡ length ps
+  pub found : (i : ℕ) → found_at left (take kept fewer) i ≡ cond (is_between lo hi i) None (found_at ps (take number books) i)
+  pub rest : (k : ℕ) (d : X) → number ≤ k → slice_index_or fewer k d ≡ slice_index_or books k d
+  pub places : (k : ℕ) → number ≤ k → place_at left k ≡ place_at ps k
 
-module _ {A : Type 0} (ps : List ℕ) (books : List (Book A)) (lo hi : ℕ) where
-  module _ (left : List ℕ) (fewer : List (Book A)) (before number : ℕ) (next : number + 1 ≡ before) (so_far : AreEmptiedFrom ps books left fewer lo hi before) where
-    -- a number of another place
-    lower : (i : ℕ) → place_at left number ≢ i → number_at left i < before → number_at left i < number
-    lower i differ below = by (same_or (number_at left i) number)
-      where
-        by : (number_at left i ≡ number) ⊎ (number_at left i ≢ number) → number_at left i < number
-        by (inl same) =
-            absurd (differ (ap (λ n. place_at left n) (sym same)
-            ∙ place_there left i (let few = so_far.few in let most = so_far.apart.few in let long = so_far.apart.long in omega (arith, below, few, most, long))))
-        by (inr other) = by_order (below_or (number_at left i) number)
-          where
-            by_order : (number_at left i < number) ⊎ (number ≤ number_at left i) → number_at left i < number
-            by_order (inl less) = less
-            by_order (inr more) = absurd (other (omega (arith, more, below, next)))
+module _ {X : Type 0} (ps : List ℕ) (books : List X) (lo hi : ℕ) where
+  pub kept-none : AreKeptTo ps books ps books lo hi 0 0
+  kept-none =
+      record {
+        before = omega arith;
+        few = omega arith;
+        all = refl;
+        long = refl;
+        found = λ i. none (is_between lo hi i) i (take_none books);
+        rest = λ k d past. refl;
+        places = λ k past. refl;
+      }
+    where
+      take_none : (xs : List X) → take 0 xs ≡ []
+      take_none [] = refl
+      take_none (x ∷ xs) = refl
 
-    differs : (t : Bool) → is_between lo hi (place_at left number) ≡ t → (i : ℕ) → is_between lo hi i ≡ (cond t false true) → place_at left number ≢ i
-    differs true here i there same = let never : true ≡ false = sym here ∙ (ap (is_between lo hi) same ∙ there) in cc
-    differs false here i there same = let never : false ≡ true = sym here ∙ (ap (is_between lo hi) same ∙ there) in cc
+      none : (t : Bool) (i : ℕ) → take 0 books ≡ [] → found_at ps (take 0 books) i ≡ cond t None (found_at ps (take 0 books) i)
+      none true i is = ap (λ xs. found_at ps xs i) is ∙ found-none ps i
+      none false i is = refl
 
-    -- a book that stays
-    pub emptied-kept : is_between lo hi (place_at left number) ≡ false → AreEmptiedFrom ps books left fewer lo hi number
-    emptied-kept out =
-        record { apart = so_far.apart; few = let few = so_far.few in omega (arith, few, next); outside = so_far.outside; inside = λ i in_it. by i in_it (so_far.inside i in_it) }
-      where
-        by : (i : ℕ) → is_between lo hi i ≡ true → (number_at left i < before) ⊎ (book_of left fewer i ≡ Untouched) → (number_at left i < number) ⊎ (book_of left fewer i ≡ Untouched)
-        by i in_it (inl below) = inl (lower i (differs false out i in_it) below)
-        by i in_it (inr empty) = inr empty
+  module _ (room : length books ≤ length ps) (left : List ℕ) (fewer : List X) (kept number : ℕ) (so_far : AreKeptTo ps books left fewer lo hi kept number) (within : number < length books) where
+    -- the next book
+    abbrev there : (x : X) × ((d : X) → slice_index_or books number d ≡ x)
+    there = one_there books number within
 
-    -- and one that goes
-    pub emptied-gone : is_between lo hi (place_at left number) ≡ true → (places : List ℕ) (rest : List (Book A)) → AreApart places (length rest) → length rest + 1 ≡ length fewer
-        → ((i : ℕ) → book_of places rest i ≡ cond (nat_eq (place_at left number) i) Untouched (book_of left fewer i))
-        → ((i : ℕ) → number_at left i < number → number_at places i ≡ number_at left i)
-        → AreEmptiedFrom ps books places rest lo hi number
-    emptied-gone here places rest apart shorter goes same =
+    abbrev b : X
+    b = there.0
+
+    -- the first books of the old ones and the next
+    first_and : take (number + 1) books ≡ take number books ++ (b ∷ [])
+    first_and = take_more books number b within ∙ ap (λ (x : X). take number books ++ (x ∷ [])) (there.1 b)
+
+    so_many : length (take number books) ≡ number
+    so_many = length-take-le number books (omega (arith, within))
+
+    old : (i : ℕ) → found_at ps (take (number + 1) books) i ≡ option_or (found_at ps (take number books) i) (cond (place_at left number == i) (Some b) None)
+    old i =
+        ap (λ (xs : List X). found_at ps xs i) first_and
+        ∙ found-more ps (take number books) b i (omega (arith, so_many, within, room))
+        ∙ ap (λ n. option_or (found_at ps (take number books) i) (cond (place_at ps n == i) (Some b) None)) so_many
+        ∙ ap (λ n. option_or (found_at ps (take number books) i) (cond (n == i) (Some b) None)) (sym (so_far.places number (omega arith)))
+
+    other : (t : Bool) → is_between lo hi (place_at left number) ≡ t → (i : ℕ) → is_between lo hi i ≡ not t → (place_at left number == i) ≡ false
+    other true is i not_it = no_equal (place_at left number) i (λ same. let never : true ≡ false = sym is ∙ (ap (is_between lo hi) same ∙ not_it) in cc)
+    other false is i not_it = no_equal (place_at left number) i (λ same. let never : false ≡ true = sym is ∙ (ap (is_between lo hi) same ∙ not_it) in cc)
+
+    no_more : (o : Option X) → option_or o None ≡ o
+    no_more None = refl
+    no_more (Some x) = refl
+
+    -- it goes
+    pub kept-less : is_between lo hi (place_at left number) ≡ true → AreKeptTo ps books left fewer lo hi kept (number + 1)
+    kept-less goes =
         record {
-          apart = apart;
-          few = let few = so_far.few in omega (arith, few, next, shorter);
-          outside = λ i out. goes i ∙ (ap (λ t. cond t Untouched (book_of left fewer i)) (no_equal (place_at left number) i (differs true here i out)) ∙ so_far.outside i out);
-          inside = λ i in_it. by i in_it (so_far.inside i in_it) (same_or (place_at left number) i);
+          before = let before = so_far.before in omega arith;
+          few = omega arith;
+          all = so_far.all;
+          long = so_far.long;
+          found = λ i. so_far.found i ∙ by i (is_between lo hi i) refl;
+          rest = λ k d past. so_far.rest k d (omega arith);
+          places = λ k past. so_far.places k (omega arith);
         }
       where
-        still : (t : Bool) (book : Book A) → book ≡ Untouched → cond t Untouched book ≡ Untouched
-        still true book empty = refl
-        still false book empty = empty
+        by : (i : ℕ) (t : Bool) → is_between lo hi i ≡ t → cond t None (found_at ps (take number books) i) ≡ cond t None (found_at ps (take (number + 1) books) i)
+        by i true in_it = refl
+        by i false out =
+            sym (old i
+            ∙ ap (λ u. option_or (found_at ps (take number books) i) (cond u (Some b) None)) (other true goes i out)
+            ∙ no_more (found_at ps (take number books) i))
 
-        lowered : (i : ℕ) → number_at left i < number → number_at places i < number
-        lowered i less = let is = same i less in omega (arith, is, less)
+    -- it stays, and moves behind those that do
+    pub kept-more : is_between lo hi (place_at left number) ≡ false → (moved : List X) → SwappedAt fewer moved kept number → length moved ≡ length fewer
+        → AreKeptTo ps books (slice_set left kept (place_at left number)) moved lo hi (kept + 1) (number + 1)
+    kept-more stays moved swapped as_long =
+        record {
+          before = let before = so_far.before in omega arith;
+          few = omega arith;
+          all = as_long ∙ so_far.all;
+          long = length-set left kept (place_at left number) ∙ so_far.long;
+          found = λ i.
+              ap (λ (xs : List X). found_at (slice_set left kept (place_at left number)) xs i) front
+              ∙ (ap (λ n. found_at (slice_set left n (place_at left number)) (take kept fewer ++ (b ∷ [])) i) (sym in_front)
+              ∙ found-put left (take kept fewer) b (place_at left number) i (let before = so_far.before in let long = so_far.long in omega (arith, in_front, before, within, room, long))
+              ∙ ap (λ o. option_or o (cond (place_at left number == i) (Some b) None)) (so_far.found i)
+              ∙ by i (is_between lo hi i) refl);
+          rest = λ k d past. swapped.2 k d (after_kept k (omega arith)) (after_number k (omega arith)) ∙ so_far.rest k d (omega arith);
+          places = λ k past. get_or-set_other left kept k (place_at left number) 0 (after_kept k (omega arith)) ∙ so_far.places k (omega arith);
+        }
+      where
+        in_front : length (take kept fewer) ≡ kept
+        in_front = length-take-le kept fewer (let before = so_far.before in let all = so_far.all in omega (arith, before, within, all))
 
-        by : (i : ℕ) → is_between lo hi i ≡ true → (number_at left i < before) ⊎ (book_of left fewer i ≡ Untouched) → (place_at left number ≡ i) ⊎ (place_at left number ≢ i)
-            → (number_at places i < number) ⊎ (book_of places rest i ≡ Untouched)
-        by i in_it (inr empty) at = inr (goes i ∙ still (nat_eq (place_at left number) i) (book_of left fewer i) empty)
-        by i in_it (inl below) (inl there) = inr (goes i ∙ ap (λ t. cond t Untouched (book_of left fewer i)) (eq-eqb (place_at left number) i there))
-        by i in_it (inl below) (inr differ) = inl (lowered i (lower i differ below))
+        after_kept : (k : ℕ) → number < k → k ≢ kept
+        after_kept k past same = let before = so_far.before in omega (arith, before, past, same)
 
--- A book goes on where it is
+        after_number : (k : ℕ) → number < k → k ≢ number
+        after_number k past same = omega (arith, past, same)
 
-pub book_on : {A : Type 0} (ps : List ℕ) (books : List (Book A)) (place number : ℕ) (after : Book A) → AreApart ps (length books) → number ≡ number_at ps place → number < length books
-    → (i : ℕ) → book_of ps (slice_set books number after) i ≡ cond (nat_eq place i) after (book_of ps books i)
-book_on ps books place number after was own below i = set_at books number after below (number_at ps i) ∙ by (same_or place i)
-  where
-    there : (k : ℕ) → number ≡ number_at ps k → place_at ps number ≡ k
-    there k is =
-        ap (λ n. place_at ps n) is ∙ place_there ps k (let few = was.few in let long = was.long in omega (arith, is, below, few, long))
+        low : kept ≤ number
+        low = so_far.before
 
-    by : (place ≡ i) ⊎ (place ≢ i) → cond (nat_eq number (number_at ps i)) after (book_of ps books i) ≡ cond (nat_eq place i) after (book_of ps books i)
-    by (inl here) = ap (λ t. cond t after (book_of ps books i)) (eq-eqb number (number_at ps i) (own ∙ ap (number_at ps) here) ∙ sym (eq-eqb place i here))
-    by (inr differ) =
-        ap (λ t. cond t after (book_of ps books i))
-        (no_equal number (number_at ps i) (λ same. differ (sym (there place own) ∙ there i same)) ∙ sym (no_equal place i differ))
+        same_front : take kept moved ≡ take kept fewer
+        same_front =
+            ap (λ (xs : List X). take kept xs) (swapped.3 b)
+            ∙ take-set-le kept (slice_set fewer kept (slice_index_or fewer number b)) number (slice_index_or fewer kept b) low
+            ∙ take-set-le kept fewer kept (slice_index_or fewer number b) (omega arith)
 
--- what a search finds
-pub found_number : {A : Type 0} (ps : List ℕ) (books : List (Book A)) (place n : ℕ) → (n < length books → n ≡ number_at ps place) → (length books ≤ n → length books ≤ number_at ps place)
-    → slice_index_or books n Untouched ≡ book_of ps books place
-found_number ps books place n found past = by (below_or n (length books))
-  where
-    by : (n < length books) ⊎ (length books ≤ n) → slice_index_or books n Untouched ≡ book_of ps books place
-    by (inl below) = ap (λ m. slice_index_or books m Untouched) (found below)
-    by (inr none) = past_end books n none ∙ sym (past_end books (number_at ps place) (past none))
+        front : take (kept + 1) moved ≡ take kept fewer ++ (b ∷ [])
+        front =
+            take_more moved kept b (let all = so_far.all in omega (arith, low, within, all, as_long))
+            ∙ (λ k. same_front k ++ ((swapped.0 b ∙ so_far.rest number b (omega arith) ∙ there.1 b) k ∷ []))
 
-pub apart-none : (ps : List ℕ) (count : ℕ) → length ps ≡ 256 → count ≡ 0 → AreApart ps count
-apart-none ps count long none = record { few = omega (arith, none); long = long; apart = λ n below. absurd (omega (arith, below, none)) }
+        by : (i : ℕ) (t : Bool) → is_between lo hi i ≡ t
+            → option_or (cond t None (found_at ps (take number books) i)) (cond (place_at left number == i) (Some b) None) ≡ cond t None (found_at ps (take (number + 1) books) i)
+        by i true in_it = ap (λ u. cond u (Some b) None) (other false stays i in_it)
+        by i false out = sym (old i)
 
-pub apart-as : (ps : List ℕ) (count more : ℕ) → count ≡ more → AreApart ps count → AreApart ps more
-apart-as ps count more same was = subst (λ n. AreApart ps n) same was
+  pub kept-all : (left : List ℕ) (fewer : List X) (kept number : ℕ) → AreKeptTo ps books left fewer lo hi kept number → length books ≤ number
+      → (i : ℕ) → found_at left (take kept fewer) i ≡ cond (is_between lo hi i) None (found_at ps books i)
+  kept-all left fewer kept number are whole i =
+      are.found i ∙ ap (λ (xs : List X). cond (is_between lo hi i) None (found_at ps xs i)) (take_all number books whole)
 
 -- The search
 

@@ -45,7 +45,7 @@ virgin-by r w n (Some f) None is here virgin = let never = sym (state-Exclusive 
 virgin-by r w n (Some f) (Some j) is here virgin =
     absurd (joined-Virgin (written_from r w n (Some j)) (candidates_from r w n (Some j)) (sym (state-joined r w n f j is here) ∙ virgin))
 
-virgin-book : (r : Reading) (w n : ℕ) → state r w n ≡ Virgin → book_at r w n ≡ Untouched
+pub virgin-book : (r : Reading) (w n : ℕ) → state r w n ≡ Virgin → book_at r w n ≡ Untouched
 virgin-book r w n virgin = virgin-by r w n (first r w n) (join r w n) refl refl virgin
 
 -- a shared state stays if the access adds no first write and takes no candidate

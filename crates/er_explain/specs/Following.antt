@@ -4,9 +4,11 @@ use Rattle.er_event.specs.declared.steps.Event.{Event}
 use Rattle.er_event.specs.declared.steps.Event.TheVariants.{Access}
 use Rattle.er_event.specs.declared.steps.Step.{Step}
 use Rattle.er_held.specs.ThreadLocks.{held_by}
-use Rattle.er_model.specs.Answers.{reading_of}
+use Rattle.er_event.specs.declared.steps.WordState.TheVariants.{Virgin}
+use Rattle.er_model.specs.Answers.{reading_of, state_at}
 use Rattle.er_model.specs.Following.{locks_for}
 use Rattle.er_model.specs.Holdings.{Holdings, holdings_at}
+use Rattle.er_model.specs.Words.{Mark, Counted, Reused, Shown, Nothing}
 use Rattle.er_explain.specs.Book.{Book}
 use Rattle.er_explain.specs.Books.{book_at}
 
@@ -18,6 +20,17 @@ cover_by h _ = None
 -- these are the locks that cover the access of the step at position k, if it counts
 abbrev pub CoversAt : List Step → ℕ → Step → Option (List ℕ) → Type 0
 CoversAt steps k step cover = cover ≡ cover_by (holdings_at steps step.thread k) step.event
+
+-- what is so to the words is an access that counts, and this holds of its word
+abbrev pub CountsWhere : Mark → (ℕ → Type 0) → Type 0
+CountsWhere (Counted t kind word cover) P = P word
+CountsWhere (Reused range) P = ⊥
+CountsWhere (Shown word) P = ⊥
+CountsWhere Nothing P = ⊥
+
+-- the step at position k is the first access that counts of its word since its last reuse
+abbrev pub BeginsAt : List Step → ℕ → Type 0
+BeginsAt steps k = CountsWhere (reading_of steps k) (λ w. state_at steps w k ≡ Virgin)
 
 -- what each thread holds after the first k steps
 abbrev pub AreHeldAt : List Step → List Holdings → ℕ → Type 0

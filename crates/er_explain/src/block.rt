@@ -1,8 +1,8 @@
 //! `Block`, the books of words that lie side by side.
-ghost use Rattle.std.specs.Prelude.{◌≡◌, ◌<◌, ◌≤◌, ◌+◌, ◌&&◌, ℕ, nat_eq, nat_le, cond, length, option_copied, IfOk, OnOk, ◌==◌};
+ghost use Rattle.std.specs.Prelude.{◌≡◌, ◌<◌, ◌≤◌, ◌+◌, ◌&&◌, ℕ, nat_eq, nat_le, cond, length, min, option_copied, slice_get, take, IfOk, OnOk, None, ◌==◌};
 ghost use Rattle.er_explain.specs.Book.{Owned, Untouched};
 ghost use Rattle.er_explain.specs.Books.{book_accessed};
-ghost use Rattle.er_explain.specs.Inner.Places.{book_of, number_at, place_at, AreApart};
+ghost use Rattle.er_explain.specs.Inner.Places.{found_at, number_at, opened, HavePlaces};
 ghost use Rattle.er_explain.specs.WordBooks.{book_at_place, joining_in};
 ghost use Rattle.std.specs.List.{position_or_len};
 ghost use Rattle.std.specs.Simd.Lanes.{chunk};
@@ -18,7 +18,8 @@ use std::simd::prelude::*;
 /// its words are used.
 #[derive(Drop)]
 pub(crate) struct Block<A> {
-    // In no order.
+    // In the order in which they began. Of two books of one place the first counts: no step makes a second one if `put` is called as it asks, but no
+    // contract needs that.
     books: Vec<Book<A>>,
     // The place of each book, in the same order. What stands behind them says nothing. They stand beside the books' address: so a look at a
     // block's books reads one piece of memory to find them.
@@ -32,11 +33,11 @@ impl<A> Model for Block<A> {
 
     ghost Value = { List (Kept (Access A)) };
 
-    ghost use Rattle.er_explain.specs.Inner.Places.{kept_books, AreApart};
+    ghost use Rattle.er_explain.specs.Inner.Places.{kept_books, HavePlaces};
 
     ghost view = { λ b. kept_books b.places b.books.items };
 
-    ghost invariant = { λ b. AreApart b.places (length b.books.items) };
+    ghost invariant = { λ b. HavePlaces b.places (length b.books.items) };
 }
 
 impl<A: Copy> Block<A> {
@@ -70,7 +71,17 @@ impl<A: Copy> Block<A> {
         if number < count {
             return self.books[number].access(alloc, spare, cover, access);
         }
-        // No two books have the same place, so there is room for this one, and this refusal never comes. That isn't proved.
+        self.put(place, access)
+    }
+
+    /// A book for the word at a place, which begins by this access. It looks for no book: if the word has one, that one stays, and this one is lost.
+    #[inline(always)]
+    pub(crate) fn put(&mut self, place: usize, access: Access<A>) -> Made<()>
+        requires { place < 256 }
+        ensures { book_at_place self.old place ≡ Untouched → OnOk result ((i : ℕ) → book_at_place self.new i ≡ cond (nat_eq place i) (Owned access.thread access) (book_at_place self.old i)) }
+    {
+        let count = self.books.len();
+        // A place gets a book only if it has none, so there is room for this one, and this refusal never comes. That isn't proved.
         if count >= 256 {
             return Err(AllocError);
         }
@@ -99,12 +110,12 @@ impl<A: Copy> Block<A> {
 }
 
 fn joining_at<A>(books: &[Book<A>], number: usize) -> Option<&Joint<Access<A>>>
-    ensures { option_copied result ≡ joining_in (book_at_place books.now number) }
+    ensures { option_copied result ≡ joining_in (opened (slice_get books.now number)) }
 {
     books.get(number)?.joining()
 }
 
-// Removes the books of the places from `lo` to `hi`, both included. It looks at the books and not at the places without one.
+// Removes the books of the places from `lo` to `hi`, both included. The others keep their order.
 fn remove_between<A: Copy>(
     books: &mut Vec<Book<A>>,
     places: &mut [u8; 256],
@@ -112,38 +123,44 @@ fn remove_between<A: Copy>(
     lo: usize,
     hi: usize,
 )
-    requires { AreApart places.old (length books.old.items) }
-    ensures apart { AreApart places.new (length books.new.items) }
-    ensures books { (i : ℕ) → book_of places.new books.new.items i ≡ cond (nat_le lo i && nat_le i hi) Untouched (book_of places.old books.old.items i) }
+    requires { HavePlaces places.old (length books.old.items) }
+    ensures apart { HavePlaces places.new (length books.new.items) }
+    ensures books { (i : ℕ) → found_at places.new books.new.items i ≡ cond (nat_le lo i && nat_le i hi) None (found_at places.old books.old.items i) }
 {
-    let mut left = books.len();
-    while left > 0 {
-        left -= 1;
-        let place = places[left] as usize;
-        if lo <= place && place <= hi {
-            remove(books, places, spare, left);
-        }
-    }
+    let kept = gather(books, places, lo, hi);
+    drop_behind(books, spare, kept);
 }
 
-// Removes the book of this number. The last one gets its number.
-fn remove<A: Copy>(
-    books: &mut Vec<Book<A>>,
-    places: &mut [u8; 256],
-    spare: &mut Vec<Joint<Access<A>>>,
-    number: usize,
-)
-    requires apart { AreApart places.old (length books.old.items) }
-    requires within { number < length books.old.items }
-    ensures apart { AreApart places.new (length books.new.items) }
-    ensures fewer { length books.new.items + 1 ≡ length books.old.items }
-    ensures books { (i : ℕ) → book_of places.new books.new.items i ≡ cond (nat_eq (place_at places.old number) i) Untouched (book_of places.old books.old.items i) }
-    ensures before { (i : ℕ) → number_at places.old i < number → number_at places.new i ≡ number_at places.old i }
+// Moves the books of other places than those from `lo` to `hi` to the front, in their order, and returns how many there are.
+fn gather<A>(books: &mut Vec<Book<A>>, places: &mut [u8; 256], lo: usize, hi: usize) -> usize
+    requires { HavePlaces places.old (length books.old.items) }
+    ensures within { result ≤ length books.old.items }
+    ensures all { length books.new.items ≡ length books.old.items }
+    ensures long { length places.new ≡ length places.old }
+    ensures books { (i : ℕ) → found_at places.new (take result books.new.items) i ≡ cond (nat_le lo i && nat_le i hi) None (found_at places.old books.old.items i) }
 {
-    let last = books.len() - 1;
-    let book = books.swap_remove(number);
-    places[number] = places[last];
-    book.keep_joining(spare);
+    let mut kept = 0;
+    for number in 0..books.len() {
+        let place = places[number];
+        if (place as usize) < lo || hi < place as usize {
+            books.swap(kept, number);
+            places[kept] = place;
+            kept += 1;
+        }
+    }
+    kept
+}
+
+// Drops the books behind the first `kept`, and keeps their joinings.
+fn drop_behind<A: Copy>(books: &mut Vec<Book<A>>, spare: &mut Vec<Joint<Access<A>>>, kept: usize)
+    requires { kept ≤ length books.old.items }
+    ensures { books.new.items ≡ take kept books.old.items }
+{
+    while books.len() > kept {
+        if let Some(book) = books.pop() {
+            book.keep_joining(spare);
+        }
+    }
 }
 
 /// How many places are looked at in one turn.

@@ -3,6 +3,7 @@ ghost use Rattle.std.specs.Prelude.{◌≡◌, ◌<◌, map, IfOk, OnOk, None, S
 ghost use Rattle.er_explain.specs.Book.{Owned};
 ghost use Rattle.er_explain.specs.Books.{begun, gone_on, pair_after, book_accessed};
 ghost use Rattle.er_explain.specs.WordBooks.{joining_in};
+ghost use Rattle.er_explain.specs.Inner.Packing.{unpacked};
 
 use crate::Made;
 use er_event::{Kind, LockId, Lockset, ThreadId};
@@ -71,14 +72,11 @@ pub(crate) struct Book<A> {
 }
 
 impl<A> Model for Book<A> {
-    ghost use Rattle.er_explain.specs.Book.{Book as Kept};
-    ghost use Rattle.er_explain.specs.declared.book.Access.{Access};
+    ghost use Rattle.er_explain.specs.declared.book.Packed.{Packed};
 
-    ghost Value = { Kept (Access A) };
+    ghost Value = { Packed A };
 
-    ghost use Rattle.er_explain.specs.Inner.Packing.{unpacked};
-
-    ghost view = { λ b. unpacked b.packed };
+    ghost view = { λ b. b.packed };
 }
 
 impl<A: Copy> Joint<A> {
@@ -187,7 +185,7 @@ fn pair_after<A: Copy>(pair: Pair<Access<A>>, cover: &Lockset, access: Access<A>
 impl<A: Copy> Book<A> {
     /// One access counts.
     pub(crate) fn begin(access: Access<A>) -> Book<A>
-        ensures { result ≡ Owned access.thread access }
+        ensures { unpacked result ≡ Owned access.thread access }
     {
         Book {
             packed: Packed::Alone(access.kind, access.thread, access.at),
@@ -203,7 +201,7 @@ impl<A: Copy> Book<A> {
         cover: &Lockset,
         access: Access<A>,
     ) -> Made<()>
-        ensures { OnOk result (self.new ≡ book_accessed self.old access access.thread access.kind cover.now) }
+        ensures { OnOk result (unpacked self.new ≡ book_accessed (unpacked self.old) access access.thread access.kind cover.now) }
     {
         match &mut self.packed {
             Packed::Alone(kind, owner, at) => {
@@ -233,7 +231,7 @@ impl<A: Copy> Book<A> {
 impl<A> Book<A> {
     /// The joining, if a second thread has joined.
     pub(crate) fn joining(&self) -> Option<&Joint<Access<A>>>
-        ensures { option_copied result ≡ joining_in self.now }
+        ensures { option_copied result ≡ joining_in (unpacked self.now) }
     {
         match &self.packed {
             Packed::Together(joint) => Some(joint),

@@ -4,7 +4,7 @@ ghost use Rattle.std.specs.Prelude.{◌≡◌, ◌==◌, ◌<◌, ◌/◌, ℕ, 
 ghost use Rattle.er_explain.specs.Book.{Owned, Untouched, access_of};
 ghost use Rattle.er_explain.specs.Books.{book_accessed, book_after};
 ghost use Rattle.er_explain.specs.WordBooks.{book_in, is_place_in, joining_in};
-ghost use Rattle.er_explain.specs.Following.{cover_by};
+ghost use Rattle.er_explain.specs.Following.{cover_by, CountsWhere};
 ghost use Rattle.er_model.specs.Following.{marked};
 ghost use Rattle.er_model.specs.Holdings.{Holdings};
 ghost use Rattle.er_model.specs.Words.{is_within};
@@ -73,7 +73,38 @@ impl<A: Copy> WordBooks<A> {
         Ok(())
     }
 
-    // Most accesses find their block. What is seldom taken, here and below, is a call of its own: so the others save fewer registers.
+    /// Goes on by a step that is an access which counts, of a word whose book is empty. It does what `follow` does, but looks for no book. At
+    /// another step it may do something else.
+    pub fn begin(&mut self, at: A, step: &Step) -> Result<(), AllocError>
+        ensures { (h : Holdings) → CountsWhere (marked h step.now.thread step.now.event) (λ w. book_in self.old w ≡ Untouched) → OnOk result ((w : ℕ) → book_in self.new w ≡ book_after (book_in self.old w) w (access_of at step.now) (marked h step.now.thread step.now.event)) }
+    {
+        if let Event::Access(kind, word, _) = step.event {
+            let thread = step.thread;
+            self.begin_book(word, Access { at, thread, kind })?;
+        }
+        Ok(())
+    }
+
+    // Split for the prover.
+    #[inline(always)]
+    fn begin_book(&mut self, word: Word, access: Access<A>) -> Made<()>
+        ensures { book_in self.old word ≡ Untouched → OnOk result ((w : ℕ) → book_in self.new w ≡ cond (word == w) (Owned access.thread access) (book_in self.old w)) }
+    {
+        let at = word.number();
+        let (number, place) = (at / WORDS, (at % WORDS) as usize);
+        match index_of(&self.blocks, self.hints.hint(number), number) {
+            Some(index) => {
+                self.hints.note(number, index);
+                let block = &mut self.blocks[index];
+                block.put(place, access)?;
+                Ok(())
+            }
+            None => self.begin_block(word, access),
+        }
+    }
+
+    // Most accesses find their block. What is seldom taken, here and below, is a call of its own, and small in its caller. (What these calls save is little:
+    // nearly all of what such accesses gained came of the reserve before a put, in `Block`.)
     #[inline(always)]
     fn access(&mut self, cover: &Lockset, word: Word, access: Access<A>) -> Made<()>
         ensures { OnOk result ((w : ℕ) → book_in self.new w ≡ cond (word == w) (book_accessed (book_in self.old word) access access.thread access.kind cover.now) (book_in self.old w)) }

@@ -311,7 +311,7 @@ fn is_passed_over(step: &Step, answer: Result<Brief, Refusal>, noting: bool, cha
     ensures noted { IsTrue result → IsTrue noting → IsTrue (is_access step.now.event) → changed ≡ false }
 {
     if is_access(step) {
-        !(noting && changed) && matches!(answer, Ok(Brief::Quiet))
+        !(noting && changed) && matches!(answer, Ok(Brief::Quiet | Brief::First))
     } else {
         matches!(answer, Ok(Brief::Done))
     }

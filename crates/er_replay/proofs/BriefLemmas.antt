@@ -42,6 +42,7 @@ module _ (states : ℕ → WordState) (event : Event) where
   pub full-room : (b : Result Brief Refusal) → found_no_room (in_full states event b) ≡ found_no_room b
   full-room (Ok brief.Done) = refl
   full-room (Ok brief.Quiet) = refl
+  full-room (Ok brief.First) = refl
   full-room (Ok brief.Race) = refl
   full-room (Ok brief.Ignored) = refl
   full-room (Ok brief.Shown) = refl
@@ -51,6 +52,7 @@ module _ (states : ℕ → WordState) (event : Event) where
   full-err : (b : Result Brief Refusal) (P : Refusal → Type 0) → IfErr b P → IfErr (in_full states event b) P
   full-err (Ok brief.Done) P is = tt
   full-err (Ok brief.Quiet) P is = tt
+  full-err (Ok brief.First) P is = tt
   full-err (Ok brief.Race) P is = tt
   full-err (Ok brief.Ignored) P is = tt
   full-err (Ok brief.Shown) P is = tt
@@ -59,6 +61,7 @@ module _ (states : ℕ → WordState) (event : Event) where
   full-state : (b : Result Brief Refusal) → IsTrue (is_state (in_full states event b)) → b ≡ Ok brief.Shown
   full-state (Ok brief.Done) is = cc
   full-state (Ok brief.Quiet) is = cc
+  full-state (Ok brief.First) is = cc
   full-state (Ok brief.Race) is = cc
   full-state (Ok brief.Ignored) is = cc
   full-state (Ok brief.Shown) is = refl
@@ -67,6 +70,7 @@ module _ (states : ℕ → WordState) (event : Event) where
   full-ok : (b : Result Brief Refusal) → IsOk b → IsOk (in_full states event b)
   full-ok (Ok brief.Done) ok = refl
   full-ok (Ok brief.Quiet) ok = refl
+  full-ok (Ok brief.First) ok = refl
   full-ok (Ok brief.Race) ok = refl
   full-ok (Ok brief.Ignored) ok = refl
   full-ok (Ok brief.Shown) ok = refl
@@ -75,6 +79,7 @@ module _ (states : ℕ → WordState) (event : Event) where
   full-refused : (b : Result Brief Refusal) (why : Refusal) → in_full states event b ≡ Err why → b ≡ Err why
   full-refused (Ok brief.Done) why is = cc
   full-refused (Ok brief.Quiet) why is = cc
+  full-refused (Ok brief.First) why is = cc
   full-refused (Ok brief.Race) why is = cc
   full-refused (Ok brief.Ignored) why is = cc
   full-refused (Ok brief.Shown) why is = cc

@@ -1,5 +1,5 @@
 -- The lists of steps that a machine stands for, and when it finds no room for one more.
-use Rattle.std.specs.Prelude.{ℕ, Bool, true, false, List, Result, Ok, Err}
+use Rattle.std.specs.Prelude.{◌≡◌, ℕ, Bool, true, false, List, Result, Ok, Err}
 use Rattle.er_event.specs.declared.refusals.Refusal.{Refusal}
 use Rattle.er_event.specs.declared.refusals.Refusal.TheVariants.{JournalFull, TableFull, OutOfMemory}
 use Rattle.er_event.specs.declared.steps.Event.{Event}
@@ -11,6 +11,7 @@ use Rattle.er_event.specs.declared.steps.WordState.{WordState}
 use Rattle.er_event.specs.declared.steps.WordState.TheVariants.{Virgin}
 use Rattle.er_model.specs.Following.{StandsFor}
 use Rattle.er_model.specs.Holdings.{Holdings}
+use Rattle.er_model.specs.Words.{Mark, Counted, Reused, Shown, Nothing}
 use Rattle.er_held.specs.ThreadLocks.{holding_among}
 use Rattle.er_replay.specs.declared.machine.Brief.{Brief}
 use Rattle.er_replay.specs.declared.machine.Brief.TheVariants as brief
@@ -54,7 +55,15 @@ state_shown states _ = Virgin
 abbrev pub in_full : (ℕ → WordState) → Event → Result Brief Refusal → Result Reply Refusal
 in_full states event (Ok brief.Done) = Ok Done
 in_full states event (Ok brief.Quiet) = Ok Quiet
+in_full states event (Ok brief.First) = Ok Quiet
 in_full states event (Ok brief.Race) = Ok Race
 in_full states event (Ok brief.Ignored) = Ok Ignored
 in_full states event (Ok brief.Shown) = Ok (State (state_shown states event))
 in_full states event (Err why) = Err why
+
+-- what is so to the words is an access that counts, of a word that was virgin, where these are the words' states
+abbrev pub IsFirst : (ℕ → WordState) → Mark → Type 0
+IsFirst states (Counted t kind word cover) = states word ≡ Virgin
+IsFirst states (Reused range) = ⊥
+IsFirst states (Shown word) = ⊥
+IsFirst states Nothing = ⊥

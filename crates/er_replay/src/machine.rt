@@ -30,6 +30,8 @@ pub enum Brief {
     Done,
     /// An access that reports nothing.
     Quiet,
+    /// One that reports nothing and is known to be the first of its word, or the first since its last reuse.
+    First,
     /// An access that reports a race.
     Race,
     /// An access inside an ignore bracket.
@@ -95,7 +97,7 @@ impl MachineIn<Owned> {
 }
 
 impl<S: Store> MachineIn<S> {
-    ghost use Rattle.er_replay.specs.Standing.{holding, states, state_shown, in_full, Stands, found_no_room};
+    ghost use Rattle.er_replay.specs.Standing.{holding, states, state_shown, in_full, Stands, found_no_room, IsFirst};
     ghost use Rattle.er_shadow.specs.Shadows.{states as states_among};
 
     fn over(alloc: Global, words: Words<S>, keys: HashKeys) -> MachineIn<S>
@@ -169,6 +171,9 @@ impl<S: Store> MachineIn<S> {
         ensures holdings { IsFalse (found_no_room result.0) → (t : ℕ) → holding self.new t ≡ after_step (holding self.old t) t step }
         ensures states { IsFalse (found_no_room result.0) → (w : ℕ) → states self.new w ≡ state_after (holding self.old step.thread) (states self.old w) w step }
         ensures same { result.1 ≡ false → (w : ℕ) → states self.new w ≡ states self.old w }
+
+        // An access that is answered so is the first that counts of its word since its last reuse.
+        ensures first { result.0 ≡ Ok Brief.First → IsFirst (states self.old) (marked (holding self.old step.thread) step.thread step.event) }
     {
         self.follow(rt, step)
     }
@@ -181,7 +186,7 @@ impl<S: Store> MachineIn<S> {
     {
         match brief {
             Ok(Brief::Done) => Ok(Reply::Done),
-            Ok(Brief::Quiet) => Ok(Reply::Quiet),
+            Ok(Brief::Quiet | Brief::First) => Ok(Reply::Quiet),
             Ok(Brief::Race) => Ok(Reply::Race),
             Ok(Brief::Ignored) => Ok(Reply::Ignored),
             Ok(Brief::Shown) => self.shown(step.event),
@@ -221,6 +226,7 @@ impl<S: Store> MachineIn<S> {
         ensures holdings { IsFalse (found_no_room result.0) → (t : ℕ) → holding self.new t ≡ after_step (holding self.old t) t step }
         ensures states { IsFalse (found_no_room result.0) → (w : ℕ) → states self.new w ≡ state_after (holding self.old step.thread) (states self.old w) w step }
         ensures same { result.1 ≡ false → (w : ℕ) → states self.new w ≡ states self.old w }
+        ensures first { result.0 ≡ Ok Brief.First → IsFirst (states self.old) (marked (holding self.old step.thread) step.thread step.event) }
         ensures same_holdings { OnErr result.0 ((t : ℕ) → holding self.new t ≡ holding self.old t) }
         ensures same_states { OnErr result.0 ((w : ℕ) → states self.new w ≡ states self.old w) }
         ensures refused { (why : Refusal) → refused_by (holding self.old step.thread) step.event ≡ Some why → result.0 ≡ Err why }
@@ -279,6 +285,7 @@ impl<S: Store> MachineIn<S> {
         ensures ok { OnOk result ((w : ℕ) → states self.new w ≡ moved (states self.old w) w (marked (holding self.old thread) thread (Event.Access kind word 0))) }
         ensures same { IfOk result (λ answer. answer.1 ≡ false → (w : ℕ) → states self.new w ≡ states self.old w) }
         ensures err { OnErr result ((w : ℕ) → states self.new w ≡ states self.old w) }
+        ensures first { IfOk result (λ answer. answer.0 ≡ Brief.First → IsFirst (states self.old) (marked (holding self.old thread) thread (Event.Access kind word 0))) }
         ensures threads { self.new.threads ≡ self.old.threads }
         ensures room { IfErr result (λ why. IsTrue (may_want (holding self.old thread) (states self.old) thread (Event.Access kind word 0) why)) }
     {
@@ -288,8 +295,10 @@ impl<S: Store> MachineIn<S> {
         }
         let locks = held.cover(kind);
         // Without this a full table would refuse an access of a word that has no candidates left. No clause sees that, but tests/probe/steps.txt.
-        if let Some(changed) = self.words.access_quickly(thread, word, kind, locks) {
-            return Ok((Brief::Quiet, changed));
+        match self.words.access_quickly(thread, word, kind, locks) {
+            Some(true) => return Ok((Brief::First, true)),
+            Some(false) => return Ok((Brief::Quiet, false)),
+            None => {}
         }
         let noted = self.words.access_noting(rt, thread, word, kind, locks)?;
         let brief = if noted.is_race {
