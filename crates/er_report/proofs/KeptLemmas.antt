@@ -6,16 +6,21 @@ use Rattle.std.proofs.lemmas.Bool.Decides.{nat_tests}
 use Rattle.std.proofs.lemmas.Grind.{flat_map-append}
 use Rattle.std.proofs.lemmas.List.{append-nil, map-append}
 use Rattle.std.proofs.lemmas.List.Elements.{All-head, All-tail}
-use Rattle.er_event.specs.declared.steps.Reply.TheVariants.{Race}
+use Rattle.er_event.specs.declared.refusals.Refusal.{Refusal}
+use Rattle.er_event.specs.declared.steps.Reply.{Reply}
+use Rattle.er_event.specs.declared.steps.Reply.TheVariants.{Done, Quiet, Race, Ignored, State}
+use Rattle.er_event.specs.declared.steps.WordState.TheVariants.{Virgin}
 use Rattle.er_event.specs.declared.steps.Step.{Step}
-use Rattle.std.specs.Prelude.{Ok}
+use Rattle.std.specs.Prelude.{Result, Ok, Err}
 use Rattle.er_explain.proofs.Explained.{explained-at}
 use Rattle.er_explain.proofs.FoundLemmas.{race-told}
 use Rattle.er_explain.proofs.NamingLemmas.{named-follows, named-start}
 use Rattle.er_explain.proofs.RaceLemmas.{explanations_at, race-is}
+use Rattle.er_explain.proofs.SettledLemmas.{virgin-book}
 use Rattle.er_explain.specs.Book.{Book, Untouched}
 use Rattle.er_explain.specs.Books.{book_after, joining_of}
 use Rattle.er_explain.specs.Explaining.{explanation_at}
+use Rattle.er_explain.specs.Following.{BeginsAt, CountsWhere}
 use Rattle.er_explain.specs.Joined.{Joining}
 use Rattle.er_explain.specs.Naming.{named_pair, named_joining, named_book}
 use Rattle.er_explain.specs.Racing.{is_race, places_below}
@@ -25,14 +30,15 @@ use Rattle.er_model.proofs.AnswersLemmas.{reading-step}
 use Rattle.er_model.proofs.Explanations.{race-rising}
 use Rattle.er_model.proofs.Meaning.{join-counted}
 use Rattle.er_model.proofs.Search.{least_below-Some}
-use Rattle.er_model.specs.Answers.{answer, reading_of}
+use Rattle.er_model.specs.Answers.{answer, reading_of, state_at}
 use Rattle.er_model.specs.Explanations.{Explanation, ExplainsAccess, first_write, word_in, word_of}
 use Rattle.er_model.specs.Following.{marked}
 use Rattle.er_model.specs.Holdings.{holdings_at}
-use Rattle.er_model.specs.Words.{Reading, counts, writes, era, first, counted_from}
+use Rattle.er_model.specs.Words.{Mark, Counted, Reused, Shown, Nothing, Reading, counts, writes, era, first, counted_from}
 use Rattle.std.specs.Prelude.{nat_le}
 use Rattle.er_report.proofs.LawLemmas.{counted-step, least-counted, uncovered-counted}
 use Rattle.er_report.proofs.ReasonLemmas.{found_below, lines-explained}
+use Rattle.er_report.specs.Builder.{is_plain}
 use Rattle.er_report.specs.Inner.Explained.{line_with, left_after, with_reasons, line_told, told_left, with_told, lines_kept}
 use Rattle.er_report.specs.Kept.{LineAccess, Kept, Follows, access_at, told_access, told_found, joining_reasons, found_reasons, word_reasons, line_access, line_book, told_below}
 use Rattle.er_report.specs.Lines.{LineView, RacedView, RefusedView, ShownView}
@@ -203,6 +209,35 @@ follows-next before after r rules k line step printed books so_far here number i
   where
     next : {n : ℕ} → suc k ≡ n → told_below r rules k ++ cond (is_printed r rules k) (word_reasons (line_book r n) (word_of (slice_get r.steps k)) ∷ []) [] ≡ told_below r rules n
     next e = subst (λ (n : ℕ). told_below r rules k ++ cond (is_printed r rules k) (word_reasons (line_book r n) (word_of (slice_get r.steps k)) ∷ []) [] ≡ told_below r rules n) e refl
+
+-- after the first access of its word, which is no race: the word was virgin, and so its book was empty
+pub begins-next : (before after : Kept) (r : Recording) (rules : List Target) (k line : ℕ) (step : Step) (books : Blocks LineAccess)
+    → Follows before r rules k → slice_get r.steps k ≡ Some step → line ≡ slice_index r.lines k → is_printed r rules k ≡ false → BeginsAt r.steps k
+    → (CountsWhere (marked (holdings_at r.steps step.thread k) step.thread step.event) (λ w. book_in before.books w ≡ Untouched)
+    → (w : ℕ) → book_in books w ≡ book_after (book_in before.books w) w (line_access line (Some step)) (marked (holdings_at r.steps step.thread k) step.thread step.event))
+    → after.books ≡ books → after.told ≡ before.told → Follows after r rules (k + 1)
+begins-next before after r rules k line step books so_far here number unprinted begins goes same tells =
+    follows-next before after r rules k line step false books so_far here number (sym unprinted)
+    (goes (subst (λ (m : Mark). CountsWhere m (λ w. book_in before.books w ≡ Untouched)) (reading-step r.steps k step here) (empty (reading_of r.steps k) begins)))
+    same (tells ∙ sym (append-nil before.told))
+  where
+    empty : (m : Mark) → CountsWhere m (λ w. state_at r.steps w k ≡ Virgin) → CountsWhere m (λ w. book_in before.books w ≡ Untouched)
+    empty (Counted t kind word cover) virgin = so_far.books word ∙ ap (named_book (access_at r)) (virgin-book (reading_of r.steps) word k virgin)
+    empty (Reused range) never = never
+    empty (Shown word) never = never
+    empty Nothing never = never
+
+-- a step that has no line is not printed
+plain-no-race : (a : Result Reply Refusal) → is_plain a ≡ true → is_race a ≡ false
+plain-no-race (Ok Done) plain = refl
+plain-no-race (Ok Quiet) plain = refl
+plain-no-race (Ok Ignored) plain = refl
+plain-no-race (Ok Race) plain = cc
+plain-no-race (Ok (State state)) plain = cc
+plain-no-race (Err why) plain = refl
+
+pub plain-unprinted : (r : Recording) (rules : List Target) (k : ℕ) → is_plain (answer r.steps k) ≡ true → is_printed r rules k ≡ false
+plain-unprinted r rules k plain = ap (λ b. b && is_none (matching_rule_at r rules k)) (plain-no-race (answer r.steps k) plain)
 
 -- the reasons of a joining, put one after another
 pub all-told : (j : Joining LineAccess) (a b : LineAccess) (w : Option LineAccess) (ps : List (Pair LineAccess)) (none one two three all : List Because) → a ≡ j.first → b ≡ j.join → w ≡ j.write

@@ -1,12 +1,13 @@
 //! `ReportBuilder`, a report that grows by one step after another.
-ghost use Rattle.std.specs.Prelude.{◌≡◌, ◌<◌, ◌≤◌, ◌+◌, ◌^◌, ◌&&◌, ℕ, [], All, List, Option, None, Some, false, is_none, is_some, length, map, option_copied, slice_get, slice_index, OnOk, OnErr, IfOk, IfSome, IsOk, IsTrue};
+ghost use Rattle.std.specs.Prelude.{◌≡◌, ◌<◌, ◌≤◌, ◌+◌, ◌^◌, ◌&&◌, ℕ, [], All, List, Option, None, Some, false, true, is_none, is_some, length, map, option_copied, slice_get, slice_index, OnOk, OnErr, IfOk, IfSome, IsOk, IsTrue};
 ghost use Rattle.std.specs.Option.{option_to_list};
 ghost use Rattle.er_trace.specs.Trace.{Recording, IsNamed, HasSiteName as IsSite};
-ghost use Rattle.er_explain.specs.Following.{CoversAt};
+ghost use Rattle.er_explain.specs.Following.{BeginsAt, CoversAt};
 ghost use Rattle.er_explain.specs.Racing.{is_race};
 ghost use Rattle.er_journal.specs.AnswerList.{shown};
 ghost use Rattle.er_journal.specs.declared.answers.Stopped.{Stopped as Stop};
-ghost use Rattle.er_report.specs.Builder.{ArePlain, ArePlainBy, IsBuilt, IsBuiltBy, IsExplained, IsReported, IsStepBy, KeepStates};
+ghost use Rattle.er_model.specs.Answers.{answer};
+ghost use Rattle.er_report.specs.Builder.{ArePlain, ArePlainBy, IsBuilt, IsBuiltBy, IsExplained, IsReported, IsStepBy, KeepStates, is_plain};
 ghost use Rattle.er_report.specs.Inner.Adding.{with_answer, HasRoom};
 ghost use Rattle.er_report.specs.Kept.{Follows};
 ghost use Rattle.er_report.specs.Lines.{line_view, locks_in, reasons_in};
@@ -184,6 +185,20 @@ impl<'r> ReportBuilder<'r> {
         if let Some(explainer) = &mut self.explainer {
             let printed = explainer.told() < races;
             explainer.follow(line, step, cover, printed)?;
+        }
+        Ok(())
+    }
+
+    /// The same as `explain` for a step that is the first access of its word since its last reuse, and has no line. It is faster.
+    #[inline(always)]
+    pub fn explain_first(&mut self, line: u64, step: &Step) -> Made<()>
+        ensures rules { OnOk result (self.new.rules ≡ self.old.rules) }
+        ensures steps { OnOk result (self.new.report.steps ≡ self.old.report.steps) }
+        ensures explains { OnOk result (is_some self.new.kept ≡ is_some self.old.kept) }
+        ensures explained { (r : Recording) (k : ℕ) → IsBuilt self.old r (k + 1) → IsExplained self.old r k → slice_get r.steps k ≡ Some step.now → line ≡ slice_index r.lines k → is_plain (answer r.steps k) ≡ true → (IsTrue (is_some self.old.kept) → BeginsAt r.steps k) → OnOk result (IsReported self.new r (k + 1)) }
+    {
+        if let Some(explainer) = &mut self.explainer {
+            explainer.begin(line, step)?;
         }
         Ok(())
     }

@@ -1,6 +1,6 @@
 //! `Explainer`, which finds the reasons of races while steps go by.
-ghost use Rattle.std.specs.Prelude.{◌≡◌, ◌++◌, ◌+◌, ℕ, [], List, length, map, option_copied, slice_get, slice_index, IfOk, OnOk, Some};
-ghost use Rattle.er_explain.specs.Following.{CoversAt};
+ghost use Rattle.std.specs.Prelude.{◌≡◌, ◌++◌, ◌+◌, ℕ, false, [], List, length, map, option_copied, slice_get, slice_index, IfOk, OnOk, Some};
+ghost use Rattle.er_explain.specs.Following.{BeginsAt, CoversAt};
 ghost use Rattle.er_explain.specs.WordBooks.{book_in};
 ghost use Rattle.er_model.specs.Explanations.{word_in};
 ghost use Rattle.er_report.specs.Kept.{Follows, joining_reasons, told_found, word_reasons};
@@ -69,6 +69,15 @@ impl Explainer {
             let reasons = Box::new(self.alloc, Details { held, explained })?;
             self.told.push(reasons)?;
         }
+        Ok(())
+    }
+
+    /// Goes on by a step on this line that is the first access of its word since its last reuse, and no race.
+    #[inline(always)]
+    pub(crate) fn begin(&mut self, line: u64, step: &Step) -> Made<()>
+        ensures { (r : Recording) (rules : List Target) (k : ℕ) → Follows self.old r rules k → slice_get r.steps k ≡ Some step.now → line ≡ slice_index r.lines k → BeginsAt r.steps k → is_printed r rules k ≡ false → OnOk result (Follows self.new r rules (k + 1)) }
+    {
+        self.books.begin(line, step)?;
         Ok(())
     }
 
