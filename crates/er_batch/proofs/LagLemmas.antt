@@ -1,5 +1,5 @@
 -- A report that lags behind by steps that have nothing to say.
-use Rattle.std.proofs.Common.{◌≡◌, ◌∙◌, ◌+◌, ◌++◌, ◌∷◌, [], ℕ, true, is_some, Result, Some, IsTrue, slice_get, take, ap, sym, subst, arith, ⊎_elim}
+use Rattle.std.proofs.Common.{◌≡◌, ◌∙◌, ◌+◌, ◌++◌, ◌∷◌, [], ℕ, List, true, is_some, Result, Some, IsTrue, slice_get, take, ap, sym, subst, arith, ⊎_elim}
 use Rattle.er_event.specs.declared.refusals.Refusal.{Refusal}
 use Rattle.er_event.specs.declared.steps.Reply.{Reply}
 use Rattle.er_event.specs.declared.steps.Step.{Step}
@@ -42,6 +42,12 @@ pub lags-end : (before after : Built) (r : Recording) (n plain : ℕ) → Lags b
     → ((s : Recording) (k : ℕ) → IsReported before s k → ArePlain s.steps k plain → (IsTrue (is_some before.kept) → KeepStates s.steps k plain) → IsReported after s (k + plain))
     → IsReported after r n
 lags-end before after r n plain lags adds = subst (IsReported after r) lags.behind (adds r lags.start lags.reported lags.answers lags.keep)
+
+-- a plain answer of one step
+pub one-plain : (steps : List Step) (k : ℕ) → is_plain (answer steps k) ≡ true → ArePlain steps k 1
+one-plain steps k plain i from below =
+    let here : i ≡ k = omega (arith, from, below) in
+    ap (λ n. is_plain (answer steps n)) here ∙ plain
 
 -- what is kept for reasons waits for the step to be explained
 pub kept-on : (before after : Built) (r : Recording) (n : ℕ) → after.kept ≡ before.kept → after.rules ≡ before.rules → IsExplained before r n → IsExplained after r n

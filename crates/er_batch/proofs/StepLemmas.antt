@@ -1,5 +1,5 @@
 -- What a machine says of a step that comes after the first k is what the definitions say of the step at position k.
-use Rattle.std.proofs.Common.{◌≡◌, ◌<◌, ◌+◌, ◌==◌, ℕ, Bool, true, false, cond, List, [], ◌∷◌, ◌++◌, length, take, drop, slice_get, slice_index, Some, None, Result, Ok, refl, sym, ap, ◌∙◌, suc, add-one, arith}
+use Rattle.std.proofs.Common.{◌≡◌, ◌<◌, ◌+◌, ◌==◌, ℕ, Bool, true, false, cond, List, [], ◌∷◌, ◌++◌, length, take, drop, slice_get, slice_index, Some, None, Result, Ok, refl, sym, ap, subst, ◌∙◌, suc, add-one, arith}
 use Rattle.std.proofs.lemmas.List.{take_more, take-append-drop, length-take-le}
 use Rattle.std.proofs.lemmas.Option.{slice_get_within, get_or_from_slice_get}
 use Rattle.er_trace.specs.Names.{NameTable}
@@ -12,7 +12,12 @@ use Rattle.er_event.specs.declared.steps.Reply.TheVariants.{Race}
 use Rattle.er_event.specs.declared.steps.Step.{Step}
 use Rattle.er_explain.proofs.RaceLemmas.{race-is}
 use Rattle.er_explain.proofs.FoundLemmas.{no-word}
-use Rattle.er_explain.specs.Following.{cover_by}
+use Rattle.er_explain.specs.Following.{cover_by, BeginsAt, CountsWhere}
+use Rattle.er_event.specs.declared.steps.WordState.TheVariants.{Virgin}
+use Rattle.er_model.proofs.AnswersLemmas.{reading-step}
+use Rattle.er_model.specs.Following.{marked}
+use Rattle.er_model.specs.Words.{Mark, Counted, Reused, Shown, Nothing}
+use Rattle.er_replay.specs.Standing.{Replayed, Stands, IsFirst, holding, states}
 use Rattle.er_model.proofs.Threads.{holdings-step}
 use Rattle.er_model.proofs.Prefixes.{answer-front, holdings-front, holdings-grow, state-front}
 use Rattle.er_model.specs.Answers.{answer, answer_next, state_at, state_end}
@@ -119,6 +124,19 @@ module _ (steps : List Step) (k : ℕ) (step : Step) (here : slice_get steps k �
       ap (λ (h : Holdings). cover_by h step.event) (holdings-grow past step step.thread)
       ∙ cover-after (step.thread == step.thread) (holdings_end past step.thread) step.event
       ∙ ap (λ (h : Holdings). cover_by h step.event) (holdings-here step.thread)
+
+  -- a machine that knows an access as the first of its word
+  pub begins-here : (machine : Replayed) → Stands machine past → IsFirst (states machine) (marked (holding machine step.thread) step.thread step.event) → BeginsAt steps k
+  begins-here machine stands first =
+      subst (λ (m : Mark). CountsWhere m (λ w. state_at steps w k ≡ Virgin))
+      (ap (λ (h : Holdings). marked h step.thread step.event) (stands.0 step.thread ∙ holdings-here step.thread) ∙ sym (reading-step steps k step here))
+      (by (marked (holding machine step.thread) step.thread step.event) first)
+    where
+      by : (m : Mark) → IsFirst (states machine) m → CountsWhere m (λ w. state_at steps w k ≡ Virgin)
+      by (Counted t kind word cover) virgin = sym (state-before word) ∙ (sym (stands.1 word) ∙ virgin)
+      by (Reused range) never = never
+      by (Shown word) never = never
+      by Nothing never = never
 
 pub step-at : (r : Recording) (k : ℕ) (names : NameTable) (number site : ℕ) (step : Step) (given : Result Reply Refusal) (locks : List ℕ)
     → slice_get r.steps k ≡ Some step → number ≡ slice_index r.lines k → site ≡ slice_index r.sites k → names ≡ r.names → given ≡ answer_next (take k r.steps) step

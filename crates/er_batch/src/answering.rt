@@ -5,7 +5,7 @@ ghost use Rattle.er_batch.specs.Runs.{HasRun, recorded};
 ghost use Rattle.er_event.specs.declared.steps.Event.{Event as Events};
 ghost use Rattle.er_event.specs.declared.steps.Step.{Step as Steps};
 ghost use Rattle.er_event.specs.declared.steps.WordState.{WordState as WordStates};
-ghost use Rattle.er_explain.specs.Following.{CoversAt};
+ghost use Rattle.er_explain.specs.Following.{BeginsAt, CoversAt};
 ghost use Rattle.er_model.specs.Answers.{answer};
 ghost use Rattle.er_replay.specs.Standing.{found_no_room, in_full};
 ghost use Rattle.er_report.specs.Builder.{IsReported, IsStepAt, is_plain};
@@ -63,7 +63,10 @@ fn needs_no_line(answer: Result<Brief, Refusal>) -> bool
     ensures plain { IsTrue result → (states : ℕ → WordStates) (event : Events) → is_plain (in_full states event answer) ≡ true }
     ensures room { IsTrue result → IsFalse (found_no_room answer) }
 {
-    matches!(answer, Ok(Brief::Quiet | Brief::Done | Brief::Ignored))
+    matches!(
+        answer,
+        Ok(Brief::Quiet | Brief::First | Brief::Done | Brief::Ignored)
+    )
 }
 
 // Whether the report says nothing of a step that is answered so: it needs no line, and if reasons are wanted it has not changed a word.
@@ -96,6 +99,26 @@ fn add_reason(
     builder.add_plain(plain);
     builder.add_plain(1);
     builder.explain(line, step, cover)
+}
+
+// The same as `add_reason` for a step that is the first access of its word since its last reuse.
+#[inline(always)]
+fn add_first(
+    builder: &mut ReportBuilder<'_>,
+    plain: u64,
+    line: u64,
+    step: &Step,
+) -> Result<(), AllocError>
+    requires room { builder.old.report.steps + plain + 1 < 2 ^ 64 }
+    ensures rules { OnOk result (builder.new.rules ≡ builder.old.rules) }
+    ensures steps { OnOk result (builder.new.report.steps ≡ builder.old.report.steps + plain + 1) }
+    ensures explains { OnOk result (is_some builder.new.kept ≡ is_some builder.old.kept) }
+    ensures reported { (r : Recording) (n : ℕ) → Lags builder.old r n plain → slice_get r.steps n ≡ Some step.now → line ≡ slice_index r.lines n → is_plain (answer r.steps n) ≡ true
+        → (IsTrue (is_some builder.old.kept) → BeginsAt r.steps n) → OnOk result (IsReported builder.new r (n + 1)) }
+{
+    builder.add_plain(plain);
+    builder.add_plain(1);
+    builder.explain_first(line, step)
 }
 
 /// Adds `plain` steps at once that the report has no line for, and then the next step, which is only counted if it has no line either. If
@@ -153,6 +176,9 @@ fn answer_steps(
         let (brief, changed) = machine.take(&(), *step);
         if says_nothing(explains, brief, changed) {
             plain += 1;
+        } else if let Ok(Brief::First) = brief {
+            add_first(builder, plain, trace.lines()[k], step)?;
+            plain = 0;
         } else if needs_no_line(brief) {
             let cover = cover_in(machine.held(step.thread), step.event);
             add_reason(builder, plain, trace.lines()[k], step, cover)?;
@@ -162,15 +188,12 @@ fn answer_steps(
             if let Some(cause) = no_room(&answer) {
                 drop(answer);
                 builder.add_plain(plain);
-                return Ok(Some(Stopped {
-                    at: k as u64,
-                    cause,
-                }));
+                let at = k as u64;
+                return Ok(Some(Stopped { at, cause }));
             }
             let holder = machine.held(step.thread);
             let (held, cover) = (holder.held(), cover_in(holder, step.event));
-            let line = trace.lines()[k];
-            let site = trace.sites()[k];
+            let (line, site) = (trace.lines()[k], trace.sites()[k]);
             let added = add_behind(
                 builder, plain, names, line, site, step, &answer, held, cover,
             );

@@ -18,8 +18,7 @@ use std::simd::prelude::*;
 /// its words are used.
 #[derive(Drop)]
 pub(crate) struct Block<A> {
-    // In the order in which they began. Of two books of one place the first counts: no step makes a second one if `put` is called as it asks, but no
-    // contract needs that.
+    // In the order in which they began. If two have one place, the first counts. No replay makes two, but nothing rests on that: `put` doesn't look.
     books: Vec<Book<A>>,
     // The place of each book, in the same order. What stands behind them says nothing. They stand beside the books' address: so a look at a
     // block's books reads one piece of memory to find them.
@@ -46,6 +45,7 @@ impl<A: Copy> Block<A> {
         requires { place < 256 }
         ensures { IfOk result (λ block. (i : ℕ) → book_at_place block i ≡ cond (nat_eq place i) (Owned access.thread access) Untouched) }
     {
+        // As many as the first push would make room for. More would be memory for nothing in a page with one word.
         let mut books = Vec::with_capacity(alloc, 4)?;
         books.push_reserved(Book::begin(access));
         let mut places = [0; 256];
@@ -74,7 +74,7 @@ impl<A: Copy> Block<A> {
         self.put(place, access)
     }
 
-    /// A book for the word at a place, which begins by this access. It looks for no book: if the word has one, that one stays, and this one is lost.
+    /// A book of the word at a place begins by this access. It looks for no book: one that the word has already still counts, and the new one doesn't.
     #[inline(always)]
     pub(crate) fn put(&mut self, place: usize, access: Access<A>) -> Made<()>
         requires { place < 256 }
@@ -127,18 +127,6 @@ fn remove_between<A: Copy>(
     ensures apart { HavePlaces places.new (length books.new.items) }
     ensures books { (i : ℕ) → found_at places.new books.new.items i ≡ cond (nat_le lo i && nat_le i hi) None (found_at places.old books.old.items i) }
 {
-    let kept = gather(books, places, lo, hi);
-    drop_behind(books, spare, kept);
-}
-
-// Moves the books of other places than those from `lo` to `hi` to the front, in their order, and returns how many there are.
-fn gather<A>(books: &mut Vec<Book<A>>, places: &mut [u8; 256], lo: usize, hi: usize) -> usize
-    requires { HavePlaces places.old (length books.old.items) }
-    ensures within { result ≤ length books.old.items }
-    ensures all { length books.new.items ≡ length books.old.items }
-    ensures long { length places.new ≡ length places.old }
-    ensures books { (i : ℕ) → found_at places.new (take result books.new.items) i ≡ cond (nat_le lo i && nat_le i hi) None (found_at places.old books.old.items i) }
-{
     let mut kept = 0;
     for number in 0..books.len() {
         let place = places[number];
@@ -148,14 +136,6 @@ fn gather<A>(books: &mut Vec<Book<A>>, places: &mut [u8; 256], lo: usize, hi: us
             kept += 1;
         }
     }
-    kept
-}
-
-// Drops the books behind the first `kept`, and keeps their joinings.
-fn drop_behind<A: Copy>(books: &mut Vec<Book<A>>, spare: &mut Vec<Joint<Access<A>>>, kept: usize)
-    requires { kept ≤ length books.old.items }
-    ensures { books.new.items ≡ take kept books.old.items }
-{
     while books.len() > kept {
         if let Some(book) = books.pop() {
             book.keep_joining(spare);

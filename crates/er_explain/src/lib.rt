@@ -12,8 +12,9 @@
 //! was found for it. A reuse empties the book. `explain` goes over the steps once, and keeps the books of all words.
 //!
 //! [`WordBooks`] keeps the books of all words while the steps are answered, and no step. An [`Access`] is named there as the caller likes, by its
-//! place or by its line, and by its thread and its kind. It promises that each word's book goes on as the definitions say (`follow`), and what a book
-//! says of the joining (`joining`). A step that leaves the state of each word as it was needs not be followed ([`a_kept_state_keeps_the_book`]).
+//! place or by its line, and by its thread and its kind. It promises that each word's book goes on as the definitions say (`follow`, and faster `begin`
+//! for a first access), and what a book says of the joining (`joining`). A step that leaves the state of each word as it was needs not be followed
+//! ([`a_kept_state_keeps_the_book`]).
 //!
 //! ```
 //! // The steps are `t1 write 0x1000` and `t2 write 0x1000`.

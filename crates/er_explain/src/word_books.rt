@@ -73,23 +73,16 @@ impl<A: Copy> WordBooks<A> {
         Ok(())
     }
 
-    /// Goes on by a step that is an access which counts, of a word whose book is empty. It does what `follow` does, but looks for no book. At
-    /// another step it may do something else.
+    /// Goes on as `follow` does by an access that counts, of a word whose book is empty, and looks for no book. At another step it may do something
+    /// else: so nothing is asked of a caller that can't show what a step is.
     pub fn begin(&mut self, at: A, step: &Step) -> Result<(), AllocError>
         ensures { (h : Holdings) → CountsWhere (marked h step.now.thread step.now.event) (λ w. book_in self.old w ≡ Untouched) → OnOk result ((w : ℕ) → book_in self.new w ≡ book_after (book_in self.old w) w (access_of at step.now) (marked h step.now.thread step.now.event)) }
     {
-        if let Event::Access(kind, word, _) = step.event {
-            let thread = step.thread;
-            self.begin_book(word, Access { at, thread, kind })?;
-        }
-        Ok(())
-    }
-
-    // Split for the prover.
-    #[inline(always)]
-    fn begin_book(&mut self, word: Word, access: Access<A>) -> Made<()>
-        ensures { book_in self.old word ≡ Untouched → OnOk result ((w : ℕ) → book_in self.new w ≡ cond (word == w) (Owned access.thread access) (book_in self.old w)) }
-    {
+        let Event::Access(kind, word, _) = step.event else {
+            return Ok(());
+        };
+        let thread = step.thread;
+        let access = Access { at, thread, kind };
         let at = word.number();
         let (number, place) = (at / WORDS, (at % WORDS) as usize);
         match index_of(&self.blocks, self.hints.hint(number), number) {
@@ -103,8 +96,8 @@ impl<A: Copy> WordBooks<A> {
         }
     }
 
-    // Most accesses find their block. What is seldom taken, here and below, is a call of its own, and small in its caller. (What these calls save is little:
-    // nearly all of what such accesses gained came of the reserve before a put, in `Block`.)
+    // Most accesses find their block. What is seldom taken, here and below, is a call of its own. That saves little: the reserve before a put, in `Block`,
+    // brought nearly all of what such calls and it gained together.
     #[inline(always)]
     fn access(&mut self, cover: &Lockset, word: Word, access: Access<A>) -> Made<()>
         ensures { OnOk result ((w : ℕ) → book_in self.new w ≡ cond (word == w) (book_accessed (book_in self.old word) access access.thread access.kind cover.now) (book_in self.old w)) }

@@ -189,7 +189,7 @@ impl<'r> ReportBuilder<'r> {
         Ok(())
     }
 
-    /// The same as `explain` for a step that is the first access of its word since its last reuse, and has no line. It is faster.
+    /// Does what `explain` does, and faster, if the step that was added last is the first access of its word since its last reuse, and has no line.
     #[inline(always)]
     pub fn explain_first(&mut self, line: u64, step: &Step) -> Made<()>
         ensures rules { OnOk result (self.new.rules ≡ self.old.rules) }

@@ -1,13 +1,16 @@
 -- Each step is answered as the definitions say, and added or counted, and a stop lacks what its step may want.
-use Rattle.std.proofs.Common.{◌≡◌, ◌<◌, ◌+◌, ◌∙◌, ◌++◌, ◌∷◌, [], ℕ, List, length, take, slice_get, slice_index, IsFalse, Some, refl, sym, ap, subst, arith}
+use Rattle.std.proofs.Common.{◌≡◌, ◌<◌, ◌+◌, ◌∙◌, ◌++◌, ◌∷◌, [], ℕ, List, length, take, slice_get, slice_index, IsFalse, Some, Result, Ok, refl, sym, ap, subst, arith}
 use Rattle.std.proofs.lemmas.Option.{slice_get_read, slice_get_within}
 use Rattle.er_event.proofs.Lists.{get_behind}
+use Rattle.er_event.specs.declared.refusals.Refusal.{Refusal}
 use Rattle.er_event.specs.declared.steps.Step.{Step}
 use Rattle.er_explain.specs.Following.{cover_by}
 use Rattle.er_model.specs.Answers.{answer_next}
 use Rattle.er_model.specs.Holdings.{Holdings}
 use Rattle.er_replay.proofs.BriefLemmas.{brief-room, if_err, refused, show-wants, whole}
 use Rattle.er_replay.proofs.StopsLemmas.{lacks}
+use Rattle.er_replay.specs.declared.machine.Brief.{Brief}
+use Rattle.er_replay.specs.declared.machine.Brief.TheVariants as brief
 use Rattle.er_replay.specs.Standing.{Replayed, Stands, found_no_room, holding, in_full, states}
 use Rattle.er_report.specs.Builder.{IsReported, is_plain}
 use Rattle.er_batch.specs.Inner.Answering.{HasComeTo}
@@ -15,9 +18,9 @@ use Rattle.er_text.specs.Batches.{joined}
 use Rattle.er_trace.specs.Trace.{Recording}
 use Rattle.er_batch.proofs.LagLemmas.{come-plain, come-told, lags-end}
 use Rattle.er_batch.proofs.BatchLemmas.{number-behind, site-behind}
-use Rattle.er_batch.proofs.StepLemmas.{answer-here, covers-end, step-at}
+use Rattle.er_batch.proofs.StepLemmas.{answer-here, begins-here, covers-end, step-at}
 use Rattle.er_batch.proofs.answering.answer_steps.Goals as goal
-use Rattle.er_batch.proofs.answering.answer_steps.Goals.{then-says_nothing, else-says_nothing+then-needs_no_line+in_ok-add_reason, else-says_nothing+else-needs_no_line+in_default+in_ok-added}
+use Rattle.er_batch.proofs.answering.answer_steps.Goals.{then-says_nothing, else-says_nothing+in-Ok-First+in_ok-add_first, else-says_nothing+in_default+then-needs_no_line+in_ok-add_reason, else-says_nothing+in_default+else-needs_no_line+in_default-no_room+in_ok-added}
 
 pub returns-in-Some-clause-run : goal.returns-in-Some-clause-run
 returns-in-Some-clause-run c = λ past lines sites long each before.
@@ -72,7 +75,30 @@ loop-k-preserved c =
             c.take-brief.ensures.unchanged (take at r.steps) (stands (take at r.steps) come.stands) room
             (c.says_nothing.ensures.keeps w.if-says_nothing.true (c.explains-explains.ensures ∙ sym c.loop-k.invariant.explains ∙ wanted)))));
       }
-      | else-says_nothing+then-needs_no_line+in_ok-add_reason w ↦ record {
+      | else-says_nothing+in-Ok-First+in_ok-add_first w ↦ record {
+        steps = rw (w.builder-is, w.plain-is) (let so_far = c.loop-k.invariant.steps in let added = w.in_ok-add_first.ensures.steps in omega arith);
+        rules = rw w.builder-is (w.in_ok-add_first.ensures.rules ∙ c.loop-k.invariant.rules);
+        explains = rw w.builder-is (w.in_ok-add_first.ensures.explains ∙ c.loop-k.invariant.explains);
+        run = λ past lines sites long each before.
+            let r : Recording = joined past lines sites c.args.trace.now in
+            let at : ℕ = length past + k in
+            let come : HasComeTo c.loop-k.machine c.loop-k.builder r at c.loop-k.plain = c.loop-k.invariant.run past lines sites long each before in
+            let first : c.take-brief.result.0 ≡ Ok brief.First = w.in-Ok-First.is ∙ ap Ok (rw w.in-Ok-First.is at w.in-Ok-First.field-0-is) in
+            let room : IsFalse (found_no_room c.take-brief.result.0) = ap found_no_room first in
+            let now = states c.take-brief.new.self in
+            let behind : Stands c.take-brief.new.self (take at r.steps ++ step ∷ []) = next room (take at r.steps) come.stands in
+            let line = ap (λ (numbers : List ℕ). slice_index numbers k) w.lines.ensures.value ∙ number-behind lines c.args.trace.now.lines (length past) k long in
+            let plain = ap is_plain (sym (answer-here r.steps at step (here past)) ∙ sym (answered room (take at r.steps) come.stands)) ∙ ap (λ (b : Result Brief Refusal). is_plain (in_full now step.event b)) first in
+            let reported : IsReported w.add_first.new.builder r (at + 1) =
+            w.in_ok-add_first.ensures.reported r at come.lags (here past) line plain
+            (λ _.
+            begins-here r.steps at step (here past) c.look_ahead.new.self (stands (take at r.steps) come.stands) (c.take-brief.ensures.first first)) in
+            let one : at + 1 ≡ length past + (k + 1) = omega arith in
+            rw (w.builder-is, w.plain-is)
+            (subst (λ (n : ℕ). HasComeTo c.take-brief.new.self w.add_first.new.builder r n 0) one
+            (come-told c.loop-k.machine c.take-brief.new.self r at c.loop-k.plain step (here past) behind w.add_first.new.builder reported));
+      }
+      | else-says_nothing+in_default+then-needs_no_line+in_ok-add_reason w ↦ record {
         steps = rw (w.builder-is, w.plain-is) (let so_far = c.loop-k.invariant.steps in let added = w.in_ok-add_reason.ensures.steps in omega arith);
         rules = rw w.builder-is (w.in_ok-add_reason.ensures.rules ∙ c.loop-k.invariant.rules);
         explains = rw w.builder-is (w.in_ok-add_reason.ensures.explains ∙ c.loop-k.invariant.explains);
@@ -83,7 +109,7 @@ loop-k-preserved c =
             let room = w.needs_no_line.ensures.room w.if-needs_no_line.true in
             let now = states c.take-brief.new.self in
             let behind : Stands c.take-brief.new.self (take at r.steps ++ step ∷ []) = next room (take at r.steps) come.stands in
-            let line = ap (λ (numbers : List ℕ). slice_index numbers k) w.lines.ensures.value ∙ number-behind lines c.args.trace.now.lines (length past) k long in
+            let line = ap (λ (numbers : List ℕ). slice_index numbers k) w.lines-then-needs_no_line.ensures.value ∙ number-behind lines c.args.trace.now.lines (length past) k long in
             let plain = ap is_plain (sym (answer-here r.steps at step (here past)) ∙ sym (answered room (take at r.steps) come.stands)) ∙ w.needs_no_line.ensures.plain w.if-needs_no_line.true now step.event in
             let reported : IsReported w.add_reason.new.builder r (at + 1) =
             w.in_ok-add_reason.ensures.reported r at come.lags (here past) line plain
@@ -93,7 +119,7 @@ loop-k-preserved c =
             (subst (λ (n : ℕ). HasComeTo c.take-brief.new.self w.add_reason.new.builder r n 0) one
             (come-told c.loop-k.machine c.take-brief.new.self r at c.loop-k.plain step (here past) behind w.add_reason.new.builder reported));
       }
-      | else-says_nothing+else-needs_no_line+in_default+in_ok-added w ↦ record {
+      | else-says_nothing+in_default+else-needs_no_line+in_default-no_room+in_ok-added w ↦ record {
         steps = rw (w.builder-is, w.plain-is) (let so_far = c.loop-k.invariant.steps in let added = w.in_ok-added.ensures.steps in omega arith);
         rules = rw w.builder-is (w.in_ok-added.ensures.rules ∙ c.loop-k.invariant.rules);
         explains = rw w.builder-is (w.in_ok-added.ensures.explains ∙ c.loop-k.invariant.explains);
@@ -102,8 +128,8 @@ loop-k-preserved c =
             let at : ℕ = length past + k in
             let come : HasComeTo c.loop-k.machine c.loop-k.builder r at c.loop-k.plain = c.loop-k.invariant.run past lines sites long each before in
             let room : IsFalse (found_no_room c.take-brief.result.0) =
-            brief-room (states c.take-brief.new.self) step.event c.take-brief.result.0 w.in_full-answer.result w.in_full-answer.ensures w.in_default.ensures in
-            let whole_answer = whole (states c.take-brief.new.self) step.event c.take-brief.result.0 w.in_full-answer.result w.in_full-answer.ensures w.in_default.ensures in
+            brief-room (states c.take-brief.new.self) step.event c.take-brief.result.0 w.in_full-answer.result w.in_full-answer.ensures w.in_default-no_room.ensures in
+            let whole_answer = whole (states c.take-brief.new.self) step.event c.take-brief.result.0 w.in_full-answer.result w.in_full-answer.ensures w.in_default-no_room.ensures in
             let behind : Stands c.take-brief.new.self (take at r.steps ++ step ∷ []) = next room (take at r.steps) come.stands in
             let line = ap (λ (numbers : List ℕ). slice_index numbers k) w.lines-else-needs_no_line.ensures.value ∙ number-behind lines c.args.trace.now.lines (length past) k long in
             let inside : k < length w.sites.result.now = rw (w.sites.ensures.value, w.sites.ensures.one_per_step) (rw c.steps-steps.ensures.value at c.loop-k-test.true) in

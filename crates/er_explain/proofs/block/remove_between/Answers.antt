@@ -1,8 +1,8 @@
 -- The next book stays or goes.
 use Rattle.std.proofs.Common.{◌≡◌, ◌≤◌, false, length, slice_index_or, arith}
 use Rattle.er_explain.proofs.PlaceLemmas.{is_between, between_in, between_low, between_high, kept-none, kept-less, kept-more}
-use Rattle.er_explain.proofs.block.gather.Goals.{then-place-lo, then-place-lo-via-then-place-lo, then-place-lo-via-else-place-lo+then-hi-place, else-place-lo+else-hi-place}
-use Rattle.er_explain.proofs.block.gather.Goals as goal
+use Rattle.er_explain.proofs.block.remove_between.Goals.{then-place-lo, then-place-lo-via-then-place-lo, then-place-lo-via-else-place-lo+then-hi-place, else-place-lo+else-hi-place}
+use Rattle.er_explain.proofs.block.remove_between.Goals as goal
 
 pub loop-number-init : goal.loop-number-init
 loop-number-init g c = kept-none c.args.places.now c.args.books.now.items c.args.lo c.args.hi
