@@ -16,7 +16,7 @@ invariant_of-self-2 g c =
     (c.push_reserved.ensures.items ∙ ap (λ bs. bs ++ (c.begin.result ∷ [])) c.in_ok-reserve.ensures.items) (omega (arith, c.len-count.ensures)) in
     record {
       few = omega (arith, more, c.if-count-ge256.false);
-      long = length-set c.self.inside.places c.len-count.result c.args.place ∙ c.self.invariant.long;
+      long = length-set c.self.inside.places c.len-count.result _ ∙ c.self.invariant.long;
     }
 
 pub returns : goal.returns
