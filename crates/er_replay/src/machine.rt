@@ -295,6 +295,7 @@ impl<S: Store> MachineIn<S> {
         }
         let locks = held.cover(kind);
         // Without this a full table would refuse an access of a word that has no candidates left. No clause sees that, but tests/probe/steps.txt.
+        // A return in each arm: if one of them computed the answer from the flag, a replay would test both once more.
         match self.words.access_quickly(thread, word, kind, locks) {
             Some(true) => return Ok((Brief::First, true)),
             Some(false) => return Ok((Brief::Quiet, false)),
