@@ -24,6 +24,7 @@ pub mod GrowthLemmas
 pub mod IdleLemmas
 pub mod EventWords
 pub mod PieceLemmas
+mod AheadLemmas
 pub mod AppendedLemmas
 pub mod CommentLemmas
 pub mod PieceLaws

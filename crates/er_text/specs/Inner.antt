@@ -1,4 +1,5 @@
 -- What the code's parts keep true of one another. Of public clauses those of a reader of batches alone cite it.
+pub mod Ahead
 pub mod Parsing
 pub mod Idle
 pub mod Traces

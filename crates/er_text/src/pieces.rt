@@ -12,7 +12,7 @@ ghost use Rattle.er_trace.specs.Names.{NameTable, AreSame};
 ghost use Rattle.er_trace.specs.Trace.{IsNamed, HasSiteName, with_steps};
 
 use crate::endings::Lost;
-use crate::reading::{Header, TraceReader};
+use crate::reading::{Header, LINE, TraceReader};
 use crate::stages::Stage;
 use crate::verbs::Version;
 use er_event::{Site, Step};
@@ -20,9 +20,6 @@ use er_lines::line_len;
 use er_trace::{NameKeys, Names, NewTable, Trace};
 use std::alloc::{AllocError, Global};
 use std::marker::Model;
-
-/// The most bytes that a line has, without its LF.
-const LINE: usize = 1024;
 
 /// The least bytes of a piece for each of its steps.
 const STEP: usize = 4;

@@ -1,7 +1,7 @@
 //! Traces, line by line, and batch by batch.
-ghost use Rattle.std.specs.Prelude.{◌≡◌, ◌+◌, ◌++◌, ◌<◌, ◌≤◌, ◌^◌, length, OnOk, IfOk, IfSome, IfErr, IsErrOf, IsTrue, Ok, Err, true, false, Option, ℕ, List, [], Some, None};
+ghost use Rattle.std.specs.Prelude.{◌≡◌, ◌+◌, ◌++◌, ◌<◌, ◌≤◌, ◌^◌, drop, length, OnOk, IfOk, IfSome, IfErr, IsErrOf, IsTrue, Ok, Err, true, false, Option, ℕ, List, [], Some, None};
 ghost use Rattle.er_device.specs.Device.{inner_of, has_failed, taken_of};
-ghost use Rattle.er_lines.specs.Lines.{bytes_past_limit, is_comment, AreWhole};
+ghost use Rattle.er_lines.specs.Lines.{Placed, bytes_past_limit, is_comment, lines_of, placed_from, AreWhole};
 ghost use Rattle.er_text.specs.Trace.{Tells};
 ghost use Rattle.er_lines.specs.Faults.{HasFailedBy};
 ghost use Rattle.er_trace.specs.Trace.{Recording, no_steps};
@@ -13,14 +13,15 @@ ghost use Rattle.er_text.specs.Batches.{HasRead, GivesBatch, batch_steps};
 ghost use Rattle.er_text.specs.Pieces.{StaysAt};
 ghost use Rattle.er_text.specs.Places.{no_tail};
 ghost use Rattle.er_text.specs.Ending.{KnowsEnd, IsEndingOf, comment_past};
-ghost use Rattle.er_text.specs.Inner.Endings.{PassesTail, BatchesTail};
+ghost use Rattle.er_text.specs.Inner.Ahead.{AreEndedOn, AreReadOn};
+ghost use Rattle.er_text.specs.Inner.Endings.{KeepsTail, PassesTail, BatchesTail};
 ghost use Rattle.er_lines.specs.Lending.{taken_by, lines_from, lines_left};
 ghost use Rattle.er_lines.specs.Reading.{Continues, Reads, Turns};
 ghost use Rattle.er_lines.specs.Touches.{StaysKnown};
 ghost use Rattle.er_text.specs.Inner.FastPath.{ReadsUsual};
 ghost use Rattle.er_text.specs.Inner.Numbers.{AreRight};
 ghost use Rattle.er_text.specs.Inner.Parsing.{event_line};
-ghost use Rattle.er_text.specs.Inner.Traces.{progress, at_front, at_line, add_parsed, plain_at, read_content, read_text, IsOutcome, Batches};
+ghost use Rattle.er_text.specs.Inner.Traces.{Progress, progress, at_front, at_line, add_parsed, plain_at, read_content, read_text, IsOutcome, Batches};
 
 use crate::Done;
 use crate::adding::add_steps;
@@ -33,14 +34,17 @@ use crate::stages::{IdleThreads, Stage, is_known_thread};
 use crate::verbs::Version;
 use er_device::Device;
 use er_lines::{
-    ByText, LineReader, ReadFault, Shortcut, TextKind, fault_at, is_ascii, says_something,
-    split_words,
+    ByText, LineReader, ReadFault, Shortcut, TextKind, fault_at, is_ascii, line_len,
+    says_something, split_words,
 };
 use er_trace::{NameKeys, Trace};
 use std::alloc::{AllocError, Global};
 use std::io::Read;
 use std::marker::Model;
 use std::mem;
+
+/// The most bytes that a line has, without its LF.
+pub(crate) const LINE: usize = 1024;
 
 /// A batch ends behind the line that brings its trace to this many steps.
 const BATCH_STEPS: usize = 131_072;
@@ -331,6 +335,71 @@ impl TraceReader {
         self.finish()
     }
 
+    /// Reads whole lines that were read ahead, at most so many and until the trace has 131,072 steps, and returns how many. It takes nothing from the
+    /// reader, and stops at a line that is too long.
+    #[inline(always)]
+    fn read_ahead(&mut self, trace: &mut Trace, most_lines: u32) -> Result<u32, ReadFault>
+        ensures on { (known : Option (List ℕ)) → OnOk result (Continues self.old.place.limit read_content (lines_left self.old.place known) (lines_left self.new.place known) (progress self.old trace.old) (progress self.new trace.new)) }
+        ensures tail { (known : Option (List ℕ)) → OnOk result (KeepsTail (lines_left self.old.place known) (lines_left self.new.place known) self.old.tail self.new.tail) }
+        ensures fault { (known : Option (List ℕ)) → IfErr result (λ why. Turns self.old.place.limit read_content (lines_left self.old.place known) None (progress self.old trace.old) (progress self.old trace.old) (Err why)) }
+        ensures grows { OnOk result (Grows trace.old trace.new) }
+        ensures few { IfOk result (λ count. count ≤ most_lines) }
+        ensures passed { IfOk result (λ count. self.old.place.start + count ≤ self.new.place.start) }
+        ensures limit { self.new.place.limit ≡ self.old.place.limit }
+        ensures within { self.new.place.start ≤ self.new.place.limit }
+        ensures failed { IsErrOf result ReadFault.Read → ⊥ }
+        ensures taken { taken_by self.new.place ≡ taken_by self.old.place }
+        ensures most { taken_by self.new.place ≤ self.new.place.limit + bytes_past_limit }
+    {
+        let number = self.lines.number();
+        let bytes = self.lines.ahead();
+        let (header, cut) = (&mut self.header, &mut self.cut);
+        let (count, len) = read_whole(header, cut, trace, number, bytes, most_lines)?;
+        self.lines.pass_lines(u64::from(count), len);
+        Ok(count)
+    }
+
+    /// Reads at least one line and at most so many, if there is one, and returns how many: those of an access that the shortcut has ready count as one.
+    /// Lines that were read ahead are read at once, until the trace has 131,072 steps.
+    #[inline(always)]
+    fn next_lines<R: Read, S: Shortcut<R>>(
+        &mut self,
+        reader: &mut Device<R>,
+        shortcut: &S,
+        trace: &mut Trace,
+        numbers: &mut KnownNumbers,
+        most_lines: u32,
+    ) -> Result<u32, ReadFault>
+        requires open { has_failed reader.old ≡ false }
+        requires some { 1 ≤ most_lines }
+        requires right { AreRight (S.names_of (inner_of reader.old)) trace.old.names numbers.old }
+        ensures right { OnOk result (AreRight (S.names_of (inner_of reader.new)) trace.new.names numbers.new) }
+        ensures turn { IfOk result (λ count. 0 < count → Turns self.old.place.limit read_content (lines_left self.old.place (R.remaining (inner_of reader.old)))
+            (lines_left self.new.place (R.remaining (inner_of reader.new))) (progress self.old trace.old) (progress self.new trace.new) (Ok true)) }
+        ensures last { IfOk result (λ count. count ≡ 0 → Turns self.old.place.limit read_content (lines_left self.old.place (R.remaining (inner_of reader.old)))
+            (lines_left self.new.place (R.remaining (inner_of reader.new))) (progress self.old trace.old) (progress self.new trace.new) (Ok false)) }
+        ensures fault { IfErr result (λ why. Turns self.old.place.limit read_content (lines_left self.old.place (R.remaining (inner_of reader.old)))
+            None (progress self.old trace.old) (progress self.old trace.old) (Err why)) }
+        ensures tail { IfOk result (λ count. 0 < count → KeepsTail (lines_left self.old.place (R.remaining (inner_of reader.old))) (lines_left self.new.place (R.remaining (inner_of reader.new))) self.old.tail self.new.tail) }
+        ensures last_tail { IfOk result (λ count. count ≡ 0 → KeepsTail (lines_left self.old.place (R.remaining (inner_of reader.old))) (Some []) self.old.tail self.new.tail) }
+        ensures grows { OnOk result (Grows trace.old trace.new) }
+        ensures few { IfOk result (λ count. count ≤ most_lines) }
+        ensures passed { IfOk result (λ count. 0 < count → self.old.place.start + count ≤ self.new.place.start) }
+        ensures limit { self.new.place.limit ≡ self.old.place.limit }
+        ensures within { self.new.place.start ≤ self.new.place.limit }
+        ensures failed { HasFailedBy (has_failed reader.new) result }
+        ensures taken { taken_of reader.new + taken_by self.old.place ≤ taken_of reader.old + taken_by self.new.place }
+        ensures most { taken_by self.new.place ≤ self.new.place.limit + bytes_past_limit }
+        ensures touches { StaysKnown (S.touches (inner_of reader.old)) (S.touches (inner_of reader.new)) }
+    {
+        let count = self.read_ahead(trace, most_lines)?;
+        if count > 0 {
+            return Ok(count);
+        }
+        let more = self.next_line(reader, shortcut, trace, numbers)?;
+        Ok(u32::from(more))
+    }
+
     /// Reads at least one line and at most `most_lines`, until the trace has 131,072 steps.
     fn read_batch<R: Read, S: Shortcut<R>>(
         &mut self,
@@ -357,11 +426,14 @@ impl TraceReader {
     {
         // What is known of the place, also if no line is asked for.
         let _line = self.lines.number();
-        for _ in 0..most_lines {
-            if !self.next_line(reader, shortcut, trace, numbers)? {
+        let mut left = most_lines;
+        while left > 0 {
+            let count = self.next_lines(reader, shortcut, trace, numbers, left)?;
+            if count == 0 {
                 self.finish()?;
                 return Ok(Batch::End);
             }
+            left -= count;
             if trace.steps().len() >= BATCH_STEPS {
                 return Ok(Batch::More);
             }
@@ -427,6 +499,44 @@ impl TraceReader {
             lost: if_any_lost(self.header.comment),
         }
     }
+}
+
+// Reads the first of these whole lines, of which the first has this number, at most so many and until the trace has 131,072 steps. Returns how many, and
+// how many bytes they take. The place of a line stays in a few values of this loop, which is quicker than to note it in the reader at each line.
+#[inline(always)]
+fn read_whole(
+    header: &mut Header,
+    cut: &mut bool,
+    trace: &mut Trace,
+    number: u64,
+    bytes: &[u8],
+    most_lines: u32,
+) -> Result<(u32, usize), ReadFault>
+    requires small { number < 2 ^ 63 }
+    ensures on { (limit start : ℕ) (tail : List ℕ) → start + length bytes.now ≤ limit → IfOk result (λ done. AreReadOn limit number start (bytes.now ++ tail) (number + done.0) (start + done.1) (drop done.1 bytes.now ++ tail) (at_line number header.old.stage header.old.idle trace.old) (at_line (number + done.0) header.new.stage header.new.idle trace.new)) }
+    ensures ends { (start : ℕ) (tail : List ℕ) → IfOk result (λ done. AreEndedOn number start (bytes.now ++ tail) (number + done.0) (start + done.1) (drop done.1 bytes.now ++ tail) (record { cut = cut.old; comment = header.old.comment }) (record { cut = cut.new; comment = header.new.comment })) }
+    ensures fault { (limit start : ℕ) (tail : List ℕ) (more : Option (List Placed)) (p : Progress) → start + length bytes.now ≤ limit
+        → IfErr result (λ why. Turns limit read_content (Some (placed_from number start (lines_of (bytes.now ++ tail)))) more (at_line number header.old.stage header.old.idle trace.old) p (Err why)) }
+    ensures grows { OnOk result (Grows trace.old trace.new) }
+    ensures few { IfOk result (λ done. done.0 ≤ most_lines) }
+    ensures passed { IfOk result (λ done. done.0 ≤ done.1) }
+    ensures within { IfOk result (λ done. done.1 ≤ length bytes.now) }
+    ensures failed { IsErrOf result ReadFault.Read → ⊥ }
+{
+    let mut at = 0;
+    let mut count = 0;
+    while count < most_lines && at < bytes.len() && trace.steps().len() < BATCH_STEPS {
+        let rest = &bytes[at..];
+        let len = line_len(rest);
+        if len > LINE || len >= rest.len() {
+            break;
+        }
+        header.read_plain(trace, number + u64::from(count), &rest[..len])?;
+        *cut = false;
+        at += len + 1;
+        count += 1;
+    }
+    Ok((count, at))
 }
 
 // Reads a text to its end, in whatever pieces it comes, into an empty trace. Split for the prover.

@@ -10,8 +10,8 @@ use Rattle.er_text.specs.Inner.Numbers.{AreRight}
 use Rattle.er_text.specs.Inner.Traces.{progress, read_content}
 use Rattle.er_text.proofs.reading.TraceReader.read_batch.Given as goal
 
-abbrev pub invariant-loop : goal.invariant-loop
-invariant-loop g l = record {
+abbrev pub invariant-loop-left : goal.invariant-loop-left
+invariant-loop-left g l = record {
   goes_on : Continues l.fn.self.place.limit read_content (lines_left l.fn.self.place (g.R.Read.remaining (inner_of l.fn.reader))) (lines_left l.self.place (g.R.Read.remaining (inner_of l.reader)))
       (progress l.fn.self l.fn.trace) (progress l.self l.trace);
   tail : KeepsTail (lines_left l.fn.self.place (g.R.Read.remaining (inner_of l.fn.reader))) (lines_left l.self.place (g.R.Read.remaining (inner_of l.reader))) l.fn.self.tail l.self.tail;
@@ -23,5 +23,9 @@ invariant-loop g l = record {
   working : has_failed l.reader ≡ false;
   taken : taken_of l.reader + taken_by l.fn.self.place ≤ taken_of l.fn.reader + taken_by l.self.place;
   touches : StaysKnown (g.S.Shortcut.touches (inner_of l.fn.reader)) (g.S.Shortcut.touches (inner_of l.reader));
-  passed : l.fn.self.place.start + l.counter ≤ l.self.place.start;
+  few : l.left ≤ l.most_lines;
+  passed : l.fn.self.place.start + l.most_lines ≤ l.self.place.start + l.left;
 }
+
+abbrev pub decreases-loop-left : goal.decreases-loop-left
+decreases-loop-left g l = l.left
