@@ -49,8 +49,9 @@ impl Config {
         }
     }
 
-    /// The same with seats that draw up to so many tickets at once, or none if that is out of its limits. Threads at shards of their own then seldom
-    /// wait for the counter.
+    /// The same with seats that draw up to so many tickets at once, or none if that is out of its limits. A seat draws 1, 2, 4 .. and then so many,
+    /// each time that it has used up what it drew, and 1 again if it had to throw some away (`Seat::next_ticket`). Threads at shards of their own then
+    /// seldom wait for the counter.
     pub fn drawing(mut self, most: u32) -> Option<Config>
         ensures some { IsSome result ↔ IsLimit most }
         ensures value { IfSome result (λ config. (config.name ≡ self.name) × ((config.shards ≡ self.shards) × ((config.journal_limit ≡ self.journal_limit) × ((config.max_threads ≡ self.max_threads) × (config.most_drawn ≡ most))))) }

@@ -12,8 +12,10 @@ ghost use Rattle.er_journal.specs.Merges.{IsLegalSeat};
 ghost use Rattle.er_shadow.specs.Shadows.{needs_set};
 ghost use Rattle.er_shard.specs.Journaled.{entry_of, with_entry};
 ghost use Rattle.er_settle.specs.Seats.{AreTicketed};
+ghost use Rattle.er_seat.specs.Drawn.{EachDraw};
 ghost use Rattle.er_seat.specs.Seats.{holdings_of, access_stamp, with_call, done, ignored, ticketed, calls_to_unwind, IsAfter};
 
+use crate::drawn::DrawnTickets;
 use er_event::{
     Event, Kind, Level, LockId, Lockset, Mode, NoRoom, PageRange, Refusal, Reply, Site, ThreadId,
     Word,
@@ -24,7 +26,6 @@ use er_shard::ShardIn;
 use er_table::{Grow, Store};
 use std::alloc::{AllocError, Global};
 use std::marker::Model;
-use std::ops::Range;
 
 /// A seat that no thread has taken: a detector's name, with room for the first call. Contracts see the name.
 #[derive(Drop)]
@@ -66,8 +67,10 @@ impl VacantSeat {
             held: Held::new(alloc),
             recent: None,
             stamped: 0,
-            left: 0..0,
-            ahead: 1,
+            tickets: DrawnTickets {
+                left: 0..0,
+                ahead: 1,
+            },
             calls,
             alloc,
         }
@@ -84,9 +87,7 @@ pub struct Seat {
     // The locks that the last stamp had, and how many calls there were then. If no call came since, the thread holds just these.
     recent: Option<HeldLocks>,
     stamped: usize,
-    // The tickets that were drawn and not used, and how many are drawn next if these are used up.
-    left: Range<u64>,
-    ahead: u64,
+    tickets: DrawnTickets,
     calls: Vec<Call>,
     alloc: Global,
 }
@@ -162,7 +163,9 @@ impl Seat {
     }
 
     /// A ticket for the shard with this journal: the next of those that the seat drew, if one is left and it is greater than the journal's last. If not, the
-    /// first of those that `draw` draws now: twice as many as the last time if none was left, at most `most`, and else one.
+    /// first of those that `draw` draws now, at most `most`: one at first, twice as many as the last time if these are used up, and one if some are left,
+    /// which are thrown away. The clauses of `DrawnTickets::next` say this. Contracts of a seat don't show what it has left: a refused call uses up a
+    /// ticket, and still leaves the seat as it was.
     pub fn next_ticket<F: FnOnce(u64) -> u64>(
         &mut self,
         journal: &[Entry],
@@ -173,19 +176,9 @@ impl Seat {
         requires callable { F.IsAlwaysCallable draw }
         ensures same { self.new ≡ self.old }
         ensures ticket { ((count : ℕ) × ((1 ≤ count) × ((count ≤ most) × F.post draw count result))) ⊎ IsAfter journal.now result }
+        ensures after { EachDraw (F.post draw) most (IsAfter journal.now) → IsAfter journal.now result }
     {
-        let count = match journal.last() {
-            _ if self.left.is_empty() => self.ahead.clamp(1, most),
-            Some(last) if self.left.start <= last.ticket() => 1,
-            _ => {
-                self.left.start += 1;
-                return self.left.start - 1;
-            }
-        };
-        let first = draw(count);
-        self.left = first.saturating_add(1)..first.saturating_add(count);
-        self.ahead = count.saturating_mul(2);
-        first
+        self.tickets.next(journal, most, draw)
     }
 
     /// Takes a lock that is held in neither mode. Refused if it is a level's lock (`LevelLock`), if it is held (`AlreadyHeld`), if 64 locks were
