@@ -10,7 +10,7 @@ AreAbove tickets last = (ticket : ℕ) → tickets.left.start ≤ ticket → tic
 abbrev pub without_first : DrawnTickets → DrawnTickets
 without_first tickets = record { left = record { start = tickets.left.start + 1; end = tickets.left.end }; ahead = tickets.ahead }
 
--- of so many tickets from this one on, the others, and twice as many to come; no number is greater than the greatest of 64 bits
+-- of so many tickets from this one on, the others below 2^64 - 1, and twice as many to come, or 2^64 - 1
 abbrev pub others_of : ℕ → ℕ → DrawnTickets
 others_of count first = record { left = record { start = min (first + 1) (2 ^ 64 - 1); end = min (first + count) (2 ^ 64 - 1) }; ahead = min (count * 2) (2 ^ 64 - 1) }
 

@@ -19,7 +19,7 @@ pub(crate) struct DrawnTickets {
 
 impl DrawnTickets {
     /// A ticket for the shard with this journal: the next one that is left if it is greater than the journal's last, and else the first of those that
-    /// `draw` draws now. Then the others of these are left, and what was left before is thrown away.
+    /// `draw` draws now. Then the others of these below 2^64 - 1 are left, and what was left before is thrown away.
     pub(crate) fn next<F: FnOnce(u64) -> u64>(
         &mut self,
         journal: &[Entry],
