@@ -15,6 +15,7 @@ use Rattle.er_event.specs.declared.steps.Sync.{Sync as SyncEvent}
 use Rattle.er_event.specs.declared.steps.Sync.TheVariants.{Start, Join, Signal, Await}
 use Rattle.er_event.specs.declared.steps.Step.{Step}
 use Rattle.er_journal.specs.declared.answers.Stopped.{Stopped}
+use Rattle.er_reading.proofs.NamedLemmas.{all-known, all-named}
 use Rattle.er_replay.specs.Standing.{Replayed, Stands}
 use Rattle.er_report.proofs.GrowthLemmas.{reported-on}
 use Rattle.er_report.specs.Builder.{Built, IsReported, GoesOn}
@@ -28,42 +29,6 @@ use Rattle.er_text.specs.declared.reading.Batch.TheVariants.{More, End}
 use Rattle.er_text.specs.Named.{KeepsNumbers, KeepsNames}
 use Rattle.er_trace.specs.Names.{NameTable}
 use Rattle.er_trace.specs.Trace.{Recording, IsNamed, HasSiteName, HasNames, HasOrderNames, without_steps}
-
--- numbers that have names still have them
-still : (old new : List (List ℕ)) (n : ℕ) → KeepsNumbers old new → n < length old → n < length new
-still old new n kept within =
-    slice_get_within new n (get_or old n []) (kept n (get_or old n []) (slice_get-get_or old n [] within))
-
-still-site : (old new : List (List ℕ)) (n : ℕ) → KeepsNumbers old new → n ≤ length old → n ≤ length new
-still-site old new zero kept within = omega arith
-still-site old new (suc n) kept within = (let there : n < length new = still old new n kept (omega arith) in omega arith)
-
-order-named : (old new : NameTable) → KeepsNames old new → (sync : SyncEvent) → HasOrderNames old sync → HasOrderNames new sync
-order-named old new kept (Start thread) named = still old.threads new.threads thread kept.threads named
-order-named old new kept (Join thread) named = still old.threads new.threads thread kept.threads named
-order-named old new kept (Signal object) named = still old.locks new.locks object kept.locks named
-order-named old new kept (Await object) named = still old.locks new.locks object kept.locks named
-
-event-named : (old new : NameTable) → KeepsNames old new → (event : Event) → HasNames old event → HasNames new event
-event-named old new kept (Acquire l m) named = still old.locks new.locks l kept.locks named
-event-named old new kept (Release l m) named = still old.locks new.locks l kept.locks named
-event-named old new kept (Access kind word site) named = still-site old.sites new.sites site kept.sites named
-event-named old new kept (Reuse range) named = tt
-event-named old new kept IgnoreOn named = tt
-event-named old new kept IgnoreOff named = tt
-event-named old new kept (Show w) named = tt
-event-named old new kept (Level n) named = tt
-event-named old new kept (Sync sync) named = order-named old new kept sync named
-
-step-named : (old new : NameTable) → KeepsNames old new → (step : Step) → IsNamed old step → IsNamed new step
-step-named old new kept step named =
-    record { thread = still old.threads new.threads step.thread kept.threads named.thread; event = event-named old new kept step.event named.event }
-
-pub all-named : (old new : NameTable) → KeepsNames old new → (steps : List Step) → All (IsNamed old) steps → All (IsNamed new) steps
-all-named old new kept steps all = λ k x within. step-named old new kept _ (all k x within)
-
-pub all-known : (old new : NameTable) → KeepsNames old new → (sites : List ℕ) → All (HasSiteName old) sites → All (HasSiteName new) sites
-all-known old new kept sites all = λ k x within. still-site old.sites new.sites _ kept.sites (all k x within)
 
 -- the line or the site of a step in a batch
 pub number-behind : (lines more : List ℕ) (n k : ℕ) → length lines ≡ n → slice_index more k ≡ slice_index (lines ++ more) (n + k)

@@ -1,13 +1,12 @@
 -- Workers go on with each batch, and its items say what is to be said of each of its steps.
-use Rattle.std.proofs.Common.{◌≡◌, ◌⊎◌, ◌<◌, ◌≤◌, ◌+◌, ◌-◌, ◌==◌, ℕ, suc, add-one, nat_lt, Bool, true, false, cond, List, [], ◌++◌, length, length-append, slice_get, slice_index, get_or, None, Some, Result, Ok, Err, IfOk, IfErr, OnOk, is_some, refl, sym, ap, subst, ◌∙◌, inl, inr, arith}
-use Rattle.std.specs.Prelude.{MatchResult}
+use Rattle.std.proofs.Common.{◌≡◌, ◌⊎◌, ◌<◌, ◌≤◌, ◌+◌, ◌-◌, ◌==◌, ℕ, suc, add-one, nat_lt, Bool, true, false, cond, List, [], ◌∷◌, ◌++◌, append-nil, append_assoc, length, length-append, slice_get, slice_index, get_or, map, None, Some, Result, Ok, Err, IfErr, IsErrAnd, OnOk, Vec, Global, is_some, refl, sym, ap, subst, ◌∙◌, inl, inr, arith}
 use Rattle.std.proofs.lemmas.Bool.{cases_lt, eqb-true}
-use Rattle.std.proofs.lemmas.List.Elements.{All-nil}
+use Rattle.std.proofs.lemmas.List.{map-append}
 use Rattle.std.proofs.lemmas.Option.{slice_get_cases, slice_get_within}
 use Rattle.er_batch.proofs.BatchLemmas.{goes-on, grown}
 use Rattle.er_batch.specs.Analysts.{Asked, CrewRan, HasCrewRun, IsCrewReady}
-use Rattle.er_batch.specs.Inner.Items.{AreItems, Holds, IsNext, is_reuse}
-use Rattle.er_batch.specs.Runs.{IsWellFormed, recorded}
+use Rattle.er_batch.specs.Inner.Items.{AreItems, AreListItems, HaveTaken, Holds, IsNext, is_reuse}
+use Rattle.er_batch.specs.Runs.{IsWellFormed, all_of, recorded}
 use Rattle.er_event.proofs.Lists.{get_behind, get_still}
 use Rattle.er_event.specs.declared.steps.Event.{Event}
 use Rattle.er_event.specs.declared.steps.Event.TheVariants.{Acquire, Release, Access, Reuse, IgnoreOn, IgnoreOff, Show, Level, Sync}
@@ -31,14 +30,16 @@ use Rattle.er_parallel.specs.Usual.{usual}
 use Rattle.er_parallel.specs.declared.config.ReplayFault.{ReplayFault}
 use Rattle.er_parallel.specs.declared.config.ReplayFault.TheVariants as replaying
 use Rattle.er_parallel.specs.declared.worker.Unusual.{Unusual}
-use Rattle.er_replay.specs.Standing.{Replayed, Stands, holding}
+use Rattle.er_reading.specs.Chunks.{step_lists}
+use Rattle.er_reading.specs.declared.chunks.Chunk.{Chunk}
+use Rattle.er_replay.specs.Standing.{Replayed, holding}
 use Rattle.er_replay.specs.Wants.{asks_by}
 use Rattle.er_report.proofs.GrowthLemmas.{reported-on}
 use Rattle.er_report.specs.Builder.{ArePlain, Built, IsReported, IsStepAt, KeepStates, KeepsState, is_plain}
 use Rattle.er_text.specs.Batches.{joined}
 use Rattle.er_text.specs.Named.{KeepsNames}
 use Rattle.er_trace.specs.Names.{NameTable}
-use Rattle.er_trace.specs.Trace.{Recording, IsNamed, HasSiteName, no_steps}
+use Rattle.er_trace.specs.Trace.{Recording}
 
 -- the usual answer is no race
 usual-quiet : (event : Event) → is_race (usual event) ≡ false
@@ -230,17 +231,56 @@ holds-next wanted before after steps n step here goes holds is t =
     ∙ sym (holdings-step steps n step t here)
     ∙ ap (holdings_at steps t) (sym (add-one n))
 
--- workers that can't be started
-pub start-may : (why : ReplayFault) → (why ≡ replaying.Memory) ⊎ (why ≡ replaying.WorkerNotStarted) → MayFail [] why
-start-may why (inl is) = rw is tt
-start-may why (inr is) = rw is tt
+-- the workers have answered a list of steps in front of others
+pub taken-next : (noting : Bool) (past batch : List Step) (more : List (List Step)) (crew : Crewed) (old new : List (List Unusual)) (items : List Unusual) → AreItems noting past batch items
+    → HaveTaken noting (past ++ batch) more crew (old ++ items ∷ []) new → HaveTaken noting past (batch ∷ more) crew old new
+taken-next noting past batch more crew old new items are taken = record {
+  goes_on = subst (HaveAnswered crew) (append_assoc past batch (all_of more)) taken.goes_on;
+  found = items ∷ taken.found;
+  new_is = taken.new_is ∙ append_assoc old (items ∷ []) taken.found;
+  are = (are, taken.are);
+}
+
+-- a fault in the first list of steps, or in the others
+pub may-first : (past batch : List Step) (more : List (List Step)) (why : ReplayFault) → MayFail (past ++ batch) why → MayFail (past ++ all_of (batch ∷ more)) why
+may-first past batch more why may = subst (λ (steps : List Step). MayFail steps why) (append_assoc past batch (all_of more)) (may-front (past ++ batch) (all_of more) why may)
+
+pub may-later : (past batch : List Step) (more : List (List Step)) (why : ReplayFault) → MayFail ((past ++ batch) ++ all_of more) why → MayFail (past ++ all_of (batch ∷ more)) why
+may-later past batch more why may = subst (λ (steps : List Step). MayFail steps why) (append_assoc past batch (all_of more)) may
+
+-- the same of chunks, of which the first was answered by these items, and then the others
+abbrev items_of : Vec Unusual Global → List Unusual
+items_of items = items.items
+
+pub taken-first : {E : Type 0} (result : Result (Unit {0}) E) (noting : Bool) (past : List Step) (chunks : List Chunk) (first : Chunk) (others : List Chunk) (crew : Crewed) (old middle new : List (Vec Unusual Global)) (items : Vec Unusual Global)
+    → chunks ≡ first ∷ others → middle ≡ old ++ items ∷ [] → AreItems noting past first.steps.items items.items
+    → OnOk result (HaveTaken noting (past ++ first.steps.items) (step_lists others) crew (map items_of middle) (map items_of new))
+    → OnOk result (HaveTaken noting past (step_lists chunks) crew (map items_of old) (map items_of new))
+taken-first (Ok done) noting past chunks first others crew old middle new items front behind are taken =
+    rw front (taken-next noting past first.steps.items (step_lists others) crew (map items_of old) (map items_of new) items.items are
+    (subst (λ (xs : List (List Unusual)). HaveTaken noting (past ++ first.steps.items) (step_lists others) crew xs (map items_of new))
+    (ap (map items_of) behind ∙ map-append items_of old (items ∷ [])) taken))
+taken-first (Err why) noting past chunks first others crew old middle new items front behind are taken = tt
+
+pub fault-first : {T : Type 0} (result : Result T ReplayFault) (past : List Step) (chunks : List Chunk) (first : Chunk) (others : List Chunk) (why : ReplayFault)
+    → chunks ≡ first ∷ others → MayFail (past ++ first.steps.items) why → IsErrAnd result (λ fault. fault ≡ why) → IfErr result (λ fault. MayFail (past ++ all_of (step_lists chunks)) fault)
+fault-first (Ok x) past chunks first others why front may is = tt
+fault-first (Err fault) past chunks first others why front may is = rw (front, is) (may-first past first.steps.items (step_lists others) why may)
+
+pub fault-later : {T : Type 0} (result : Result T ReplayFault) (past : List Step) (chunks : List Chunk) (first : Chunk) (others : List Chunk)
+    → chunks ≡ first ∷ others → IfErr result (λ why. MayFail ((past ++ first.steps.items) ++ all_of (step_lists others)) why) → IfErr result (λ why. MayFail (past ++ all_of (step_lists chunks)) why)
+fault-later (Ok x) past chunks first others front may = tt
+fault-later (Err why) past chunks first others front may = rw front (may-later past first.steps.items (step_lists others) why may)
 
 -- workers that stand for a recording and get ready for more steps
-module _ (old : CrewRan) (asked : Asked) (r : Recording) (steps : List Step) (run : HasCrewRun old asked r) where
-  -- those that have stopped stay so
-  pub ready-stopped : (why : ReplayFault) → old.crew ≡ Err why → IsCrewReady old asked r steps
+module _ (old : CrewRan) (asked : Asked) (r : Recording) (lists : List (List Step)) (run : HasCrewRun old asked r) where
+  -- those that have stopped have a fault of the recording's steps, and stay so
+  pub stopped-may : (why : ReplayFault) → old.crew ≡ Err why → MayFail r.steps why
+  stopped-may why is = subst (λ (steps : List Step). MayFail steps why) (append-nil r.steps) (rw is at run.answered)
+
+  pub ready-stopped : (why : ReplayFault) → old.crew ≡ Err why → IsCrewReady old asked r lists
   ready-stopped why is = record {
-    answered = rw is (may-front r.steps steps why (rw is at run.answered));
+    answered = rw is (may-front r.steps (all_of lists) why (stopped-may why is));
     rules = run.rules;
     explain = run.explain;
     formed = run.formed;
@@ -248,24 +288,26 @@ module _ (old : CrewRan) (asked : Asked) (r : Recording) (steps : List Step) (ru
 
   -- others have answered what is past
   pub answered : (crew : Crewed) → old.crew ≡ Ok crew → HaveAnswered crew r.steps
-  answered crew is = (rw is at run.answered).0
+  answered crew is = subst (HaveAnswered crew) (append-nil r.steps) (rw is at run.answered).0
 
   -- and go on to the end of the steps, or stop in them
-  pub ready-on : (crew before : Crewed) → old.crew ≡ Ok before → (items : List Unusual) → HaveAnswered crew (r.steps ++ steps) → AreItems (is_some old.builder.kept) r.steps steps items
-      → IsCrewReady (record { holder = old.holder; crew = Ok crew; items = items; builder = old.builder }) asked r steps
-  ready-on crew before is items on are = record {
-    answered = (on, (rw is at run.answered).1, are, (rw is at run.answered).2);
+  pub ready-on : (crew before : Crewed) → old.crew ≡ Ok before → (items : List (List Unusual)) → HaveTaken (is_some old.builder.kept) r.steps lists crew [] items
+      → IsCrewReady (record { holder = old.holder; crew = Ok crew; items = items; builder = old.builder }) asked r lists
+  ready-on crew before is items taken = record {
+    answered = (
+      taken.goes_on,
+      (rw is at run.answered).1,
+      subst (AreListItems (is_some old.builder.kept) r.steps lists) (sym taken.new_is) taken.are,
+      (rw is at run.answered).3,
+    );
     rules = run.rules;
     explain = run.explain;
     formed = run.formed;
   }
 
-  pub ready-fault : (why : ReplayFault) (items : List Unusual) → MayFail (r.steps ++ steps) why → IsCrewReady (record { holder = old.holder; crew = Err why; items = items; builder = old.builder }) asked r steps
-  ready-fault why items may = record { answered = may; rules = run.rules; explain = run.explain; formed = run.formed }
-
--- the steps of a batch behind those that are past, which they are ready for
-module _ (past : List Step) (lines sites : List ℕ) (names : NameTable) (trace : Recording) (kept : KeepsNames names trace.names) (fits : IsWellFormed trace)
-    (old : CrewRan) (asked : Asked) (run : IsCrewReady old asked (recorded past lines sites names) trace.steps) where
+-- the steps of a batch behind those that are past, which they are ready for, as for more behind it
+module _ (past : List Step) (lines sites : List ℕ) (names : NameTable) (trace : Recording) (more : List (List Step)) (kept : KeepsNames names trace.names) (fits : IsWellFormed trace)
+    (old : CrewRan) (asked : Asked) (run : IsCrewReady old asked (recorded past lines sites names) (trace.steps ∷ more)) where
   abbrev after : Recording
   after = joined past lines sites trace
 
@@ -273,12 +315,25 @@ module _ (past : List Step) (lines sites : List ℕ) (names : NameTable) (trace 
   formed = grown past lines sites names trace kept run.formed fits
 
   -- workers that have stopped stay so
-  pub stays : (why : ReplayFault) → old.crew ≡ Err why → HasCrewRun old asked after
-  stays why is = record { answered = rw is (rw is at run.answered); rules = run.rules; explain = run.explain; formed = formed }
+  pub stays : (why : ReplayFault) → old.crew ≡ Err why → IsCrewReady old asked after more
+  stays why is = record {
+    answered = rw is (subst (λ (steps : List Step). MayFail steps why) (sym (append_assoc past trace.steps (all_of more))) (rw is at run.answered));
+    rules = run.rules;
+    explain = run.explain;
+    formed = formed;
+  }
 
-  -- others have the items of the batch, and the report is that of what is past
-  pub items-of : (crew : Crewed) → old.crew ≡ Ok crew → AreItems (is_some old.builder.kept) past trace.steps old.items
-  items-of crew is = (rw is at run.answered).2
+  -- others have the items of the batch and of the lists behind it, and the report is that of what is past
+  pub all-items : (crew : Crewed) → old.crew ≡ Ok crew → AreListItems (is_some old.builder.kept) past (trace.steps ∷ more) old.items
+  all-items crew is = (rw is at run.answered).2
+
+  pub items-of : (crew : Crewed) → old.crew ≡ Ok crew → (items : List Unusual) (others : List (List Unusual)) → old.items ≡ items ∷ others
+      → AreItems (is_some old.builder.kept) past trace.steps items
+  items-of crew is items others first = (subst (AreListItems (is_some old.builder.kept) past (trace.steps ∷ more)) first (all-items crew is)).0
+
+  other-items : (crew : Crewed) → old.crew ≡ Ok crew → (items : List Unusual) (others : List (List Unusual)) → old.items ≡ items ∷ others
+      → AreListItems (is_some old.builder.kept) (past ++ trace.steps) more others
+  other-items crew is items others first = (subst (AreListItems (is_some old.builder.kept) past (trace.steps ∷ more)) first (all-items crew is)).1
 
   pub reported : (crew : Crewed) → old.crew ≡ Ok crew → IsReported old.builder after (length past)
   reported crew is = reported-on old.builder _ after (length past) (goes-on past lines sites names trace kept run.formed) (omega arith) (rw is at run.answered).1
@@ -287,35 +342,21 @@ module _ (past : List Step) (lines sites : List ℕ) (names : NameTable) (trace 
   pub holds : (crew : Crewed) → old.crew ≡ Ok crew → Holds (is_some old.builder.kept) old.holder (past ++ trace.steps) (length past)
   holds crew is wanted t = (rw is at run.answered).3 wanted t ∙ sym (holdings-front past trace.steps t (length past) (omega arith))
 
-  pub goes : (crew : Crewed) → old.crew ≡ Ok crew → (added : Built) (holder : Replayed) → added.rules ≡ old.builder.rules → is_some added.kept ≡ is_some old.builder.kept
+  pub goes : (crew : Crewed) → old.crew ≡ Ok crew → (items : List Unusual) (others : List (List Unusual)) → old.items ≡ items ∷ others
+      → (added : Built) (holder : Replayed) → added.rules ≡ old.builder.rules → is_some added.kept ≡ is_some old.builder.kept
       → IsReported added after (length past + length trace.steps) → Holds (is_some old.builder.kept) holder (past ++ trace.steps) (length past + length trace.steps)
-      → HasCrewRun (record { holder = holder; crew = old.crew; items = old.items; builder = added }) asked after
-  goes crew is added holder rules explains reported holds = record {
+      → IsCrewReady (record { holder = holder; crew = old.crew; items = others; builder = added }) asked after more
+  goes crew is items others first added holder rules explains reported holds = record {
     answered = rw is (
-      (rw is at run.answered).0,
+      subst (HaveAnswered crew) (sym (append_assoc past trace.steps (all_of more))) (rw is at run.answered).0,
       subst (IsReported added after) (sym (length-append past trace.steps)) reported,
+      subst (λ (noting : Bool). AreListItems noting (past ++ trace.steps) more others) (sym explains) (other-items crew is items others first),
       subst (λ (n : ℕ). Holds (is_some added.kept) holder (past ++ trace.steps) n) (sym (length-append past trace.steps)) (λ wanted. holds (sym explains ∙ wanted)),
     );
     rules = rules ∙ run.rules;
     explain = explains ∙ run.explain;
     formed = formed;
   }
-
--- before any step
-pub begun : (holder : Replayed) (crew : Result Crewed ReplayFault) (items : List Unusual) (builder : Built) (asked : Asked) → Stands holder [] → IfOk crew (λ crew. HaveAnswered crew [])
-    → IfErr crew (λ why. (why ≡ replaying.Memory) ⊎ (why ≡ replaying.WorkerNotStarted))
-    → ((r : Recording) → IsReported builder r 0) → builder.rules ≡ asked.rules → is_some builder.kept ≡ asked.explain → HasCrewRun (record { holder = holder; crew = crew; items = items; builder = builder }) asked no_steps
-begun holder crew items builder asked nothing none fault built rules explain = record {
-  answered = by crew none fault;
-  rules = rules;
-  explain = explain;
-  formed = record { named = All-nil (IsNamed no_steps.names); long = refl; known = All-nil (HasSiteName no_steps.names); one_each = refl };
-}
-  where
-    by : (o : Result Crewed ReplayFault) → IfOk o (λ crew. HaveAnswered crew []) → IfErr o (λ why. (why ≡ replaying.Memory) ⊎ (why ≡ replaying.WorkerNotStarted))
-        → MatchResult o (λ crew. HaveAnswered crew [] × IsReported builder no_steps 0 × Holds (is_some builder.kept) holder [] 0) (λ why. MayFail [] why)
-    by (Ok crew) none fault = (none, built no_steps, λ _. nothing.0)
-    by (Err why) none fault = start-may why fault
 
 -- what holds of a batch that was added
 pub on-done : (X E : Type 0) (result : Result X E) (P Q S U T : Type 0) → OnOk result P → OnOk result Q → OnOk result S → OnOk result U → (P → Q → S → U → T) → OnOk result T

@@ -1,7 +1,7 @@
 -- What an analyst is asked for, and what a pass over a text comes to.
-use Rattle.std.specs.Prelude.{◌≡◌, ◌++◌, ◌-◌, ◌^◌, ℕ, min, Bool, List, count_by, length, Option, Some, None, IfSome, is_some, Result, MatchResult}
-use Rattle.er_batch.specs.Inner.Items.{AreItems, Holds}
-use Rattle.er_batch.specs.Runs.{HasRun, IsPartOf, IsWellFormed}
+use Rattle.std.specs.Prelude.{◌≡◌, ◌++◌, ◌-◌, ◌^◌, ℕ, min, Bool, List, [], count_by, length, Option, Some, None, IfSome, is_some, Result, MatchResult}
+use Rattle.er_batch.specs.Inner.Items.{AreListItems, Holds}
+use Rattle.er_batch.specs.Runs.{HasRun, IsPartOf, IsWellFormed, all_of}
 use Rattle.er_event.specs.declared.refusals.NoRoom.{NoRoom}
 use Rattle.er_event.specs.declared.steps.Step.{Step}
 use Rattle.er_parallel.specs.Crews.{Crewed, HaveAnswered}
@@ -65,26 +65,23 @@ pub record HasRunFor (ran : Ran) (asked : Asked) (r : Recording) : Type 0 where
   pub explain : is_some ran.builder.kept ≡ asked.explain
 
 -- what several workers keep of the steps so far: a machine that has what threads hold, themselves, or why they have stopped, the unusual
--- answers to the last batch, and the report
+-- answers to each list of the last batch, and the report
 pub record CrewRan : Type 0 where
   pub holder : Replayed
   pub crew : Result Crewed ReplayFault
-  pub items : List Unusual
+  pub items : List (List Unusual)
   pub builder : Built
 
--- they have answered the recording's steps, which are in the report, or have a fault that these steps may give; if reasons are wanted, what
--- threads hold after these steps is known
-pub record HasCrewRun (ran : CrewRan) (asked : Asked) (r : Recording) : Type 0 where
-  pub answered : MatchResult ran.crew (λ crew. HaveAnswered crew r.steps × IsReported ran.builder r (length r.steps) × Holds (is_some ran.builder.kept) ran.holder r.steps (length r.steps)) (λ why. MayFail r.steps why)
+-- the recording's steps are in the report, and they have answered these lists of steps behind them too, which aren't, or have a fault that all these may
+-- give; if reasons are wanted, what threads hold after the recording's steps is known
+pub record IsCrewReady (ran : CrewRan) (asked : Asked) (r : Recording) (lists : List (List Step)) : Type 0 where
+  pub answered : MatchResult ran.crew
+      (λ crew. HaveAnswered crew (r.steps ++ all_of lists) × IsReported ran.builder r (length r.steps) × AreListItems (is_some ran.builder.kept) r.steps lists ran.items
+      × Holds (is_some ran.builder.kept) ran.holder r.steps (length r.steps)) (λ why. MayFail (r.steps ++ all_of lists) why)
   pub rules : ran.builder.rules ≡ asked.rules
   pub explain : is_some ran.builder.kept ≡ asked.explain
   pub formed : IsWellFormed r
 
--- they have answered these steps behind the recording's too, which aren't in the report, or have a fault that these may give
-pub record IsCrewReady (ran : CrewRan) (asked : Asked) (r : Recording) (steps : List Step) : Type 0 where
-  pub answered : MatchResult ran.crew
-      (λ crew. HaveAnswered crew (r.steps ++ steps) × IsReported ran.builder r (length r.steps) × AreItems (is_some ran.builder.kept) r.steps steps ran.items
-      × Holds (is_some ran.builder.kept) ran.holder r.steps (length r.steps)) (λ why. MayFail (r.steps ++ steps) why)
-  pub rules : ran.builder.rules ≡ asked.rules
-  pub explain : is_some ran.builder.kept ≡ asked.explain
-  pub formed : IsWellFormed r
+-- they have answered the recording's steps, and no others
+abbrev pub HasCrewRun : CrewRan → Asked → Recording → Type 0
+HasCrewRun ran asked r = IsCrewReady ran asked r []

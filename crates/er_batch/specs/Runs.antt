@@ -1,5 +1,5 @@
 -- A run over the steps of a trace, which has answered all of them or stopped at one that found no room.
-use Rattle.std.specs.Prelude.{◌≡◌, ℕ, ◌<◌, All, List, length, take, slice_get, Option, None, IfSome, IsSomeAnd}
+use Rattle.std.specs.Prelude.{◌≡◌, ℕ, ◌<◌, ◌++◌, ◌∷◌, [], All, List, length, take, slice_get, Option, None, IfSome, IsSomeAnd}
 use Rattle.er_event.specs.declared.refusals.NoRoom.{NoRoom}
 use Rattle.er_event.specs.declared.steps.Step.{Step}
 use Rattle.er_journal.specs.declared.answers.Stopped.{Stopped}
@@ -31,6 +31,11 @@ pub record IsRunOf (part : Option PartView) (text : List ℕ) (limit : ℕ) (rec
 -- these steps, their lines and sites, under these names
 abbrev pub recorded : List Step → List ℕ → List ℕ → NameTable → Recording
 recorded steps lines sites names = record { steps = steps; lines = lines; sites = sites; names = names }
+
+-- the steps of lists, one behind the other
+abbrev pub all_of : List (List Step) → List Step
+all_of [] = []
+all_of (steps ∷ more) = steps ++ all_of more
 
 -- each step has a line and a site, and its numbers have names
 pub record IsWellFormed (r : Recording) : Type 0 where

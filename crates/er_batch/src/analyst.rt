@@ -1,17 +1,18 @@
 //! What answers the steps of a trace.
-ghost use Rattle.std.specs.Prelude.{◌≡◌, ◌+◌, ◌<◌, ◌^◌, ℕ, Bool, List, max, OnOk};
+ghost use Rattle.std.specs.Prelude.{◌≡◌, ◌+◌, ◌<◌, ◌∷◌, ◌^◌, [], ℕ, Bool, List, max, OnOk};
 ghost use Rattle.std.specs.Thread.{IsSync};
 ghost use Rattle.er_batch.specs.Analysts.{Asked};
 ghost use Rattle.er_batch.specs.Runs.{recorded};
 ghost use Rattle.er_batch.specs.Touching.{AgreeOn};
 ghost use Rattle.er_event.specs.declared.steps.Step.{Step as Steps};
+ghost use Rattle.er_reading.specs.Chunks.{step_lists};
 ghost use Rattle.er_text.specs.Batches.{joined};
 ghost use Rattle.er_text.specs.Named.{KeepsNames};
 ghost use Rattle.er_trace.specs.Names.{NameTable};
 ghost use Rattle.er_trace.specs.Trace.{Recording};
 
-use er_event::Step;
 use er_lines::Touch;
+use er_reading::Chunk;
 use er_trace::Trace;
 use std::alloc::AllocError;
 use std::sync::Wait;
@@ -25,11 +26,8 @@ pub type Answered = Result<(), AllocError>;
 /// An analyst that can't go on keeps why, and answers no later step: the text is read to its end all the same, since a fault of the text
 /// comes first. If it starts threads or waits for others, it does so by the handle `rt`, which they share.
 pub trait Analyst {
-    /// It stands for this recording, of which it is asked this.
-    ghost stands: { Self → Asked → Recording → Type 0 };
-
-    /// It stands for this recording, and is ready for these steps behind it.
-    ghost ready: { Self → Asked → Recording → List Steps → Type 0 };
+    /// It stands for this recording, of which it is asked this, and is ready for these lists of steps behind it.
+    ghost stands: { Self → Asked → Recording → List (List Steps) → Type 0 };
 
     /// Whether it is wanted by who asks this.
     ghost wanted: { Asked → Bool };
@@ -40,20 +38,19 @@ pub trait Analyst {
     /// How many of them are races that have a line.
     ghost found: { Self → ℕ };
 
-    /// Gets ready for the steps of the next batch, as far as no names are needed for it, and calls `beside`, which may be at the same time.
+    /// Gets ready for the steps of these chunks, as far as no names are needed for it, and calls `beside`, which may be at the same time.
     fn prepare<R: Threads + Wait + Sync, B, F: FnMut() -> B>(
         &mut self,
         rt: &R,
-        steps: &[Step],
+        chunks: &[Chunk],
         beside: &mut F,
     ) -> B
         requires sync { IsSync R.row }
         requires callable { F.pre beside.old }
         ensures called { F.step beside.old result beside.new }
-        ensures ready { (asked : Asked) (r : Recording) → stands self.old asked r → ready self.new asked r steps.now };
+        ensures ready { (asked : Asked) (r : Recording) → stands self.old asked r [] → stands self.new asked r (step_lists chunks.now) };
 
-    /// Answers the steps of a batch that it is ready for, behind those of the batches before. The touches say what the accesses on the lines of the
-    /// batch touch.
+    /// Answers the first steps that it is ready for, behind those that it has answered. The touches say what the accesses on their lines touch.
     fn answer<R: Threads + Wait + Sync>(
         &mut self,
         rt: &R,
@@ -61,8 +58,9 @@ pub trait Analyst {
         touches: &[Touch],
     ) -> Answered
         requires sync { IsSync R.row }
-        ensures goes_on { (asked : Asked) (past : List Steps) (lines sites : List ℕ) (names : NameTable) → KeepsNames names trace.now.names → ready self.old asked (recorded past lines sites names) trace.now.steps
-            → AgreeOn asked.touches touches.now trace.now.lines → OnOk result (stands self.new asked (joined past lines sites trace.now)) };
+        ensures goes_on { (asked : Asked) (past : List Steps) (lines sites : List ℕ) (names : NameTable) (more : List (List Steps)) → KeepsNames names trace.now.names
+            → stands self.old asked (recorded past lines sites names) (trace.now.steps ∷ more) → AgreeOn asked.touches touches.now trace.now.lines
+            → OnOk result (stands self.new asked (joined past lines sites trace.now) more) };
 
     /// How many steps it has answered, and how many of them are races that have a line, or the greatest number that there is.
     fn counts(&self) -> (u64, u64)
@@ -82,9 +80,7 @@ pub struct Pair<A, B> {
 impl<A: Analyst, B: Analyst> Analyst for Pair<A, B> {
     ghost use Rattle.std.specs.Prelude.{◌+◌, ◌||◌, max};
 
-    ghost stands = { λ pair asked r. A.stands pair.first asked r × B.stands pair.second asked r };
-
-    ghost ready = { λ pair asked r steps. A.ready pair.first asked r steps × B.ready pair.second asked r steps };
+    ghost stands = { λ pair asked r lists. A.stands pair.first asked r lists × B.stands pair.second asked r lists };
 
     ghost wanted = { λ asked. A.wanted asked || B.wanted asked };
 
@@ -95,11 +91,11 @@ impl<A: Analyst, B: Analyst> Analyst for Pair<A, B> {
     fn prepare<R: Threads + Wait + Sync, C, F: FnMut() -> C>(
         &mut self,
         rt: &R,
-        steps: &[Step],
+        chunks: &[Chunk],
         beside: &mut F,
     ) -> C {
-        self.second.prepare(rt, steps, &mut || ());
-        self.first.prepare(rt, steps, beside)
+        self.second.prepare(rt, chunks, &mut || ());
+        self.first.prepare(rt, chunks, beside)
     }
 
     fn answer<R: Threads + Wait + Sync>(
@@ -124,9 +120,7 @@ impl<A: Analyst> Analyst for Option<A> {
     ghost use Rattle.std.specs.Option.{option_map_or};
     ghost use Rattle.er_batch.specs.Analysts.{StandsIf};
 
-    ghost stands = { λ analyst asked r. StandsIf (λ one. A.stands one asked r) (A.wanted asked) analyst };
-
-    ghost ready = { λ analyst asked r steps. StandsIf (λ one. A.ready one asked r steps) (A.wanted asked) analyst };
+    ghost stands = { λ analyst asked r lists. StandsIf (λ one. A.stands one asked r lists) (A.wanted asked) analyst };
 
     ghost wanted = { A.wanted };
 
@@ -137,11 +131,11 @@ impl<A: Analyst> Analyst for Option<A> {
     fn prepare<R: Threads + Wait + Sync, B, F: FnMut() -> B>(
         &mut self,
         rt: &R,
-        steps: &[Step],
+        chunks: &[Chunk],
         beside: &mut F,
     ) -> B {
         match self {
-            Some(analyst) => analyst.prepare(rt, steps, beside),
+            Some(analyst) => analyst.prepare(rt, chunks, beside),
             None => beside(),
         }
     }

@@ -1,12 +1,14 @@
 //! The lockset rule by several workers, as an analyst.
-ghost use Rattle.std.specs.Prelude.{◌≡◌, ◌+◌, ◌++◌, ◌<◌, ◌≤◌, ◌^◌, ℕ, List, All, IfOk, IfErr, IsTrue, MatchOption, None, OnOk, Some, is_some, length, slice_get, true, false};
+ghost use Rattle.std.specs.Prelude.{◌≡◌, ◌+◌, ◌++◌, ◌<◌, ◌≤◌, ◌^◌, ℕ, List, All, IfOk, IfErr, IsTrue, MatchOption, None, OnOk, map, Some, is_some, length, slice_get, true, false};
 ghost use Rattle.std.specs.Thread.{IsSync};
 ghost use Rattle.er_batch.specs.Analysts.{Asked, HasCrewRun};
 ghost use Rattle.er_batch.specs.Inner.Answering.{Lags};
-ghost use Rattle.er_batch.specs.Inner.Items.{AreItems, Holds, IsNext, IsTold, is_reuse};
+ghost use Rattle.er_batch.specs.Inner.Items.{AreItems, HaveTaken, Holds, IsNext, IsTold, is_reuse};
+ghost use Rattle.er_batch.specs.Runs.{all_of};
 ghost use Rattle.er_event.specs.declared.steps.Step.{Step as Steps};
-ghost use Rattle.er_parallel.specs.Crews.{AreNoted, AreUnusual, HaveAnswered, Rise};
+ghost use Rattle.er_parallel.specs.Crews.{AreUnusual, HaveAnswered, Rise};
 ghost use Rattle.er_parallel.specs.Faults.{MayFail};
+ghost use Rattle.er_reading.specs.Chunks.{step_lists};
 ghost use Rattle.er_report.specs.Builder.{IsReported};
 ghost use Rattle.er_report.specs.Names.{HasNames};
 ghost use Rattle.er_report.specs.Report.{report_of, told};
@@ -20,14 +22,19 @@ use er_event::{Event, Step};
 use er_explain::cover_in;
 use er_lines::Touch;
 use er_parallel::{Crew, OpenGate, ReplayConfig, ReplayFault, Unusual, usual_answer};
+use er_reading::Chunk;
 use er_replay::OwnMachine;
 use er_report::{Report, ReportBuilder};
 use er_rules::Suppressions;
 use er_trace::Trace;
 use std::alloc::{AllocError, Global};
+use std::collections::VecDeque;
 use std::marker::Model;
 use std::sync::Wait;
 use std::thread::{Threads, join_mut};
+
+// Whether the workers have answered steps, or why not.
+type Taken = Result<(), ReplayFault>;
 
 /// Answers steps by the lockset rule and several workers, up to a batch that these can't answer.
 #[derive(Drop)]
@@ -35,16 +42,18 @@ pub struct CrewAnalyst<'r> {
     // Takes what each step makes of its thread's holdings, and no word, if reasons are wanted.
     holder: OwnMachine,
     crew: Result<Crew, ReplayFault>,
-    items: Vec<Unusual>,
+    // Of each chunk of the last batch whose steps aren't in the report.
+    items: VecDeque<Vec<Unusual>>,
     builder: ReportBuilder<'r>,
 }
 
 impl<'r> Model for CrewAnalyst<'r> {
     ghost use Rattle.er_batch.specs.Analysts.{CrewRan};
+    ghost use Rattle.std.specs.Prelude.{map};
 
     ghost Value = { CrewRan };
 
-    ghost view = { λ a. record { holder = a.holder; crew = a.crew; items = a.items.items; builder = a.builder } };
+    ghost view = { λ a. record { holder = a.holder; crew = a.crew; items = map (λ v. v.items) a.items.items; builder = a.builder } };
 }
 
 impl<'r> CrewAnalyst<'r> {
@@ -71,7 +80,7 @@ impl<'r> CrewAnalyst<'r> {
         Ok(CrewAnalyst {
             holder,
             crew,
-            items: Vec::new(alloc),
+            items: VecDeque::new(alloc),
             builder,
         })
     }
@@ -91,12 +100,10 @@ impl<'r> CrewAnalyst<'r> {
 }
 
 impl<'r> Analyst for CrewAnalyst<'r> {
-    ghost use Rattle.er_batch.specs.Analysts.{HasCrewRun, IsCrewReady};
+    ghost use Rattle.er_batch.specs.Analysts.{IsCrewReady};
     ghost use Rattle.er_report.specs.Reports.{asks_locks};
 
-    ghost stands = { λ ran asked r. HasCrewRun ran asked r };
-
-    ghost ready = { IsCrewReady };
+    ghost stands = { IsCrewReady };
 
     ghost wanted = { λ asked. asks_locks asked.analysis };
 
@@ -107,19 +114,17 @@ impl<'r> Analyst for CrewAnalyst<'r> {
     fn prepare<R: Threads + Wait + Sync, B, F: FnMut() -> B>(
         &mut self,
         rt: &R,
-        steps: &[Step],
+        chunks: &[Chunk],
         beside: &mut F,
     ) -> B {
         let Ok(crew) = &mut self.crew else {
             return beside();
         };
         let noting = self.builder.explains();
-        let (answers, done) = take_beside(rt, crew, steps, noting, beside);
-        match answers {
-            Ok(items) => {
-                self.items = items;
-                done
-            }
+        self.items.clear();
+        let (taken, done) = take_beside(rt, crew, chunks, noting, &mut self.items, beside);
+        match taken {
+            Ok(()) => done,
             Err(why) => {
                 self.crew = Err(why);
                 done
@@ -139,7 +144,10 @@ impl<'r> Analyst for CrewAnalyst<'r> {
         let Ok(_) = &self.crew else {
             return Ok(());
         };
-        let items = self.items.as_slice();
+        let Some(items) = self.items.pop_front() else {
+            return Ok(());
+        };
+        let items = items.as_slice();
         add_items(&mut self.holder, &mut self.builder, trace, items)
     }
 
@@ -148,35 +156,32 @@ impl<'r> Analyst for CrewAnalyst<'r> {
     }
 }
 
-// The workers answer these steps while `beside` is called.
+// The workers answer the steps of these chunks while `beside` is called. What is unusual of each comes behind the items that are there.
 //
 // The thread that is started first does nothing. A system may give it the processor of the thread that starts it, and later wake that one there: so a
 // thread that answers would be interrupted, while other processors are idle.
 fn take_beside<R: Threads + Wait + Sync, B, F: FnMut() -> B>(
     rt: &R,
     crew: &mut Crew,
-    steps: &[Step],
+    chunks: &[Chunk],
     noting: bool,
+    items: &mut VecDeque<Vec<Unusual>>,
     beside: &mut F,
-) -> (Result<Vec<Unusual>, ReplayFault>, B)
+) -> (Taken, B)
     requires callable { F.pre beside.old }
     ensures called { F.step beside.old result.1 beside.new }
-    ensures goes_on { (past : List Steps) → HaveAnswered crew.old past → OnOk result.0 (HaveAnswered crew.new (past ++ steps.now)) }
-    ensures answers { (past : List Steps) → HaveAnswered crew.old past → IfOk result.0 (λ items. AreUnusual past steps.now items.items) }
-    ensures noted { (past : List Steps) → HaveAnswered crew.old past → IsTrue noting → IfOk result.0 (λ items. AreNoted past steps.now items.items) }
-    ensures fault { (past : List Steps) → HaveAnswered crew.old past → IfErr result.0 (λ why. MayFail (past ++ steps.now) why) }
+    ensures taken { (past : List Steps) → HaveAnswered crew.old past → OnOk result.0 (HaveTaken noting past (step_lists chunks.now) crew.new (map (λ v. v.items) items.old.items) (map (λ v. v.items) items.new.items)) }
+    ensures fault { (past : List Steps) → HaveAnswered crew.old past → IfErr result.0 (λ why. MayFail (past ++ all_of (step_lists chunks.now)) why) }
 {
     let (_, taken) = join_mut(
         rt,
         &mut || {},
-        &mut || -> (Result<Vec<Unusual>, ReplayFault>, B)
+        &mut || -> (Taken, B)
             requires { IsSync R.row × F.pre beside.now }
             ensures called { F.step beside.entry.now result.1 beside.exit.now }
-            ensures goes_on { (past : List Steps) → HaveAnswered crew.entry.now past → OnOk result.0 (HaveAnswered crew.exit.now (past ++ steps.entry.now)) }
-            ensures answers { (past : List Steps) → HaveAnswered crew.entry.now past → IfOk result.0 (λ items. AreUnusual past steps.entry.now items.items) }
-            ensures noted { (past : List Steps) → HaveAnswered crew.entry.now past → IsTrue noting → IfOk result.0 (λ items. AreNoted past steps.entry.now items.items) }
-            ensures fault { (past : List Steps) → HaveAnswered crew.entry.now past → IfErr result.0 (λ why. MayFail (past ++ steps.entry.now) why) }
-        { take_at_once(rt, crew, steps, noting, beside) },
+            ensures taken { (past : List Steps) → HaveAnswered crew.entry.now past → OnOk result.0 (HaveTaken noting past (step_lists chunks.entry.now) crew.exit.now (map (λ v. v.items) items.entry.now.items) (map (λ v. v.items) items.exit.now.items)) }
+            ensures fault { (past : List Steps) → HaveAnswered crew.entry.now past → IfErr result.0 (λ why. MayFail (past ++ all_of (step_lists chunks.entry.now)) why) }
+        { take_at_once(rt, crew, chunks, noting, items, beside) },
     );
     taken
 }
@@ -185,24 +190,46 @@ fn take_beside<R: Threads + Wait + Sync, B, F: FnMut() -> B>(
 fn take_at_once<R: Threads + Wait + Sync, B, F: FnMut() -> B>(
     rt: &R,
     crew: &mut Crew,
-    steps: &[Step],
+    chunks: &[Chunk],
     noting: bool,
+    items: &mut VecDeque<Vec<Unusual>>,
     beside: &mut F,
-) -> (Result<Vec<Unusual>, ReplayFault>, B)
+) -> (Taken, B)
     requires callable { F.pre beside.old }
     ensures called { F.step beside.old result.1 beside.new }
-    ensures goes_on { (past : List Steps) → HaveAnswered crew.old past → OnOk result.0 (HaveAnswered crew.new (past ++ steps.now)) }
-    ensures answers { (past : List Steps) → HaveAnswered crew.old past → IfOk result.0 (λ items. AreUnusual past steps.now items.items) }
-    ensures noted { (past : List Steps) → HaveAnswered crew.old past → IsTrue noting → IfOk result.0 (λ items. AreNoted past steps.now items.items) }
-    ensures fault { (past : List Steps) → HaveAnswered crew.old past → IfErr result.0 (λ why. MayFail (past ++ steps.now) why) }
+    ensures taken { (past : List Steps) → HaveAnswered crew.old past → OnOk result.0 (HaveTaken noting past (step_lists chunks.now) crew.new (map (λ v. v.items) items.old.items) (map (λ v. v.items) items.new.items)) }
+    ensures fault { (past : List Steps) → HaveAnswered crew.old past → IfErr result.0 (λ why. MayFail (past ++ all_of (step_lists chunks.now)) why) }
 {
     join_mut(
         rt,
-        &mut ||
+        &mut || -> Taken
             requires { IsSync R.row }
-        { crew.take(rt, steps, noting, &OpenGate) },
+            ensures taken { (past : List Steps) → HaveAnswered crew.entry.now past → OnOk result (HaveTaken noting past (step_lists chunks.entry.now) crew.exit.now (map (λ v. v.items) items.entry.now.items) (map (λ v. v.items) items.exit.now.items)) }
+            ensures fault { (past : List Steps) → HaveAnswered crew.entry.now past → IfErr result (λ why. MayFail (past ++ all_of (step_lists chunks.entry.now)) why) }
+        { take_each(rt, crew, chunks, noting, items) },
         beside,
     )
+}
+
+// The workers answer the steps of these chunks, one chunk after the other.
+fn take_each<R: Threads + Wait + Sync>(
+    rt: &R,
+    crew: &mut Crew,
+    chunks: &[Chunk],
+    noting: bool,
+    items: &mut VecDeque<Vec<Unusual>>,
+) -> Taken
+    ensures taken { (past : List Steps) → HaveAnswered crew.old past → OnOk result (HaveTaken noting past (step_lists chunks.now) crew.new (map (λ v. v.items) items.old.items) (map (λ v. v.items) items.new.items)) }
+    ensures fault { (past : List Steps) → HaveAnswered crew.old past → IfErr result (λ why. MayFail (past ++ all_of (step_lists chunks.now)) why) }
+{
+    let Some((first, others)) = chunks.split_first() else {
+        return Ok(());
+    };
+    let found = crew.take(rt, first.steps.as_slice(), noting, &OpenGate)?;
+    if items.push_back(found).is_err() {
+        return Err(ReplayFault::Memory);
+    }
+    take_each(rt, crew, others, noting, items)
 }
 
 // Adds the steps of a batch to the report, with their items' answers and otherwise the usual ones. If reasons are wanted, each access that

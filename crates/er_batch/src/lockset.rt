@@ -7,8 +7,9 @@ ghost use Rattle.er_rules.specs.Rules.{targets_of};
 ghost use Rattle.er_trace.specs.Trace.{Recording, no_steps};
 
 use crate::{Analyst, Answered, Options, answer_batch};
-use er_event::{NoRoom, Step};
+use er_event::NoRoom;
 use er_lines::Touch;
+use er_reading::Chunk;
 use er_replay::OwnMachine;
 use er_report::{Report, ReportBuilder};
 use er_rules::Suppressions;
@@ -74,9 +75,7 @@ impl<'r> Analyst for LocksetAnalyst<'r> {
     ghost use Rattle.er_batch.specs.Analysts.{HasRunFor};
     ghost use Rattle.er_report.specs.Reports.{asks_locks};
 
-    ghost stands = { λ ran asked r. HasRunFor ran asked r };
-
-    ghost ready = { λ ran asked r _. HasRunFor ran asked r };
+    ghost stands = { λ ran asked r _. HasRunFor ran asked r };
 
     ghost wanted = { λ asked. asks_locks asked.analysis };
 
@@ -87,7 +86,7 @@ impl<'r> Analyst for LocksetAnalyst<'r> {
     fn prepare<R: Threads + Wait + Sync, B, F: FnMut() -> B>(
         &mut self,
         _rt: &R,
-        _steps: &[Step],
+        _chunks: &[Chunk],
         beside: &mut F,
     ) -> B {
         beside()

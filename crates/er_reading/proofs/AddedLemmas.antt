@@ -179,27 +179,8 @@ keeps_behind names (p ∷ ps) =
       sites = λ n x e. others.sites n x (first.sites n x e);
     }
 
-pub names_grow : (t u : Recording) (ps : List ReadPiece) → u ≡ record t { names = names_behind t.names ps } → Grows t u
-names_grow t u ps is = subst (λ (r : Recording). Grows t r) (sym is) (record {
-  names = keeps_behind t.names ps;
-  more = [];
-  others = [];
-  named = [];
-  steps = sym (append-nil t.steps);
-  lines = sym (append-nil t.lines);
-  sites = sym (append-nil t.sites);
-})
-
-pub steps_grow : (t u : Recording) (steps : List Step) (lines sites : List ℕ) → u ≡ with_steps t steps lines sites → Grows t u
-steps_grow t u steps lines sites is = subst (λ (r : Recording). Grows t r) (sym is) (record {
-  names = record { threads = λ n x e. e; locks = λ n x e. e; sites = λ n x e. e };
-  more = steps;
-  others = lines;
-  named = sites;
-  steps = refl;
-  lines = refl;
-  sites = refl;
-})
+pub names_kept : (t u v : Recording) (ps : List ReadPiece) → u ≡ record t { names = names_behind t.names ps } → v.names ≡ u.names → KeepsNames t.names v.names
+names_kept t u v ps is same = subst (λ (names : NameTable). KeepsNames t.names names) (sym (same ∙ ap (λ (r : Recording). r.names) is)) (keeps_behind t.names ps)
 
 -- the first piece has as many bytes as when it was read
 entered_first : (before : ℕ) (names : NameTable) (ps qs : List ReadPiece) → AreEntered before names ps qs → first_len qs ≡ first_len ps

@@ -1,2 +1,4 @@
 pub mod PieceLemmas
+pub mod ChunkLemmas
+pub mod NamedLemmas
 pub mod AddedLemmas

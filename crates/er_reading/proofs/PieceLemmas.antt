@@ -56,8 +56,3 @@ others_in_front names old new p ps all stage idle start limit ahead = record {
   within = omega (arith, all.within, all.read.0, start, limit, length-drop p.len all.front);
   read = pieces_behind all.version names p.told.names (drop p.len all.front) ps all.read.3;
 }
-
--- what grew goes on to grow, unless a call failed
-pub grows_if : {X E : Type 0} (a b c : Recording) (result : Result X E) → Grows a b → OnOk result (Grows b c) → OnOk result (Grows a c)
-grows_if a b c (Ok x) first second = grows_on a b c first second
-grows_if a b c (Err e) first second = tt

@@ -1,14 +1,16 @@
 //! Pieces added to a trace, in their order.
-ghost use Rattle.std.specs.Prelude.{◌≡◌, ◌+◌, ◌≤◌, ◌<◌, ℕ, All, List, Option, IfOk, OnOk, length, take, true};
+ghost use Rattle.std.specs.Prelude.{◌≡◌, ◌+◌, ◌++◌, ◌≤◌, ◌<◌, ℕ, All, List, Option, IfOk, OnOk, length, take, true};
 ghost use Rattle.er_event.specs.declared.steps.Step.{Step};
+ghost use Rattle.er_reading.specs.Chunks.{AreEmpty, AreFormed, chunk_lines, chunk_sites, chunk_steps};
 ghost use Rattle.er_reading.specs.Inner.Adding.{AreEntered, AreReady, FitBehind, IsWhole, MayAllBeAdded, StandInFront, first_len, names_behind};
 ghost use Rattle.er_text.specs.Batches.{HasRead};
 ghost use Rattle.er_lines.specs.Lending.{taken_by};
 ghost use Rattle.er_lines.specs.Lines.{bytes_past_limit};
-ghost use Rattle.er_text.specs.Named.{Grows};
+ghost use Rattle.er_text.specs.Named.{KeepsNames};
 ghost use Rattle.er_text.specs.Pieces.{ReadPiece};
 ghost use Rattle.er_trace.specs.Names.{NameTable};
 
+use crate::Chunk;
 use crate::cutting::{number_pieces, read_pieces};
 use er_text::{Piece, TraceReader};
 use er_trace::Trace;
@@ -48,16 +50,23 @@ fn enter_pieces(trace: &mut Trace, before: u64, pieces: &mut [Piece]) -> Put
     enter_pieces(trace, before + lines, others)
 }
 
-/// Adds the steps of pieces that were numbered, and passes over their lines.
-fn add_numbered(lines: &mut TraceReader, trace: &mut Trace, pieces: &mut [Piece]) -> Put
+/// Adds the steps of pieces that were numbered, each to a chunk, and passes over their lines. Those for which there is no chunk are added to the trace.
+fn add_numbered(
+    lines: &mut TraceReader,
+    trace: &mut Trace,
+    pieces: &mut [Piece],
+    chunks: &mut [Chunk],
+) -> Put
     requires front { MayAllBeAdded lines.old trace.old pieces.old }
+    requires empty { AreEmpty chunks.old }
     requires within { lines.old.place.start ≤ lines.old.place.limit }
     requires most { taken_by lines.old.place ≤ lines.old.place.limit + bytes_past_limit }
     ensures told { (text : List ℕ) (steps : List Step) (numbers sites : List ℕ) (known : Option (List ℕ)) (names : NameTable) (read : List ReadPiece)
         → StandInFront names lines.old read → All IsWhole read → AreReady lines.old.place.number names read pieces.old → trace.old.names ≡ names_behind names read
         → HasRead text steps numbers sites lines.old known (record trace.old { names = names })
-        → OnOk result (HasRead text steps numbers sites lines.new known trace.new) }
-    ensures grows { OnOk result (Grows trace.old trace.new) }
+        → OnOk result (HasRead text (steps ++ chunk_steps chunks.new) (numbers ++ chunk_lines chunks.new) (sites ++ chunk_sites chunks.new) lines.new known trace.new) }
+    ensures names { OnOk result (trace.new.names ≡ trace.old.names) }
+    ensures formed { OnOk result (AreFormed trace.old.names chunks.new) }
     ensures limit { lines.new.place.limit ≡ lines.old.place.limit }
     ensures start { OnOk result (lines.old.place.start + first_len pieces.old ≤ lines.new.place.start) }
     ensures within { lines.new.place.start ≤ lines.new.place.limit }
@@ -68,25 +77,35 @@ fn add_numbered(lines: &mut TraceReader, trace: &mut Trace, pieces: &mut [Piece]
         return Ok(());
     };
     lines.add_piece(trace, first)?;
-    add_numbered(lines, trace, others)
+    match chunks.split_first_mut() {
+        Some((chunk, more)) => {
+            chunk.swap(trace);
+            add_numbered(lines, trace, others, more)
+        }
+        None => add_numbered(lines, trace, others, chunks),
+    }
 }
 
-/// Reads the whole lines that were read ahead into these pieces, by several threads, and adds what they say. Their names are added one piece after
-/// another, and steps that need other numbers get them, each piece in a thread. Says whether it came to the end of the lines: it doesn't if they are
-/// too few to be worth it, or some of them can't be read apart. Then the first piece of which not all was read is still in front.
+/// Reads the whole lines that were read ahead into these pieces, by several threads, and adds what each says to a chunk. Their names are added one piece
+/// after another, and steps that need other numbers get them, each piece in a thread. The steps of pieces for which there is no chunk are added to the trace.
+/// Says whether it came to the end of the lines: it doesn't if they are too few to be worth it, or some of them can't be read apart. Then the first piece
+/// of which not all was read is still in front.
 pub(crate) fn add_ahead<R: Threads + Sync>(
     rt: &R,
     lines: &mut TraceReader,
     trace: &mut Trace,
     pieces: &mut [Piece],
+    chunks: &mut [Chunk],
 ) -> Result<bool, AllocError>
     requires some { (1 ≤ length pieces.old) × (length pieces.old ≤ 16) }
+    requires empty { AreEmpty chunks.old }
     requires within { lines.old.place.start ≤ lines.old.place.limit }
     requires most { taken_by lines.old.place ≤ lines.old.place.limit + bytes_past_limit }
     ensures told { (text : List ℕ) (steps : List Step) (numbers sites : List ℕ) (known : Option (List ℕ))
         → HasRead text steps numbers sites lines.old known trace.old
-        → OnOk result (HasRead text steps numbers sites lines.new known trace.new) }
-    ensures grows { OnOk result (Grows trace.old trace.new) }
+        → OnOk result (HasRead text (steps ++ chunk_steps chunks.new) (numbers ++ chunk_lines chunks.new) (sites ++ chunk_sites chunks.new) lines.new known trace.new) }
+    ensures names { OnOk result (KeepsNames trace.old.names trace.new.names) }
+    ensures formed { OnOk result (AreFormed trace.new.names chunks.new) }
     ensures limit { lines.new.place.limit ≡ lines.old.place.limit }
     ensures start { OnOk result (lines.old.place.start ≤ lines.new.place.start) }
     ensures more { IfOk result (λ all. all ≡ true → lines.old.place.start < lines.new.place.start) }
@@ -108,6 +127,6 @@ pub(crate) fn add_ahead<R: Threads + Sync>(
     let (whole, _broken) = pieces.split_at_mut(count);
     enter_pieces(trace, before, whole)?;
     number_pieces(rt, whole);
-    add_numbered(lines, trace, whole)?;
+    add_numbered(lines, trace, whole, chunks)?;
     Ok(all)
 }

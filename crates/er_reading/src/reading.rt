@@ -1,18 +1,21 @@
 //! A reader of a trace by several threads, batch by batch.
-ghost use Rattle.std.specs.Prelude.{◌≡◌, ◌+◌, ◌<◌, ◌≤◌, ◌^◌, ℕ, List, [], Some, OnOk, IfOk, length, false};
+ghost use Rattle.std.specs.Prelude.{◌≡◌, ◌+◌, ◌++◌, ◌<◌, ◌≤◌, ◌^◌, ℕ, List, [], Some, OnOk, IfOk, length, false};
 ghost use Rattle.er_device.specs.Device.{inner_of, has_failed, taken_of};
 ghost use Rattle.er_event.specs.declared.steps.Step.{Step};
 ghost use Rattle.er_text.specs.Batches.{HasRead, GivesBatch};
 ghost use Rattle.er_text.specs.Ending.{KnowsEnd, IsEndingOf};
 ghost use Rattle.er_lines.specs.Lending.{taken_by};
 ghost use Rattle.er_lines.specs.Lines.{bytes_past_limit};
-ghost use Rattle.er_text.specs.Named.{Grows};
+ghost use Rattle.er_reading.specs.Chunks.{AreFormed, chunk_lines, chunk_sites, chunk_steps};
+ghost use Rattle.er_text.specs.Named.{KeepsNames};
 ghost use Rattle.er_text.specs.Places.{no_tail};
 ghost use Rattle.er_lines.specs.Faults.{HasFailedBy};
 ghost use Rattle.er_lines.specs.Touches.{StaysKnown};
-ghost use Rattle.er_trace.specs.Trace.{no_steps};
+ghost use Rattle.er_trace.specs.Trace.{no_steps, without_steps};
 
+use crate::Chunk;
 use crate::adding::add_ahead;
+use crate::chunks::clear_all;
 use er_device::Device;
 use er_lines::Shortcut;
 use er_text::{Batch, Ending, Piece, ReadFault, TraceReader};
@@ -103,9 +106,10 @@ impl PieceReader {
         })
     }
 
-    /// Reads some of the next lines, or those up to the end of the text, and adds their steps to the trace. The shortcut may have
-    /// lines ready. If it has most of them ready, one thread takes them, and none are cut into pieces. Behind lines that were cut into pieces the
-    /// next bytes are read ahead. If that read fails, so does the call.
+    /// Reads some of the next lines, or those up to the end of the text, and moves their steps into the chunks, whose own are forgotten. Each piece of lines
+    /// that are cut comes into a chunk, and all else behind them into the last one. If there are no more chunks than threads, the pieces behind are copied
+    /// into the last one too. Without chunks all steps are added to the trace. The shortcut may have lines ready. If it has most of them ready, one thread
+    /// takes them, and none are cut into pieces. Behind lines that were cut into pieces the next bytes are read ahead. If that read fails, so does the call.
     ///
     /// A text that ends without a header has a fault at its end. After a fault the reader is not to be called again: nothing is known
     /// of what it would read.
@@ -115,21 +119,26 @@ impl PieceReader {
         reader: &mut Device<D>,
         shortcut: &S,
         trace: &mut Trace,
+        chunks: &mut [Chunk],
     ) -> Result<Batch, ReadFault>
         requires { has_failed reader.old ≡ false }
 
         // Of a text that was read so far it gives more steps, or the whole trace at the end, or the first fault of the text.
         ensures told { (text : List ℕ) (steps : List Step) (lines sites : List ℕ)
             → HasRead text steps lines sites self.old (D.remaining (inner_of reader.old)) trace.old
-            → GivesBatch text steps lines sites self.new (D.remaining (inner_of reader.new)) trace.new result }
+            → GivesBatch text (steps ++ chunk_steps chunks.new) (lines ++ chunk_lines chunks.new) (sites ++ chunk_sites chunks.new) self.new (D.remaining (inner_of reader.new)) trace.new result }
+
+        ensures moved { 1 ≤ length chunks.old → OnOk result (trace.new ≡ without_steps trace.new) }
+        ensures count { length chunks.new ≡ length chunks.old }
 
         // At the end of the text it knows how the text ends.
         ensures ends { (text : List ℕ) (steps : List Step) (lines sites : List ℕ)
             → HasRead text steps lines sites self.old (D.remaining (inner_of reader.old)) trace.old
             → IfOk result (λ batch. batch ≡ Batch.End → KnowsEnd text self.new) }
 
-        // The steps that the trace had stay in front, and names keep their numbers.
-        ensures grows { OnOk result (Grows trace.old trace.new) }
+        // Names keep their numbers, and those of the chunks' steps have names.
+        ensures names { OnOk result (KeepsNames trace.old.names trace.new.names) }
+        ensures formed { OnOk result (AreFormed trace.new.names chunks.new) }
 
         ensures limit { self.new.place.limit ≡ self.old.place.limit }
 
@@ -142,6 +151,52 @@ impl PieceReader {
         ensures most { taken_by self.new.place ≤ self.new.place.limit + bytes_past_limit }
         ensures touches { StaysKnown (S.touches (inner_of reader.old)) (S.touches (inner_of reader.new)) }
     {
+        let front = chunks.len().saturating_sub(1);
+        let (pieces, rest) = chunks.split_at_mut(front);
+        let batch = self.read_batch(rt, reader, shortcut, trace, pieces)?;
+        if let Some((last, _others)) = rest.split_first_mut() {
+            last.take_all(trace);
+        }
+        Ok(batch)
+    }
+
+    // The same, but for what goes into the last chunk: that is added to the trace.
+    fn read_batch<R: Threads + Sync, D: Read, S: Shortcut<D>>(
+        &mut self,
+        rt: &R,
+        reader: &mut Device<D>,
+        shortcut: &S,
+        trace: &mut Trace,
+        chunks: &mut [Chunk],
+    ) -> Result<Batch, ReadFault>
+        requires { has_failed reader.old ≡ false }
+
+        // Of a text that was read so far it gives more steps, or the whole trace at the end, or the first fault of the text.
+        ensures told { (text : List ℕ) (steps : List Step) (lines sites : List ℕ)
+            → HasRead text steps lines sites self.old (D.remaining (inner_of reader.old)) trace.old
+            → GivesBatch text (steps ++ chunk_steps chunks.new) (lines ++ chunk_lines chunks.new) (sites ++ chunk_sites chunks.new) self.new (D.remaining (inner_of reader.new)) trace.new result }
+
+        // At the end of the text it knows how the text ends.
+        ensures ends { (text : List ℕ) (steps : List Step) (lines sites : List ℕ)
+            → HasRead text steps lines sites self.old (D.remaining (inner_of reader.old)) trace.old
+            → IfOk result (λ batch. batch ≡ Batch.End → KnowsEnd text self.new) }
+
+        // Names keep their numbers, and those of the chunks' steps have names.
+        ensures names { OnOk result (KeepsNames trace.old.names trace.new.names) }
+        ensures formed { OnOk result (AreFormed trace.new.names chunks.new) }
+
+        ensures limit { self.new.place.limit ≡ self.old.place.limit }
+
+        // A batch that isn't the last has passed over some bytes, within the limit.
+        ensures more { IfOk result (λ batch. batch ≡ Batch.More → self.old.place.start < self.new.place.start) }
+        ensures within { self.new.place.start ≤ self.new.place.limit }
+
+        ensures failed { HasFailedBy (has_failed reader.new) result }
+        ensures taken { taken_of reader.new + taken_by self.old.place ≤ taken_of reader.old + taken_by self.new.place }
+        ensures most { taken_by self.new.place ≤ self.new.place.limit + bytes_past_limit }
+        ensures touches { StaysKnown (S.touches (inner_of reader.old)) (S.touches (inner_of reader.new)) }
+    {
+        clear_all(chunks);
         let are_ready = shortcut.takes_most(reader.inner());
         if self.pieces.len() == 1 || are_ready {
             let most_lines = match (self.is_alone, are_ready) {
@@ -154,7 +209,13 @@ impl PieceReader {
         if !self.is_filled {
             self.lines.fill(reader, shortcut)?;
         }
-        let all = add_ahead(rt, &mut self.lines, trace, self.pieces.as_mut_slice())?;
+        let all = add_ahead(
+            rt,
+            &mut self.lines,
+            trace,
+            self.pieces.as_mut_slice(),
+            chunks,
+        )?;
         self.is_filled = all;
         if all {
             // By the lockset rule others still answer the last batch meanwhile, and the next call starts its threads at once.

@@ -8,8 +8,8 @@ ghost use Rattle.er_trace.specs.Trace.{no_steps};
 
 use er_batch::{Analyst, Answered};
 use er_damage::{Damage, Inspector};
-use er_event::Step;
 use er_lines::Touch;
+use er_reading::Chunk;
 use er_text::Ending;
 use er_trace::Trace;
 use std::alloc::Global;
@@ -52,9 +52,7 @@ impl Inspection {
 impl Analyst for Inspection {
     ghost use Rattle.er_run.specs.Inner.Inspected.{IsInspected};
 
-    ghost stands = { λ seen asked r. IsInspected seen.inspector asked.strict r };
-
-    ghost ready = { λ seen asked r _. IsInspected seen.inspector asked.strict r };
+    ghost stands = { λ seen asked r _. IsInspected seen.inspector asked.strict r };
 
     ghost wanted = { λ asked. asked.strict };
 
@@ -65,7 +63,7 @@ impl Analyst for Inspection {
     fn prepare<R: Threads + Wait + Sync, B, F: FnMut() -> B>(
         &mut self,
         _rt: &R,
-        _steps: &[Step],
+        _chunks: &[Chunk],
         beside: &mut F,
     ) -> B {
         beside()

@@ -19,7 +19,7 @@ use Rattle.er_explain.specs.Racing.{is_race, places_below}
 use Rattle.er_model.specs.Holdings.{holdings_end}
 use Rattle.er_order.specs.ByBytes.{Touched, answer_by_bytes, unordered_by_bytes}
 use Rattle.er_report.specs.Builder.{ArePlainBy, Built, IsBuiltBy, IsStepBy, GoesOn, is_plain, report_below_by}
-use Rattle.er_batch.proofs.BatchLemmas.{all-known, all-named}
+use Rattle.er_reading.proofs.NamedLemmas.{all-known, all-named}
 use Rattle.er_text.specs.Batches.{joined}
 use Rattle.er_text.specs.Named.{KeepsNames}
 use Rattle.er_trace.specs.Names.{NameTable}

@@ -23,6 +23,7 @@ use er_batch::{Analyst, Answered};
 use er_clock::NoTick;
 use er_event::{Event, Step};
 use er_lines::Touch;
+use er_reading::Chunk;
 use er_report::{Because, Report, ReportBuilder};
 use er_rules::Suppressions;
 use er_trace::{NameKeys, Trace};
@@ -105,9 +106,7 @@ impl<'r> Analyst for OrderAnalyst<'r> {
     ghost use Rattle.er_report.specs.Reports.{asks_order};
     ghost use Rattle.er_unordered.specs.Ordered.{HasOrdered};
 
-    ghost stands = { λ ran asked r. HasOrdered ran asked r };
-
-    ghost ready = { λ ran asked r _. HasOrdered ran asked r };
+    ghost stands = { λ ran asked r _. HasOrdered ran asked r };
 
     ghost wanted = { λ asked. asks_order asked.analysis };
 
@@ -118,7 +117,7 @@ impl<'r> Analyst for OrderAnalyst<'r> {
     fn prepare<R: Threads + Wait + Sync, B, F: FnMut() -> B>(
         &mut self,
         _rt: &R,
-        _steps: &[Step],
+        _chunks: &[Chunk],
         beside: &mut F,
     ) -> B {
         beside()

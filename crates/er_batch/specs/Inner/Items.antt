@@ -1,10 +1,11 @@
 -- The unusual answers of a batch, which go into a report with the usual ones.
-use Rattle.std.specs.Prelude.{◌≡◌, ◌<◌, ◌≤◌, ◌⊎◌, ℕ, Bool, true, false, List, slice_get, Some, IsTrue}
+use Rattle.std.specs.Prelude.{◌≡◌, ◌<◌, ◌≤◌, ◌⊎◌, ◌++◌, ◌∷◌, [], ℕ, Bool, true, false, List, slice_get, Some, IsTrue}
+use Rattle.er_batch.specs.Runs.{all_of}
 use Rattle.er_event.specs.declared.steps.Event.{Event}
 use Rattle.er_event.specs.declared.steps.Event.TheVariants.{Reuse}
 use Rattle.er_event.specs.declared.steps.Step.{Step}
 use Rattle.er_model.specs.Holdings.{holdings_at}
-use Rattle.er_parallel.specs.Crews.{AreNoted, AreUnusual}
+use Rattle.er_parallel.specs.Crews.{AreNoted, AreUnusual, Crewed, HaveAnswered}
 use Rattle.er_parallel.specs.declared.worker.Unusual.{Unusual}
 use Rattle.er_replay.specs.Standing.{Replayed, holding}
 
@@ -17,6 +18,19 @@ pub record IsNext (items : List Unusual) (next k : ℕ) : Type 0 where
 pub record AreItems (noting : Bool) (past batch : List Step) (items : List Unusual) : Type 0 where
   pub unusual : AreUnusual past batch items
   pub noted : IsTrue noting → AreNoted past batch items
+
+-- the same of each of these lists, which stand one behind the other
+abbrev pub AreListItems : Bool → List Step → List (List Step) → List (List Unusual) → Type 0
+AreListItems noting past [] all = Unit {0}
+AreListItems noting past (batch ∷ more) [] = ⊥
+AreListItems noting past (batch ∷ more) (items ∷ all) = AreItems noting past batch items × AreListItems noting (past ++ batch) more all
+
+-- the workers have answered these lists of steps behind others, and put what is unusual of each behind what was there
+pub record HaveTaken (noting : Bool) (past : List Step) (lists : List (List Step)) (crew : Crewed) (old new : List (List Unusual)) : Type 0 where
+  pub goes_on : HaveAnswered crew (past ++ all_of lists)
+  pub found : List (List Unusual)
+  pub new_is : new ≡ old ++ found
+  pub are : AreListItems noting past lists found
 
 -- if reasons are wanted, the machine has what each thread holds after the first n steps
 abbrev pub Holds : Bool → Replayed → List Step → ℕ → Type 0

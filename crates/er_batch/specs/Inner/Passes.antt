@@ -10,17 +10,21 @@ use Rattle.er_text.specs.Batches.{HasRead}
 use Rattle.er_text.specs.Places.{Reached}
 use Rattle.er_text.specs.Trace.{IsTrace}
 use Rattle.er_trace.specs.Names.{NameTable}
-use Rattle.er_trace.specs.Trace.{Recording}
+use Rattle.er_reading.specs.Chunks.{chunk_lines, chunk_sites, chunk_steps}
+use Rattle.er_reading.specs.declared.chunks.Chunk.{Chunk}
+use Rattle.er_trace.specs.Trace.{Recording, without_steps}
 
--- between two batches: some steps were read and forgotten, and this stands for them; the steps of the last batch, with their lines and sites, were read too
-pub record HasCome (Stands : Recording → Type 0) (told known : Option (List ℕ)) (reader : Reached) (trace : Recording) (batch : List Step) (numbers places : List ℕ) : Type 0 where
+-- a batch under these names
+abbrev pub batch_of : List Chunk → NameTable → Recording
+batch_of chunks names = recorded (chunk_steps chunks) (chunk_lines chunks) (chunk_sites chunks) names
+
+-- between two batches: some steps were read and forgotten, and this stands for them; those of the last batch were read too, and are in its chunks
+pub record HasCome (Stands : Recording → Type 0) (told known : Option (List ℕ)) (reader : Reached) (trace : Recording) (last : List Chunk) : Type 0 where
   pub past : List Step
   pub lines : List ℕ
   pub sites : List ℕ
-  pub read : IfSome told (λ text. HasRead text (past ++ batch) (lines ++ numbers) (sites ++ places) reader known trace)
-  pub no_steps : trace.steps ≡ []
-  pub no_lines : trace.lines ≡ []
-  pub no_sites : trace.sites ≡ []
+  pub read : IfSome told (λ text. HasRead text (past ++ chunk_steps last) (lines ++ chunk_lines last) (sites ++ chunk_sites last) reader known trace)
+  pub empty : trace ≡ without_steps trace
   pub stands : Stands (recorded past lines sites trace.names)
 
 -- at the end of the text, which is a trace with these names: this stands for it

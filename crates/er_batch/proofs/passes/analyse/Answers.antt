@@ -1,5 +1,5 @@
 -- A fault of the pass is one of the text, which ends as its reader knows.
-use Rattle.std.proofs.Common.{ℕ, List, Option, subst}
+use Rattle.std.proofs.Common.{ℕ, List, [], Option, subst}
 use Rattle.er_batch.proofs.PassLemmas.{answered-by, ending-of}
 use Rattle.er_batch.proofs.TouchLemmas.{known-first}
 use Rattle.er_batch.specs.Analysts.{IsFaultOfReading}
@@ -19,5 +19,5 @@ returns-in-Ok-clause-ending g c = λ asked known stands.
 pub returns-in-Ok-clause-answered : goal.returns-in-Ok-clause-answered
 returns-in-Ok-clause-answered g c = λ asked known stands.
     let told : Option (List ℕ) = g.D.Read.remaining (inner_of c.args.reader.now) in
-    answered-by c.args.options.now.part (g.A.Analyst.stands c.run.new.self.analyst asked) c.run.new.self.of_pages told c.args.options.now.byte_limit c.run.new.self.trace.names
+    answered-by c.args.options.now.part (λ r. g.A.Analyst.stands c.run.new.self.analyst asked r []) c.run.new.self.of_pages told c.args.options.now.byte_limit c.run.new.self.trace.names
     (rw (c.in-Ok.ensures.part, c.in_ok-pass.ensures.part, c.in_ok-pass.ensures.limit) at (c.in-Ok.ensures.ended asked told (known-first asked.touches _ _ _ c.in_ok-pass.ensures.touches known) (c.in_ok-pass.ensures.come asked stands told)))

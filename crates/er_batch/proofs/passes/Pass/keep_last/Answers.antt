@@ -1,16 +1,15 @@
--- What is kept keeps its form, and its steps of pages are counted.
-use Rattle.std.proofs.Common.{rules}
-use Rattle.er_batch.proofs.PassLemmas.{counted-more, kept-formed}
+-- What is kept keeps its form.
+use Rattle.std.proofs.Common.{◌∙◌, List, length, ap, sym, subst}
+use Rattle.er_parallel.proofs.CrewLemmas.{whole-back}
+use Rattle.er_reading.specs.Chunks.{AreFormed}
+use Rattle.er_reading.specs.declared.chunks.Chunk.{Chunk}
 use Rattle.er_batch.proofs.passes.Pass.keep_last.Goals as goal
 
+pub keep_chunks-self-requires : goal.keep_chunks-self-requires
+keep_chunks-self-requires g c = (c.args.self.now.trace.names, subst (λ (cs : List Chunk). AreFormed c.args.self.now.trace.names cs) (sym c.as_mut_slice.ensures.value) c.requires.formed)
+
 pub returns-in-Some-clause-formed : goal.returns-in-Some-clause-formed
-returns-in-Some-clause-formed g c = kept-formed c.args.self.now.part _ _ (search rules) c.requires.formed
-
-pub returns-in-Some-clause-counted : goal.returns-in-Some-clause-counted
-returns-in-Some-clause-counted g c = λ before so_far.
-    rw c.in-Some.is
-    (counted-more c.in-Some.part c.args.self.now.of_pages c.keep-counted.result c.saturating_add-self.result before c.keep-counted.new.steps.items (rw c.in-Some.is at so_far)
-    c.keep-counted.ensures.counted c.saturating_add-self.ensures)
-
-pub returns-in-None-clause-counted : goal.returns-in-None-clause-counted
-returns-in-None-clause-counted g c = λ before so_far. rw c.in-None.is tt
+returns-in-Some-clause-formed g c =
+    subst (λ (cs : List Chunk). AreFormed c.args.self.now.trace.names cs)
+    (sym (whole-back c.args.self.now.last.len c.keep_chunks-self.new.chunks c.args.self.now.last.items (c.keep_chunks-self.ensures.count ∙ ap length c.as_mut_slice.ensures.value) c.args.self.now.last.ok.0))
+    (c.keep_chunks-self.ensures.formed c.args.self.now.trace.names (subst (λ (cs : List Chunk). AreFormed c.args.self.now.trace.names cs) (sym c.as_mut_slice.ensures.value) c.requires.formed))

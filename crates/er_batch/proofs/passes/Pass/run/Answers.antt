@@ -1,5 +1,5 @@
 -- A fault of a turn is one of the text from where the pass began.
-use Rattle.std.proofs.Common.{ℕ, rules, subst}
+use Rattle.std.proofs.Common.{ℕ, [], rules, subst}
 use Rattle.er_batch.proofs.TouchLemmas.{tells-on}
 use Rattle.er_batch.specs.Analysts.{IsFaultOfReading}
 use Rattle.er_batch.specs.Inner.Passes.{HasEnded, StandsFor}
@@ -16,7 +16,7 @@ returns-clause-ends g c = λ asked told tells come. c.in_ok-turn.ensures.ends as
 
 pub returns-clause-ended : goal.returns-clause-ended
 returns-clause-ended g c = λ asked told tells come.
-    subst (λ (n : ℕ). HasEnded (StandsFor c.turn.new.self.part (g.A.Analyst.stands c.turn.new.self.analyst asked) c.turn.new.self.of_pages) told n c.turn.new.self.trace.names) c.loop-watcher.invariant.limit
+    subst (λ (n : ℕ). HasEnded (StandsFor c.turn.new.self.part (λ r. g.A.Analyst.stands c.turn.new.self.analyst asked r []) c.turn.new.self.of_pages) told n c.turn.new.self.trace.names) c.loop-watcher.invariant.limit
     (c.in_ok-turn.ensures.ended asked told (tells-on asked.touches _ _ _ _ _ _ c.loop-watcher.invariant.tells tells) (c.loop-watcher.invariant.come asked told tells come) c.if-branch.false)
 
 pub loop-watcher-preserved : goal.loop-watcher-preserved
@@ -28,5 +28,5 @@ loop-watcher-preserved g c = record {
   tells = λ all tells. c.in_ok-turn.ensures.touches all (c.loop-watcher.invariant.tells all tells);
   come = λ asked told tells come.
       c.in_ok-turn.ensures.come asked told (tells-on asked.touches _ _ _ _ _ _ c.loop-watcher.invariant.tells tells) (c.loop-watcher.invariant.come asked told tells come) c.if-branch.true;
-  formed = search rules;
+  formed = c.in_ok-turn.ensures.formed c.if-branch.true;
 }

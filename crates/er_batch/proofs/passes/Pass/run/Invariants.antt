@@ -1,7 +1,7 @@
-use Rattle.std.proofs.Common.{◌≡◌, ◌+◌, ◌-◌, ◌≤◌, ℕ, List, Option, IfSome, false}
+use Rattle.std.proofs.Common.{◌≡◌, ◌+◌, ◌-◌, ◌≤◌, ℕ, List, [], Option, IfSome, false}
 use Rattle.er_batch.specs.Analysts.{Asked}
 use Rattle.er_batch.specs.Inner.Passes.{HasCome, StandsFor, Tells}
-use Rattle.er_batch.specs.Runs.{IsWellFormed, recorded}
+use Rattle.er_reading.specs.Chunks.{AreFormed}
 use Rattle.er_device.specs.Device.{inner_of, has_failed, taken_of}
 use Rattle.er_lines.specs.Lending.{taken_by}
 use Rattle.er_lines.specs.declared.ready.Touch.{Touch}
@@ -15,9 +15,9 @@ invariant-loop-watcher g l = record {
   limit : l.self.lines.place.limit ≡ l.fn.self.lines.place.limit;
   taken : taken_of l.reader + taken_by l.fn.self.lines.place ≤ taken_of l.fn.reader + taken_by l.self.lines.place;
   tells : (all : List Touch) → Tells all l.fn.self.touches.items (g.S.Shortcut.touches (inner_of l.fn.reader)) l.fn.self.from 0 → Tells all l.self.touches.items (g.S.Shortcut.touches (inner_of l.reader)) l.self.from 0;
-  come : (asked : Asked) (told : Option (List ℕ)) → IfSome asked.touches (λ all. Tells all l.fn.self.touches.items (g.S.Shortcut.touches (inner_of l.fn.reader)) l.fn.self.from 0) → HasCome (StandsFor l.fn.self.part (g.A.Analyst.stands l.fn.self.analyst asked) l.fn.self.of_pages) told (g.D.Read.remaining (inner_of l.fn.reader)) l.fn.self.lines l.fn.self.trace l.fn.self.steps.items l.fn.self.numbers.items l.fn.self.sites.items
-      → HasCome (StandsFor l.self.part (g.A.Analyst.stands l.self.analyst asked) l.self.of_pages) told (g.D.Read.remaining (inner_of l.reader)) l.self.lines l.self.trace l.self.steps.items l.self.numbers.items l.self.sites.items;
-  formed : IsWellFormed (recorded l.self.steps.items l.self.numbers.items l.self.sites.items l.self.trace.names);
+  come : (asked : Asked) (told : Option (List ℕ)) → IfSome asked.touches (λ all. Tells all l.fn.self.touches.items (g.S.Shortcut.touches (inner_of l.fn.reader)) l.fn.self.from 0) → HasCome (StandsFor l.fn.self.part (λ r. g.A.Analyst.stands l.fn.self.analyst asked r []) l.fn.self.of_pages) told (g.D.Read.remaining (inner_of l.fn.reader)) l.fn.self.lines l.fn.self.trace l.fn.self.last.items
+      → HasCome (StandsFor l.self.part (λ r. g.A.Analyst.stands l.self.analyst asked r []) l.self.of_pages) told (g.D.Read.remaining (inner_of l.reader)) l.self.lines l.self.trace l.self.last.items;
+  formed : AreFormed l.self.trace.names l.self.last.items;
 }
 
 abbrev pub decreases-loop-watcher : goal.decreases-loop-watcher
