@@ -6,6 +6,7 @@ import functools
 import os
 import pathlib
 import pty
+import signal
 import subprocess
 import sys
 import threading
@@ -62,9 +63,17 @@ def on_terminal(words, text=b"", **more):
     return b"".join(pieces), done.stdout, done.returncode
 
 
+def heed_signals():
+    """A shell's `&` and `nohup` have signals ignored, and whatever is started here would ignore them too. Some tests send them, and would wait for long."""
+    for number in (signal.SIGHUP, signal.SIGINT, signal.SIGQUIT):
+        if signal.getsignal(number) is signal.SIG_IGN:
+            signal.signal(number, signal.SIG_DFL)
+
+
 def run_alone(tests, *more):
     """Calls `tests` with a recorder and what else it wants. Prints each test that fails and what was not run, and ends with 1 if one fails or none ran."""
     totals = [0, 0]
+    heed_signals()
 
     def record(name, is_right, detail=""):
         totals[not is_right] += 1

@@ -328,6 +328,42 @@ def local_memory(folder, findings):
         findings.check(f"thread-local memory of a library that was loaded later, run {nth}", not fault and has_words and not early, f"{fault} {early}")
 
 
+def build_late(folder, findings):
+    """The environment in which some threads are late."""
+    built = command(["gcc", "-shared", "-fPIC", *record_tests.WARNINGS, SOURCES / "parted/late.c", "-o", folder / "late.so"])
+    findings.check("late.c is built", built.returncode == 0 and built.stderr == "", built.stderr)
+    return {**os.environ, "LD_PRELOAD": str(folder / "late.so")}
+
+
+def record_late(folder, settings, *words):
+    """The text of a trace with threads that are late, and what is wrong with it, or None."""
+    done = command([RUN, "-q", "-o", folder / "parted.trace", "--order", *words], env=settings)
+    text = (folder / "parted.trace").read_text()
+    return text, f"{done}" if done.returncode or done.stderr else order_fault(text)
+
+
+def last_holder(folder, findings, settings):
+    """Whoever destroys an exception comes after all who have let it go, also if it began to let it go before them."""
+    for compiler in ("gcc", "clang"):
+        program = build_one(folder, findings, (SOURCES / "parted/holds.cpp", compiler, "-O2"))
+        text, fault = record_late(folder, settings, program)
+        has_looked = re.search(r"^t1 read \S+ holds.cpp:33$", text, re.M)
+        findings.check(f"{program.name} with --order", not fault and has_looked and not early_sites(text), f"{fault} {has_looked} {early_sites(text)}")
+
+
+def late_leaver(folder, findings, settings):
+    """Whoever leaves a barrier late comes after all who had arrived, also if by then the barrier was destroyed and its memory has another use."""
+    source = SOURCES / "parted/leaves.c"
+    site, = marked(source, "LATE")
+    for compiler in ("gcc", "clang"):
+        program = build_one(folder, findings, (source, compiler, "-O2"))
+        for words in ([], ["anew"]):
+            text, fault = record_late(folder, settings, program, *words)
+            has_left = re.search(rf"^t2 write \S+ {re.escape(site)}$", text, re.M)
+            fault = fault or analysis_fault(source, text)
+            findings.check(f"{program.name} {words} with --order", not fault and has_left, f"{fault} {has_left}")
+
+
 def openmp(folder, findings):
     """What OpenMP orders, as gcc has it, and the locks that its critical sections are."""
     source = SOURCES / "openmp/regions.c"
@@ -430,6 +466,9 @@ def tests(record):
         made = {program.name: program for program in order_programs(folder, findings, pool)}
         other_programs(folder, findings, pool)
         local_memory(folder, findings)
+        settings = build_late(folder, findings)
+        last_holder(folder, findings, settings)
+        late_leaver(folder, findings, settings)
         openmp(folder, findings)
         without_order(folder, findings, made["message-gcc-O0"])
         with_a_limit(folder, findings)

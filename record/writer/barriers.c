@@ -38,7 +38,7 @@ void barriers_begin(uint64_t address, uint64_t count)
     objects_forget(address, 2);
 }
 
-/* Threads that were let go may leave after this. Their objects are still there. */
+/* Threads that were let go may leave after this. They keep their objects. */
 void barriers_end(uint64_t address)
 {
     struct barrier **place = place_of(address), *barrier = *place;
@@ -50,15 +50,27 @@ void barriers_end(uint64_t address)
 }
 
 /* Nobody arrives for a round before all have arrived for the one before, so the arrivals come round by round. */
-uint64_t barriers_arrive(uint32_t number, uint64_t address)
+void barriers_arrive(uint32_t number, uint64_t address, uint64_t place)
 {
     struct barrier *barrier = *place_of(address);
+    struct thread *thread = trace_thread(number);
     bool is_odd = barrier && barrier->count && barrier->arrived++ / barrier->count % 2;
-    trace_thread(number)->is_odd_round = is_odd;
-    return address + is_odd;
+    if (thread->arrived_at)
+        objects_give_up(thread->arrived_at);
+    objects_signal(number, address + is_odd, OBJECT_BARRIER, place);
+    thread->barrier = address;
+    thread->arrived_at = objects_keep(address + is_odd);
 }
 
-uint64_t barriers_leave(uint32_t number, uint64_t address)
+/* A thread that waits may carry out a task of OpenMP meanwhile, and come to other barriers in it. OpenMP's stay where they are until all have left. */
+void barriers_leave(uint32_t number, uint64_t address, uint64_t place)
 {
-    return address + trace_thread(number)->is_odd_round;
+    struct thread *thread = trace_thread(number);
+    if (!thread->arrived_at || thread->barrier != address) {
+        objects_await(number, address, place);
+        return;
+    }
+    objects_await_kept(number, thread->arrived_at, place);
+    objects_give_up(thread->arrived_at);
+    thread->arrived_at = NULL;
 }

@@ -9,9 +9,9 @@
 void barriers_begin(uint64_t address, uint64_t count);
 /* A barrier is destroyed. */
 void barriers_end(uint64_t address);
-/* The address of the object that a thread signals as it arrives. */
-uint64_t barriers_arrive(uint32_t thread, uint64_t address);
-/* The address of the object that it awaits as it leaves. */
-uint64_t barriers_leave(uint32_t thread, uint64_t address);
+/* A thread arrives, by a call that returns to this place, and signals the object of this round. */
+void barriers_arrive(uint32_t thread, uint64_t address, uint64_t place);
+/* It leaves, and awaits the object of the round in which it arrived. The barrier may have been destroyed by then, and another be in its place. */
+void barriers_leave(uint32_t thread, uint64_t address, uint64_t place);
 
 #endif

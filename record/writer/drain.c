@@ -189,18 +189,24 @@ static void end_join(const struct slot *slot)
 
 static void signal_object(const struct slot *slot, enum object_kind kind)
 {
-    uint64_t address = kind == OBJECT_BARRIER ? barriers_arrive(slot->thread, slot->first) : slot->first;
-    bool is_written = objects_signal(slot->thread, address, kind, slot->second);
+    if (kind == OBJECT_BARRIER) {
+        barriers_arrive(slot->thread, slot->first, slot->second);
+        return;
+    }
+    bool is_written = objects_signal(slot->thread, slot->first, kind, slot->second);
     if (kind == OBJECT_ATOMIC)
-        flow_store(slot->thread, address, slot->second, is_written);
+        flow_store(slot->thread, slot->first, slot->second, is_written);
 }
 
 static void await_object(const struct slot *slot, enum object_kind kind)
 {
-    uint64_t address = kind == OBJECT_BARRIER ? barriers_leave(slot->thread, slot->first) : slot->first;
-    bool is_written = objects_await(slot->thread, address, slot->second);
+    if (kind == OBJECT_BARRIER) {
+        barriers_leave(slot->thread, slot->first, slot->second);
+        return;
+    }
+    bool is_written = objects_await(slot->thread, slot->first, slot->second);
     if (kind == OBJECT_ATOMIC && !is_written)
-        flow_load(slot->thread, address, slot->second);
+        flow_load(slot->thread, slot->first, slot->second);
 }
 
 /* Atomic operations that release nothing, or acquire nothing, but for what fences make of them. */

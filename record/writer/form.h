@@ -16,6 +16,8 @@ enum verb {
 };
 #define VERBS 14
 
+struct object;
+
 struct thread {
     char text[16];       /* "t12 " */
     uint8_t bytes;       /* 0 before its first event */
@@ -25,7 +27,8 @@ struct thread {
     uint64_t events;     /* how many events it has that a text shows: lines of a text, or records of a trace 4 */
     uint64_t stretch;    /* the number of its accesses since its last other event, or one that names it: no other thread has it, and it is not 0 */
     uint64_t failed_try, events_then; /* the lock that it tried last in vain and how, and how many events it had then */
-    bool is_odd_round;   /* of the barrier that it waits at */
+    uint64_t barrier;    /* that it arrived at last */
+    struct object *arrived_at; /* the object of this barrier's round, or NULL once it has left it */
     uint32_t created_at; /* the node of the call that created it, 0 if it is not known or in a text */
     char name[16];       /* what the program calls it, or nothing */
 };

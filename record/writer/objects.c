@@ -18,6 +18,8 @@ struct object {
     uint32_t signaller;
     uint64_t events;
     bool has_ended;
+    bool is_forgotten; /* no address leads to it, and it is there for those alone for whom it is kept */
+    uint32_t kept;     /* for so many threads */
     /* The threads that all signals so far are ordered before: a hash table, of which the entries of this round count. So it is emptied
      * by another number. */
     struct aware *aware;
@@ -51,19 +53,27 @@ static struct object *add_object(uint64_t address, enum object_kind kind)
     static unsigned counts[OBJECT_KINDS];
     struct object *object = get_memory(NULL, sizeof *object);
     struct object **bucket = bucket_of(address);
-    *object = (struct object){*bucket, address, {make_name(address, kinds[kind], &counts[kind]), address, 0, 0}, 0, 0, false, NULL, 0, 0, 1};
+    *object = (struct object){*bucket, address, {make_name(address, kinds[kind], &counts[kind]), address, 0, 0}, 0, 0, false, false, 0, NULL, 0, 0, 1};
     *bucket = object;
     pages_mark_lock(address);
     return object;
+}
+
+static void free_unless_kept(struct object *object)
+{
+    if (object->kept)
+        return;
+    free(object->label.name);
+    free(object->aware);
+    free(object);
 }
 
 static void remove_object(struct object **place)
 {
     struct object *object = *place;
     *place = object->next;
-    free(object->label.name);
-    free(object->aware);
-    free(object);
+    object->is_forgotten = true;
+    free_unless_kept(object);
 }
 
 /* ---- Who is aware of all signals ---- */
@@ -144,14 +154,18 @@ bool objects_have_news(uint32_t number, uint64_t address)
 }
 
 /* An await of a thread that knows all signals orders nothing: one that looks at a flag again and again, for example. */
-bool objects_await(uint32_t number, uint64_t address, uint64_t place)
+static bool await(uint32_t number, struct object *object, uint64_t place)
 {
-    if (!objects_have_news(number, address))
+    if (!object || is_aware(object, number))
         return false;
-    struct object *object = find_object(address);
     trace_lock(trace_thread(number), VERB_AWAIT, &object->label, place);
     make_aware(object, number);
     return true;
+}
+
+bool objects_await(uint32_t number, uint64_t address, uint64_t place)
+{
+    return await(number, find_object(address), place);
 }
 
 void objects_let_go(uint32_t number, uint64_t address, enum object_kind kind, uint64_t place)
@@ -160,6 +174,27 @@ void objects_let_go(uint32_t number, uint64_t address, enum object_kind kind, ui
         return;
     objects_signal(number, address, kind, place);
     objects_await(number, address, place);
+}
+
+/* ---- Objects that are kept ---- */
+
+struct object *objects_keep(uint64_t address)
+{
+    struct object *object = find_object(address);
+    object->kept++;
+    return object;
+}
+
+void objects_await_kept(uint32_t number, struct object *object, uint64_t place)
+{
+    await(number, object, place);
+}
+
+void objects_give_up(struct object *object)
+{
+    object->kept--;
+    if (object->is_forgotten)
+        free_unless_kept(object);
 }
 
 /* ---- The end of an object ---- */

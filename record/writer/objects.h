@@ -15,9 +15,14 @@ bool objects_await(uint32_t thread, uint64_t address, uint64_t place);
 bool objects_have_news(uint32_t thread, uint64_t address);
 /* It lets go an object that it held: a signal and an await, if the object was signalled before. */
 void objects_let_go(uint32_t thread, uint64_t address, enum object_kind kind, uint64_t place);
+/* An object that was signalled is kept for a thread that will await it, whatever is at its address by then. It is kept until it is given up as often. */
+struct object;
+struct object *objects_keep(uint64_t address);
+void objects_await_kept(uint32_t thread, struct object *object, uint64_t place);
+void objects_give_up(struct object *object);
 /* An object's life ends: the next signal at this address is another object's. A thread that was let go before may still await this one. */
 void objects_end(uint64_t address);
-/* Memory is put to a new use, or a new object begins in it: the objects in it are no more. */
+/* Memory is put to a new use, or a new object begins in it: no address leads to the objects in it any more. */
 void objects_forget(uint64_t address, uint64_t bytes);
 
 #endif

@@ -30,8 +30,9 @@ static void work(int number)
     wait_alone(number);
     pthread_mutex_lock(&lock);
     guarded++;
-    struct timespec before, after, when = soon(CLOCK_MONOTONIC, 20);
+    struct timespec before, after, when;
     clock_gettime(CLOCK_MONOTONIC, &before);
+    when = soon(CLOCK_MONOTONIC, 20);
     while (pthread_cond_timedwait(&never, &lock, &when) != ETIMEDOUT)
         ;
     clock_gettime(CLOCK_MONOTONIC, &after);

@@ -25,16 +25,17 @@ static void handle(int number)
         other = 1;
 }
 
-/* Each jump comes back here, and `rounds` of them are wanted. */
+/* Each jump comes back here, and `rounds` of them are wanted. After many turns it makes no accesses any more, since a jump may take long. */
 static void *work(void *nothing)
 {
+    const int wanted = rounds;
     sigset_t leaving;
     sigemptyset(&leaving);
     sigaddset(&leaving, SIGUSR1);
     if (sigsetjmp(back, 1) != 0)
         __atomic_fetch_add(&jumps, 1, __ATOMIC_SEQ_CST);
     __atomic_store_n(&is_ready, 1, __ATOMIC_SEQ_CST);
-    for (int turn = 0; __atomic_load_n(&jumps, __ATOMIC_SEQ_CST) < rounds; turn++) {
+    for (int turn = 0; __atomic_load_n(&jumps, __ATOMIC_SEQ_CST) < wanted; turn++) {
         for (int i = 0; i < 50 && turn < 1000; i++)
             worked = 1;
         sched_yield();

@@ -5,13 +5,17 @@
 #include <signal.h>
 #include <unistd.h>
 
+/* Added to `begun` once there are enough. Who begins after that, as some do that were on their way, writes nothing. */
+#define CLOSED (1 << 30)
+
 static volatile int value;
 static int begun, ended;
 
 static void tick(union sigval nothing)
 {
     (void)nothing;
-    __atomic_fetch_add(&begun, 1, __ATOMIC_SEQ_CST);
+    if (__atomic_fetch_add(&begun, 1, __ATOMIC_SEQ_CST) >= CLOSED)
+        return;
     value = 1; /* TICK */
     __atomic_fetch_add(&ended, 1, __ATOMIC_SEQ_CST);
 }
@@ -28,11 +32,10 @@ int main(int count, char **words)
     while (__atomic_load_n(&begun, __ATOMIC_SEQ_CST) < wanted)
         usleep(1000);
     timer_settime(timer, 0, &never, NULL);
-    /* Those that were on their way begin in this time, or the process ends before them. */
-    usleep(200000);
-    while (__atomic_load_n(&ended, __ATOMIC_SEQ_CST) < __atomic_load_n(&begun, __ATOMIC_SEQ_CST))
+    int writers = __atomic_fetch_add(&begun, CLOSED, __ATOMIC_SEQ_CST);
+    while (__atomic_load_n(&ended, __ATOMIC_SEQ_CST) < writers)
         usleep(1000);
-    printf("%d\n", begun);
+    printf("%d\n", writers);
     fflush(stdout);
     _exit(0);
 }

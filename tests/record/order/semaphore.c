@@ -1,4 +1,4 @@
-/* A semaphore that hands over a word, in the four ways to wait for it. */
+/* A semaphore that hands over a word, in the four ways to wait for it. Whoever tries again and again makes no events meanwhile, since that may take long. */
 #define _GNU_SOURCE
 #include "../meet.h"
 
@@ -7,14 +7,18 @@
 static sem_t full, spare;
 static int slot, late;
 
-static int wait_in_turn(int way)
+static int wait_for_a_time(int way)
 {
     struct timespec when = soon(way == 2 ? CLOCK_REALTIME : CLOCK_MONOTONIC, 999);
+    return way == 2 ? sem_timedwait(&full, &when) : sem_clockwait(&full, CLOCK_MONOTONIC, &when);
+}
+
+static int wait_in_turn(int way)
+{
     switch (way) {
     case 0: return sem_wait(&full);
     case 1: return sem_trywait(&full);
-    case 2: return sem_timedwait(&full, &when);
-    default: return sem_clockwait(&full, CLOCK_MONOTONIC, &when);
+    default: return wait_for_a_time(way);
     }
 }
 

@@ -41,6 +41,13 @@ static void start_and_join(void)
     passed_on++;
 }
 
+/* It makes no accesses, since it may try for long. */
+static void try_to_join(pthread_t thread)
+{
+    while (pthread_tryjoin_np(thread, NULL) != 0)
+        sched_yield();
+}
+
 /* Joins that may fail: only the last one counts. */
 static void join_with_patience(void)
 {
@@ -49,8 +56,7 @@ static void join_with_patience(void)
     if (pthread_create(&thread, NULL, run_second, NULL) != 0)
         exit(99);
     if (pthread_clockjoin_np(thread, NULL, CLOCK_MONOTONIC, &when) != 0)
-        while (pthread_tryjoin_np(thread, NULL) != 0)
-            sched_yield();
+        try_to_join(thread);
     passed_on++;
 }
 
