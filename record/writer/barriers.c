@@ -38,7 +38,7 @@ void barriers_begin(uint64_t address, uint64_t count)
     objects_forget(address, 2);
 }
 
-/* Threads that were let go may leave after this. They keep their objects. */
+/* Threads that were let go may leave after this. Their objects are kept for them. */
 void barriers_end(uint64_t address)
 {
     struct barrier **place = place_of(address), *barrier = *place;
@@ -62,7 +62,8 @@ void barriers_arrive(uint32_t number, uint64_t address, uint64_t place)
     thread->arrived_at = objects_keep(address + is_odd);
 }
 
-/* A thread that waits may carry out a task of OpenMP meanwhile, and come to other barriers in it. OpenMP's stay where they are until all have left. */
+/* A thread that waits at a barrier of OpenMP's may carry out a task meanwhile, and arrive at another barrier in it. Then it finds the object of the first one by
+ * its address, which has one round and no other use before all have left. */
 void barriers_leave(uint32_t number, uint64_t address, uint64_t place)
 {
     struct thread *thread = trace_thread(number);
