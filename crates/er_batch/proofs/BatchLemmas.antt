@@ -1,18 +1,13 @@
 -- A run that forgets its steps is a run over all of them: a batch goes on behind what was answered, and the names may have grown.
-use Rattle.std.proofs.Common.{◌≡◌, ◌<◌, ◌≤◌, ◌+◌, ℕ, zero, suc, List, [], ◌++◌, length, length-append, take, slice_index, get_or, Option, Some, None, is_some, false, IfSome, Ok, refl, sym, ap, subst, ◌∙◌, arith}
-use Rattle.std.specs.List.{All}
+use Rattle.std.proofs.Common.{◌≡◌, ◌<◌, ◌≤◌, ◌+◌, ℕ, List, ◌++◌, length, length-append, take, slice_index, get_or, Option, Some, None, is_some, false, refl, sym, ap, subst, ◌∙◌, arith}
 use Rattle.std.proofs.lemmas.List.{take-append-le, length-take-le, get_or_append_left, get_or-append-add}
 use Rattle.std.proofs.Math.Seq.{take-append_seam, take-length}
 use Rattle.std.proofs.lemmas.List.Elements.{All-append}
-use Rattle.std.proofs.lemmas.Option.{get_or_from_slice_get, slice_get_read, slice_get_within, slice_get-get_or}
+use Rattle.std.proofs.lemmas.Option.{get_or_from_slice_get, slice_get_read}
 use Rattle.er_batch.specs.Inner.Answering.{Answers, HasAnswered}
 use Rattle.er_batch.specs.Runs.{MayStopAt, HasRun, IsWellFormed, recorded}
 use Rattle.er_event.proofs.Lists.{get_front}
 use Rattle.er_event.specs.declared.refusals.NoRoom.{NoRoom}
-use Rattle.er_event.specs.declared.steps.Event.{Event}
-use Rattle.er_event.specs.declared.steps.Event.TheVariants.{Acquire, Release, Access, Reuse, IgnoreOn, IgnoreOff, Show, Level, Sync}
-use Rattle.er_event.specs.declared.steps.Sync.{Sync as SyncEvent}
-use Rattle.er_event.specs.declared.steps.Sync.TheVariants.{Start, Join, Signal, Await}
 use Rattle.er_event.specs.declared.steps.Step.{Step}
 use Rattle.er_journal.specs.declared.answers.Stopped.{Stopped}
 use Rattle.er_reading.proofs.NamedLemmas.{all-known, all-named}
@@ -20,15 +15,10 @@ use Rattle.er_replay.specs.Standing.{Replayed, Stands}
 use Rattle.er_report.proofs.GrowthLemmas.{reported-on}
 use Rattle.er_report.specs.Builder.{Built, IsReported, GoesOn}
 use Rattle.er_report.specs.Report.{stop_line}
-use Rattle.er_text.proofs.BatchLaws.{forgotten}
-use Rattle.er_text.specs.Batches.{joined, HasRead, GivesBatch}
-use Rattle.er_text.specs.Places.{Reached}
-use Rattle.er_text.specs.Trace.{IsTrace}
-use Rattle.er_text.specs.declared.reading.Batch.{Batch}
-use Rattle.er_text.specs.declared.reading.Batch.TheVariants.{More, End}
-use Rattle.er_text.specs.Named.{KeepsNumbers, KeepsNames}
+use Rattle.er_text.specs.Batches.{joined}
+use Rattle.er_text.specs.Named.{KeepsNames}
 use Rattle.er_trace.specs.Names.{NameTable}
-use Rattle.er_trace.specs.Trace.{Recording, IsNamed, HasSiteName, HasNames, HasOrderNames, without_steps}
+use Rattle.er_trace.specs.Trace.{Recording, IsNamed, HasSiteName}
 
 -- the line or the site of a step in a batch
 pub number-behind : (lines more : List ℕ) (n k : ℕ) → length lines ≡ n → slice_index more k ≡ slice_index (lines ++ more) (n + k)
@@ -143,27 +133,3 @@ module _ (past : List Step) (lines sites : List ℕ) (names : NameTable) (trace 
 pub none-by : {X : Type 0} (o : Option X) → is_some o ≡ false → o ≡ None
 none-by None none = refl
 none-by (Some x) none = absurd (cc)
-
--- what a batch gives of the text, if the text is known
-module _ (told : Option (List ℕ)) (past : List Step) (lines sites : List ℕ) (old new : Reached) (known rest : Option (List ℕ)) (t u : Recording) (batch : Batch) where
-  abbrev Gives : Type 0
-  Gives = (text : List ℕ) (steps : List Step) (numbers sites : List ℕ) → HasRead text steps numbers sites old known t → GivesBatch text steps numbers sites new rest u (Ok batch)
-
-  pub read-whole : batch ≡ End → new.place.limit ≡ old.place.limit → Gives → IfSome told (λ text. HasRead text past lines sites old known t)
-      → IfSome told (λ text. IsTrace text old.place.limit (joined past lines sites u))
-  read-whole is limit gives read = by told read
-    where
-      by : (o : Option (List ℕ)) → IfSome o (λ text. HasRead text past lines sites old known t) → IfSome o (λ text. IsTrace text old.place.limit (joined past lines sites u))
-      by None read = tt
-      by (Some text) read =
-          subst (λ (n : ℕ). IsTrace text n (joined past lines sites u)) limit
-          (subst (λ (b : Batch). GivesBatch text past lines sites new rest u (Ok b)) is (gives text past lines sites read))
-
-  pub read-part : batch ≡ More → Gives → IfSome told (λ text. HasRead text past lines sites old known t)
-      → IfSome told (λ text. HasRead text (past ++ u.steps) (lines ++ u.lines) (sites ++ u.sites) new rest (without_steps u))
-  read-part is gives read = by told read
-    where
-      by : (o : Option (List ℕ)) → IfSome o (λ text. HasRead text past lines sites old known t) → IfSome o (λ text. HasRead text (past ++ u.steps) (lines ++ u.lines) (sites ++ u.sites) new rest (without_steps u))
-      by None read = tt
-      by (Some text) read =
-          forgotten text past lines sites new rest u (subst (λ (b : Batch). GivesBatch text past lines sites new rest u (Ok b)) is (gives text past lines sites read))

@@ -78,16 +78,7 @@ module _ (Stands Later : Recording → Type 0) (told : Option (List ℕ)) (old n
           (subst (λ (b : Batch). GivesBatch text ((come.past ++ chunk_steps last) ++ chunk_steps fresh) ((come.lines ++ chunk_lines last) ++ chunk_lines fresh) ((come.sites ++ chunk_sites last) ++ chunk_sites fresh) new rest u (Ok b)) is
           (gives text (come.past ++ chunk_steps last) (come.lines ++ chunk_lines last) (come.sites ++ chunk_sites last) read)))
 
--- behind the last batch the reader knows how the text ends
-pub ends-by : (Stands : Recording → Type 0) (told known : Option (List ℕ)) (old new : Reached) (t : Recording) (last : List Chunk) (batch : Batch) → HasCome Stands told known old t last
-    → ((text : List ℕ) (steps : List Step) (lines sites : List ℕ) → HasRead text steps lines sites old known t → batch ≡ End → KnowsEnd text new) → batch ≡ End
-    → IfSome told (λ text. KnowsEnd text new)
-ends-by Stands told known old new t last batch come ends is = by told come.read
-  where
-    by : (o : Option (List ℕ)) → IfSome o (λ text. HasRead text (come.past ++ chunk_steps last) (come.lines ++ chunk_lines last) (come.sites ++ chunk_sites last) old known t) → IfSome o (λ text. KnowsEnd text new)
-    by None read = tt
-    by (Some text) read = ends text (come.past ++ chunk_steps last) (come.lines ++ chunk_lines last) (come.sites ++ chunk_sites last) read is
-
+-- how the text ends, behind the last batch
 pub ending-of : (told : Option (List ℕ)) (reader : Reached) (ending : Ending) → IfSome told (λ text. KnowsEnd text reader) → ((text : List ℕ) → KnowsEnd text reader → IsEndingOf text ending)
     → IfSome told (λ text. IsEndingOf text ending)
 ending-of None reader ending knows ends = tt

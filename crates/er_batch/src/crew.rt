@@ -1,5 +1,5 @@
 //! The lockset rule by several workers, as an analyst.
-ghost use Rattle.std.specs.Prelude.{◌≡◌, ◌+◌, ◌++◌, ◌<◌, ◌≤◌, ◌^◌, ℕ, List, All, IfOk, IfErr, IsTrue, MatchOption, None, OnOk, map, Some, is_some, length, slice_get, true, false};
+ghost use Rattle.std.specs.Prelude.{◌≡◌, ◌+◌, ◌++◌, ◌<◌, ◌≤◌, ◌^◌, ℕ, List, All, IfOk, IfErr, MatchOption, None, OnOk, map, Some, is_some, length, slice_get, true, false};
 ghost use Rattle.std.specs.Thread.{IsSync};
 ghost use Rattle.er_batch.specs.Analysts.{Asked, HasCrewRun};
 ghost use Rattle.er_batch.specs.Inner.Answering.{Lags};

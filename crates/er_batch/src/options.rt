@@ -1,5 +1,5 @@
 //! How a replay is run.
-ghost use Rattle.std.specs.Prelude.{◌≡◌, ◌≤◌, ◌<◌, ◌⊎◌, None, false, IsSome, IsNone, IfSome};
+ghost use Rattle.std.specs.Prelude.{◌≡◌, ◌≤◌, ◌<◌, None, false, IsSome, IsNone, IfSome};
 ghost use Rattle.er_batch.specs.Limits.{AreInLimits, most_bytes, most_sets, most_shards, most_workers, usual_bytes, usual_shards};
 
 use er_parts::Part;

@@ -108,15 +108,11 @@ impl<A: Drop> Pass<A> {
         ensures analyst { self.new.analyst ≡ self.old.analyst }
         ensures lines { self.new.lines ≡ self.old.lines }
         ensures part { self.new.part ≡ self.old.part }
+        ensures fresh { self.new.fresh ≡ self.old.fresh }
         ensures touches { (self.new.touches.items ≡ self.old.touches.items) × (self.new.from ≡ self.old.from) }
     {
-        match self.part {
-            Some(part) => self.of_pages = keep_chunks(
-                part,
-                self.of_pages,
-                self.last.as_mut_slice(),
-            ),
-            None => (),
+        if let Some(part) = self.part {
+            self.of_pages = keep_chunks(part, self.of_pages, self.last.as_mut_slice());
         }
     }
 
@@ -131,6 +127,7 @@ impl<A: Drop> Pass<A> {
             → IfSome asked.touches (λ all. TellsBetween all self.old.touches.items self.old.from next)
             → OnOk result (A.stands self.new.analyst asked (recorded (past ++ chunk_steps self.old.last.items) (lines ++ chunk_lines self.old.last.items) (sites ++ chunk_sites self.old.last.items) self.old.trace.names) []) }
         ensures next { OnOk result (self.new.last.items ≡ self.old.fresh.items) }
+        ensures formed { OnOk result (AreFormed self.old.trace.names self.new.fresh.items) }
         ensures trace { OnOk result (self.new.trace ≡ self.old.trace) }
         ensures lines { self.new.lines ≡ self.old.lines }
         ensures part { (self.new.part ≡ self.old.part) × (self.new.of_pages ≡ self.old.of_pages) }
@@ -158,6 +155,7 @@ impl<A: Drop> Pass<A> {
         ensures answered { (asked : Asked) (past : List Steps) (lines sites : List ℕ) → StandsFor self.old.part (λ r. A.stands self.old.analyst asked r []) self.old.of_pages (recorded past lines sites self.old.trace.names)
             → IfSome asked.touches (λ all. TellsBetween all self.old.touches.items self.old.from next)
             → OnOk result (StandsFor self.new.part (λ r. A.stands self.new.analyst asked r []) self.new.of_pages (recorded (past ++ chunk_steps self.old.last.items) (lines ++ chunk_lines self.old.last.items) (sites ++ chunk_sites self.old.last.items) self.old.trace.names)) }
+        ensures next { OnOk result (self.new.last.items ≡ self.old.fresh.items) }
         ensures trace { OnOk result (self.new.trace ≡ self.old.trace) }
         ensures lines { self.new.lines ≡ self.old.lines }
         ensures part { self.new.part ≡ self.old.part }
@@ -180,7 +178,7 @@ impl<A: Drop> Pass<A> {
         A: Analyst,
         requires open { has_failed reader.old ≡ false }
         requires formed { AreFormed self.old.trace.names self.old.last.items }
-        ensures formed { IfOk result (λ more. more ≡ true → AreFormed self.new.trace.names self.new.last.items) }
+        ensures formed { OnOk result (AreFormed self.new.trace.names self.new.last.items) }
         ensures come { (asked : Asked) (told : Option (List ℕ)) → IfSome asked.touches (λ all. Tells all self.old.touches.items (S.touches (inner_of reader.old)) self.old.from 0)
             → HasCome (StandsFor self.old.part (λ r. A.stands self.old.analyst asked r []) self.old.of_pages) told (D.remaining (inner_of reader.old)) self.old.lines self.old.trace self.old.last.items
             → IfOk result (λ more. more ≡ true → HasCome (StandsFor self.new.part (λ r. A.stands self.new.analyst asked r []) self.new.of_pages) told (D.remaining (inner_of reader.new)) self.new.lines self.new.trace self.new.last.items) }
@@ -312,8 +310,7 @@ pub fn analyse<R: Threads + Wait + Sync, D: Read, S: Shortcut<D>, V: Watch, A: A
     }
 }
 
-// How many chunks a batch comes in: one for each piece and one for what is behind these. If one thread reads, or several answer, whose threads are started
-// for each chunk, all comes in one.
+// How many chunks a batch comes in: one for each piece and one for the rest. It is one if one thread reads, or if several answer: each chunk starts theirs.
 fn chunk_count(workers: u32, readers: u32) -> usize
     ensures { 1 ≤ result }
 {
@@ -367,6 +364,7 @@ fn answer_chunks<R: Threads + Wait + Sync, A: Analyst>(
     ensures answered { (asked : Asked) (past : List Steps) (lines sites : List ℕ) (names : NameTable) → KeepsNames names trace.old.names
         → A.stands analyst.old asked (recorded past lines sites names) (step_lists chunks.old) → IfSome asked.touches (λ all. TellsBetween all touches.now from next)
         → OnOk result (A.stands analyst.new asked (recorded (past ++ chunk_steps chunks.old) (lines ++ chunk_lines chunks.old) (sites ++ chunk_sites chunks.old) trace.old.names) []) }
+    ensures formed { OnOk result (AreFormed trace.old.names chunks.new) }
     ensures trace { OnOk result (trace.new ≡ trace.old) }
     ensures count { length chunks.new ≡ length chunks.old }
     ensures from { IfOk result (λ line. from ≤ line) }
@@ -395,6 +393,7 @@ fn answer_chunk<R: Threads + Wait + Sync, A: Analyst>(
     ensures answered { (asked : Asked) (past : List Steps) (lines sites : List ℕ) (names : NameTable) (more : List (List Steps)) → KeepsNames names trace.old.names
         → A.stands analyst.old asked (recorded past lines sites names) (chunk.old.steps.items ∷ more) → IfSome asked.touches (λ all. TellsBetween all touches.now from next)
         → OnOk result (A.stands analyst.new asked (recorded (past ++ chunk.old.steps.items) (lines ++ chunk.old.lines.items) (sites ++ chunk.old.sites.items) trace.old.names) more) }
+    ensures formed { OnOk result (IsFormed trace.old.names chunk.new) }
     ensures trace { OnOk result (trace.new ≡ trace.old) }
     ensures from { IfOk result (λ line. from ≤ line) }
 {

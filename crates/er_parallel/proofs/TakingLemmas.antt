@@ -12,7 +12,7 @@ use Rattle.er_event.specs.declared.steps.Event.{Event}
 use Rattle.er_event.specs.declared.steps.Event.TheVariants.{Acquire, Release, Access, Reuse, IgnoreOn, IgnoreOff, Show, Level, Sync}
 use Rattle.er_event.specs.declared.steps.Mode.TheVariants.{Read, Write}
 use Rattle.er_event.specs.declared.steps.Reply.{Reply}
-use Rattle.er_event.specs.declared.steps.Reply.TheVariants.{Race, Done}
+use Rattle.er_event.specs.declared.steps.Reply.TheVariants.{Race, Done, Quiet, Ignored}
 use Rattle.er_event.specs.declared.steps.Step.{Step}
 use Rattle.er_event.specs.declared.steps.WordState.{WordState}
 use Rattle.er_event.proofs.Lists.{get_front, get_last, get_behind, length_push}
@@ -29,12 +29,14 @@ use Rattle.er_model.proofs.Threads.{holdings-step}
 use Rattle.er_parallel.specs.Crews.{IsAmong, IsAnswered, HasFollowed, LeavesWord}
 use Rattle.er_parallel.specs.Faults.{AsksForSet}
 use Rattle.er_parallel.specs.Usual.{usual}
-use Rattle.er_parallel.specs.Inner.Taking.{AreIdle, HasCome, HasDone, IsFoundSoFar, IsIdle, IsKept, IsOwn}
+use Rattle.er_parallel.specs.Inner.Taking.{AreIdle, HasCome, HasDone, IsFoundSoFar, IsIdle, IsKept, IsOwn, IsPassed}
 use Rattle.er_parallel.specs.Tasks.{shard_for, worker_for}
 use Rattle.er_parallel.specs.declared.worker.Share.{Share}
 use Rattle.er_parallel.specs.declared.worker.Unusual.{Unusual}
 use Rattle.er_parallel.proofs.FollowingLemmas.{apart, replied-same, asks-same}
-use Rattle.er_replay.specs.Standing.{Replayed, found_no_room, holding, states}
+use Rattle.er_replay.specs.Standing.{Replayed, found_no_room, holding, in_full, states}
+use Rattle.er_replay.specs.declared.machine.Brief.{Brief}
+use Rattle.er_replay.specs.declared.machine.Brief.TheVariants as brief
 use Rattle.er_replay.specs.Wants.{asks_by, is_access}
 
 -- only an access is a race, so that its thread's holdings stay
@@ -290,12 +292,12 @@ module _ (past : List Step) (batch : List Step) (share : Share) (n : ℕ) (step 
             }) mine);
       }
 
-  -- the same where the answer may not be kept
-  pub come-kept : {A : Type 0} → IsOwn share step.event → (a : Result Reply Refusal) (kept : Result A NoRoom) (kept_items : List Unusual) → OnOk kept (IsFalse (found_no_room a))
+  -- the same where the answer may not be kept, or finds no room
+  pub come-kept : {A Room : Type 0} → IsOwn share step.event → (a : Result Reply Refusal) (kept : Result A NoRoom) (kept_items : List Unusual) → OnOk kept Room
       → OnOk kept (IsKept n a (holding after step.thread).held items kept_items)
-      → (IsFalse (found_no_room a) → (t : ℕ) → holding after t ≡ after_step (holding before t) t step)
-      → (IsFalse (found_no_room a) → a ≡ answered (holding before step.thread) (states before) step)
-      → (IsFalse (found_no_room a) → (w : ℕ) → states after w ≡ state_after (holding before step.thread) (states before w) w step)
+      → (Room → (t : ℕ) → holding after t ≡ after_step (holding before t) t step)
+      → (Room → a ≡ answered (holding before step.thread) (states before) step)
+      → (Room → (w : ℕ) → states after w ≡ state_after (holding before step.thread) (states before w) w step)
       → OnOk kept (HasCome (n + 1) past batch share kept_items after)
   come-kept mine a (Ok done) kept_items room is follows given moves = come-found (follows room) mine a (given room) (moves room) is.locks kept_items is.locked is.items
   come-kept mine a (Err why) kept_items room is follows given moves = tt
@@ -350,6 +352,60 @@ idle-on share from at batch step there last idle = λ k other low high is.
     ⊎_elim (λ below. idle k other low below is)
     (λ same. subst (λ (s : Step). IsIdle share s.event) (same_Some step other (sym there ∙ rw (← same) is)) last)
     (below_or_at k at (omega (arith, high)))
+
+-- an access alone is quiet, and is never done
+no_done : (ignores reported : Bool) → Ok Done ≡ answer_unless None (cond ignores Ignored (cond reported Race Quiet)) → ⊥
+no_done true reported is = cc
+no_done false true is = cc
+no_done false false is = cc
+
+no_quiet : (o : Option Refusal) → Ok Quiet ≡ answer_unless o Done → ⊥
+no_quiet None is = cc
+no_quiet (Some why) is = cc
+
+done_access : (h : Holdings) (words : ℕ → WordState) (t : ℕ) (e : Event) → Ok Done ≡ answer_unless (refused_by h e) (replied h words t e) → is_access e ≡ false
+done_access h words t (Access kind w site) is = absurd (no_done _ _ is)
+done_access h words t (Acquire l m) is = refl
+done_access h words t (Release l m) is = refl
+done_access h words t (Reuse range) is = refl
+done_access h words t IgnoreOn is = refl
+done_access h words t IgnoreOff is = refl
+done_access h words t (Show w) is = refl
+done_access h words t (Level n) is = refl
+done_access h words t (Sync sync) is = refl
+
+quiet_access : (h : Holdings) (words : ℕ → WordState) (t : ℕ) (e : Event) → Ok Quiet ≡ answer_unless (refused_by h e) (replied h words t e) → is_access e ≡ true
+quiet_access h words t (Access kind w site) is = refl
+quiet_access h words t (Reuse range) is = cc
+quiet_access h words t (Show w) is = cc
+quiet_access h words t (Acquire l m) is = absurd (no_quiet (refused_by h (Acquire l m)) is)
+quiet_access h words t (Release l Read) is = absurd (no_quiet (refused_by h (Release l Read)) is)
+quiet_access h words t (Release l Write) is = absurd (no_quiet (refused_by h (Release l Write)) is)
+quiet_access h words t IgnoreOn is = absurd (no_quiet (refused_by h IgnoreOn) is)
+quiet_access h words t IgnoreOff is = absurd (no_quiet (refused_by h IgnoreOff) is)
+quiet_access h words t (Level n) is = absurd (no_quiet (refused_by h (Level n)) is)
+quiet_access h words t (Sync sync) is = absurd (no_quiet (refused_by h (Sync sync)) is)
+
+-- a brief answer that isn't kept is the usual one
+module _ (h : Holdings) (words now : ℕ → WordState) (t : ℕ) (e : Event) (b : Result Brief Refusal) (noting changed : Bool) (passed : IsPassed b noting changed) where
+  pub passed-room : IsFalse (found_no_room b)
+  passed-room = ⊎_elim (λ done. ap found_no_room done) (λ quiet. ⊎_elim (λ plain. ap found_no_room plain) (λ first. ap found_no_room first) quiet.0) passed
+
+  is_quiet : (b ≡ Ok brief.Quiet) ⊎ (b ≡ Ok brief.First) → in_full now e b ≡ Ok Quiet
+  is_quiet = ⊎_elim (λ plain. ap (in_full now e) plain) (λ first. ap (in_full now e) first)
+
+  module _ (given : in_full now e b ≡ answer_unless (refused_by h e) (replied h words t e)) where
+    pub passed-usual : in_full now e b ≡ usual e
+    passed-usual = ⊎_elim
+        (λ done. ap (in_full now e) done ∙ ap (λ (access : Bool). Ok (cond access Quiet Done)) (sym (done_access h words t e (sym (ap (in_full now e) done) ∙ given))))
+        (λ quiet. is_quiet quiet.0 ∙ ap (λ (access : Bool). Ok (cond access Quiet Done)) (sym (quiet_access h words t e (sym (is_quiet quiet.0) ∙ given))))
+        passed
+
+    pub passed-same : IsTrue noting → IsTrue (is_access e) → changed ≡ false
+    passed-same notes access = ⊎_elim
+        (λ done. let never : false ≡ true = sym (done_access h words t e (sym (ap (in_full now e) done) ∙ given)) ∙ access in cc)
+        (λ quiet. quiet.1 notes)
+        passed
 
 -- the only worker answers all steps
 below_one : (a b w : ℕ) → w ≡ 1 → a < w → b < w → a ≡ b

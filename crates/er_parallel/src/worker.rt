@@ -1,14 +1,13 @@
 //! A worker of a crew: it answers the steps of its shards, and follows what the other steps make of their threads' holdings.
-ghost use Rattle.std.specs.Prelude.{◌≡◌, ◌<◌, ◌%◌, ◌+◌, ◌≤◌, ◌++◌, [], ℕ, false, List, drop, length, slice_get, take, IsTrue, IsFalse, IsSome, IfOk, OnOk, OnErr, IsErrOf, IfErr, MatchResult, Ok, Err, Some};
+ghost use Rattle.std.specs.Prelude.{◌≡◌, ◌<◌, ◌%◌, ◌+◌, ◌≤◌, ◌++◌, [], ℕ, false, List, drop, length, slice_get, take, IsTrue, IsFalse, IfOk, OnOk, IsErrOf, IfErr, Ok, Err, Some};
 ghost use Rattle.er_event.specs.declared.steps.Step.{Step as Steps};
 ghost use Rattle.er_parallel.specs.Crews.{HasFollowed};
 ghost use Rattle.er_parallel.specs.Faults.{AsksForSet};
 ghost use Rattle.er_parallel.specs.Inner.Faults.{MayBeFull};
-ghost use Rattle.er_parallel.specs.Inner.Taking.{AreIdle, HasCome, HasDone, HasTaken, IsBusy, IsIdle, IsKept, IsOwn};
+ghost use Rattle.er_parallel.specs.Inner.Taking.{AreIdle, HasCome, HasDone, HasTaken, IsBusy, IsIdle, IsKept, IsOwn, IsPassed};
 ghost use Rattle.er_parallel.specs.Tasks.{IsShare, shard_for, worker_for};
 ghost use Rattle.er_parallel.specs.Usual.{usual};
-ghost use Rattle.er_event.specs.declared.steps.WordState.{WordState as WordStates};
-ghost use Rattle.er_replay.specs.Standing.{found_no_room, holding, in_full, Stands};
+ghost use Rattle.er_replay.specs.Standing.{found_no_room, holding, in_full, states, Stands};
 ghost use Rattle.er_replay.specs.Wants.{is_access};
 
 use crate::ReplayConfig;
@@ -259,32 +258,33 @@ fn answer_own(
     ensures full { (past : List Steps) → HasCome at past steps.now share found.old.items machine.old → IsErrOf result NoRoom.TableFull → AsksForSet (past ++ steps.now) }
 {
     let (brief, changed) = machine.take(&(), *step);
-    if is_passed_over(step, brief, share.noting, changed) {
+    if is_passed_over(brief, share.noting, changed) {
         return Ok(());
     }
-    let answer = machine.in_full(step, brief);
-    keep(alloc, machine, step.thread, at, answer, found)
+    keep(alloc, machine, step, at, brief, found)
 }
 
-// Keeps the answer to the step at this position, with the thread's locks if it is a race, unless the step found no room.
+// Keeps the answer to the step at this position, which is this one in brief, with the thread's locks if it is a race, unless the step found no room. It is
+// a call, so that the loop over the steps doesn't clear the room for a whole answer at each of them.
 #[inline(never)]
 fn keep(
     alloc: Global,
     machine: &OwnMachine,
-    thread: ThreadId,
+    step: &Step,
     at: usize,
-    answer: Result<Reply, Refusal>,
+    brief: Result<Brief, Refusal>,
     found: &mut VecDeque<Unusual>,
 ) -> Result<(), NoRoom>
-    ensures room { OnOk result (IsFalse (found_no_room answer)) }
-    ensures kept { OnOk result (IsKept at answer (holding machine.now thread).held found.old.items found.new.items) }
-    ensures full { IsErrOf result NoRoom.TableFull → answer ≡ Err Refusal.TableFull }
+    ensures room { OnOk result (IsFalse (found_no_room brief)) }
+    ensures kept { OnOk result (IsKept at (in_full (states machine.now) step.now.event brief) (holding machine.now step.now.thread).held found.old.items found.new.items) }
+    ensures full { IsErrOf result NoRoom.TableFull → brief ≡ Err Refusal.TableFull }
 {
+    let answer = machine.in_full(step, brief);
     if let Some(cause) = no_room(&answer) {
         return Err(cause);
     }
     let held = match answer {
-        Ok(Reply::Race) => machine.held(thread).held().copy()?,
+        Ok(Reply::Race) => machine.held(step.thread).held().copy()?,
         _ => Lockset::new(alloc),
     };
     found.push_back(Unusual { at, answer, held })?;
@@ -304,16 +304,14 @@ pub fn usual_answer(step: &Step) -> Result<Reply, Refusal>
 }
 
 // Whether a step that is answered so isn't kept: it has its usual answer, and with `noting` it is no access that may have changed its word's state.
-#[inline]
-fn is_passed_over(step: &Step, answer: Result<Brief, Refusal>, noting: bool, changed: bool) -> bool
-    ensures usual { IsTrue result → (states : ℕ → WordStates) → in_full states step.now.event answer ≡ usual step.now.event }
-    ensures room { IsTrue result → IsFalse (found_no_room answer) }
-    ensures noted { IsTrue result → IsTrue noting → IsTrue (is_access step.now.event) → changed ≡ false }
+#[inline(always)]
+fn is_passed_over(answer: Result<Brief, Refusal>, noting: bool, changed: bool) -> bool
+    ensures { IsTrue result → IsPassed answer noting changed }
 {
-    if is_access(step) {
-        !(noting && changed) && matches!(answer, Ok(Brief::Quiet | Brief::First))
-    } else {
-        matches!(answer, Ok(Brief::Done))
+    match answer {
+        Ok(Brief::Quiet | Brief::First) => !(noting && changed),
+        Ok(Brief::Done) => true,
+        _ => false,
     }
 }
 

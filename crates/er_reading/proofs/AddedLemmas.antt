@@ -1,5 +1,5 @@
 -- Pieces that are added to a trace: first their names, then the numbers of their steps, then the steps.
-use Rattle.std.proofs.Common.{◌≡◌, ℕ, zero, suc, ◌+◌, ◌<◌, ◌≤◌, ◌^◌, true, List, [], ◌∷◌, ◌++◌, append-nil, append_assoc, length, length-append, map, take, drop, Option, refl, sym, ap, ◌∙◌, subst, arith}
+use Rattle.std.proofs.Common.{◌≡◌, ℕ, zero, suc, ◌+◌, ◌<◌, ◌≤◌, ◌^◌, true, List, [], ◌∷◌, ◌++◌, append_assoc, length, length-append, map, take, drop, Option, refl, sym, ap, ◌∙◌, subst, arith}
 use Rattle.std.specs.List.{All}
 use Rattle.std.proofs.Math.Seq.{drop-append_seam}
 use Rattle.std.proofs.lemmas.List.{length-take-le, take-append-drop, take-append-le, take_all}
@@ -8,11 +8,11 @@ use Rattle.er_event.specs.declared.steps.Step.{Step}
 use Rattle.er_trace.proofs.AppendedSteps.{new_named, still_named, new_sites_named, sites_still_named}
 use Rattle.er_trace.specs.Appended.{AreNumbers, renumbered_site, renumbered_step, with_table}
 use Rattle.er_trace.specs.Names.{NameTable}
-use Rattle.er_trace.specs.Trace.{Recording, IsNamed, HasSiteName, no_steps, with_steps}
+use Rattle.er_trace.specs.Trace.{Recording, IsNamed, HasSiteName, no_steps}
 use Rattle.er_text.proofs.AppendedLemmas.{appended_grows}
 use Rattle.er_text.proofs.PieceGives.{past_piece, piece_few, piece_small}
 use Rattle.er_text.specs.Batches.{HasRead}
-use Rattle.er_text.specs.Named.{Grows, KeepsNames}
+use Rattle.er_text.specs.Named.{KeepsNames}
 use Rattle.er_text.specs.declared.verbs.Version.{Version}
 use Rattle.er_lines.specs.Lines.{AreWhole}
 use Rattle.er_text.specs.Pieces.{IsPieceOf, ReadPiece, CanBeNumbered, IsEntered, IsNumbered, IsReady, MayBeAdded, StandsInFront}

@@ -1,5 +1,5 @@
 -- What has names under some names has them under more.
-use Rattle.std.proofs.Common.{◌≡◌, ◌<◌, ◌≤◌, ℕ, zero, suc, List, [], ◌∷◌, length, get_or, Result, Ok, Err, OnOk, sym, ap, subst, arith}
+use Rattle.std.proofs.Common.{◌<◌, ◌≤◌, ℕ, zero, suc, List, [], ◌∷◌, length, get_or, Result, Ok, Err, OnOk, arith}
 use Rattle.std.specs.List.{All}
 use Rattle.std.proofs.lemmas.Option.{slice_get_within, slice_get-get_or}
 use Rattle.er_event.specs.declared.steps.Event.{Event}
@@ -7,7 +7,7 @@ use Rattle.er_event.specs.declared.steps.Event.TheVariants.{Acquire, Release, Ac
 use Rattle.er_event.specs.declared.steps.Step.{Step}
 use Rattle.er_event.specs.declared.steps.Sync.{Sync as SyncEvent}
 use Rattle.er_event.specs.declared.steps.Sync.TheVariants.{Start, Join, Signal, Await}
-use Rattle.er_reading.specs.Chunks.{AreFormed, IsFormed}
+use Rattle.er_reading.specs.Chunks.{AreFormed}
 use Rattle.er_reading.specs.declared.chunks.Chunk.{Chunk}
 use Rattle.er_text.specs.Named.{Grows, KeepsNumbers, KeepsNames}
 use Rattle.er_trace.specs.Names.{NameTable}
@@ -61,14 +61,6 @@ still_formed old new kept (c ∷ cs) formed = (
   },
   still_formed old new kept cs formed.1,
 )
-
--- names that are kept twice are kept
-pub keeps_on : (a b c : NameTable) → KeepsNames a b → KeepsNames b c → KeepsNames a c
-keeps_on a b c first second = record {
-  threads = λ n x e. second.threads n x (first.threads n x e);
-  locks = λ n x e. second.locks n x (first.locks n x e);
-  sites = λ n x e. second.sites n x (first.sites n x e);
-}
 
 pub keeps_same : (names : NameTable) → KeepsNames names names
 keeps_same names = record { threads = λ n x e. e; locks = λ n x e. e; sites = λ n x e. e }

@@ -1,13 +1,9 @@
 -- Pieces behind others.
 use Rattle.std.proofs.Common.{◌≡◌, ℕ, ◌+◌, List, [], ◌∷◌, length, take, drop, sym, ap, ◌∙◌, subst, arith}
 use Rattle.std.proofs.lemmas.List.{take-append-le, drop-append-le, length-append, length-drop}
-use Rattle.std.specs.Prelude.{Result, Ok, Err, OnOk}
 use Rattle.er_trace.proofs.RenumberingLemmas.{still_has_all}
 use Rattle.er_trace.specs.Appended.{with_table}
 use Rattle.er_trace.specs.Names.{NameTable}
-use Rattle.er_trace.specs.Trace.{Recording}
-use Rattle.er_text.specs.Named.{Grows}
-use Rattle.er_text.proofs.GrowthLemmas.{grows_on}
 use Rattle.er_text.specs.declared.verbs.Version.{Version}
 use Rattle.er_lines.specs.Lines.{AreWhole}
 use Rattle.er_text.specs.Pieces.{ReadPiece, IsPieceOf, StandsInFront}

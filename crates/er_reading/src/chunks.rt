@@ -1,5 +1,5 @@
 //! Steps that were read together.
-ghost use Rattle.std.specs.Prelude.{◌≡◌, List};
+ghost use Rattle.std.specs.Prelude.{◌≡◌};
 ghost use Rattle.er_reading.specs.Chunks.{AreEmpty, IsEmpty, IsFormed};
 ghost use Rattle.er_trace.specs.Trace.{with_steps, without_steps};
 

@@ -1,5 +1,5 @@
 //! The machine: every thread's holdings and every word's state.
-ghost use Rattle.std.specs.Prelude.{◌≡◌, ◌⊎◌, ◌<◌, ◌≤◌, ◌++◌, ◌∷◌, [], ◌&&◌, ℕ, Bool, cond, true, false, List, IsTrue, IsFalse, IsOk, IsErr, IfOk, IfErr, IsErrOf, MatchResult, OnOk, OnErr, Ok, Err, None, Some};
+ghost use Rattle.std.specs.Prelude.{◌≡◌, ◌⊎◌, ◌<◌, ◌≤◌, ◌++◌, ◌∷◌, [], ◌&&◌, ℕ, true, false, List, IsTrue, IsFalse, IsOk, IsErr, IfOk, IfErr, IsErrOf, MatchResult, OnOk, OnErr, Ok, Err, None, Some};
 ghost use Rattle.er_event.specs.declared.steps.Event.{Event as Events};
 ghost use Rattle.er_event.specs.declared.steps.Step.{Step as Steps};
 ghost use Rattle.er_event.specs.declared.steps.WordState.{WordState as WordStates};
@@ -11,7 +11,6 @@ ghost use Rattle.er_model.specs.Table.{moved};
 ghost use Rattle.er_journal.specs.AnswerList.{is_state};
 ghost use Rattle.er_model.specs.Events.{is_show};
 ghost use Rattle.er_replay.specs.Wants.{is_access, asks_by, may_want, wants_memory};
-ghost use Rattle.er_shadow.specs.Replies.{reply_if};
 ghost use Rattle.er_table.specs.Sets.{most_sets};
 
 use crate::threads::Threads;

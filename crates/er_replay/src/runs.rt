@@ -1,5 +1,5 @@
 //! The run of a list of steps.
-ghost use Rattle.std.specs.Prelude.{◌≡◌, ◌<◌, ◌++◌, ◌∷◌, [], List, length, slice_set, MatchOption, IsTrue, IsFalse, IfErr, IfSome, OnOk, OnErr, Err};
+ghost use Rattle.std.specs.Prelude.{◌≡◌, ◌<◌, ◌++◌, ◌∷◌, [], List, length, slice_set, MatchOption, IsFalse, IfErr, IfSome, OnOk, OnErr, Err};
 ghost use Rattle.er_event.specs.Refusal.{refusal_of};
 ghost use Rattle.er_event.specs.declared.steps.Step.{Step as Steps};
 ghost use Rattle.er_model.specs.Answers.{answer_next};

@@ -1,5 +1,5 @@
 -- How far a pass has come that forgets its steps batch by batch.
-use Rattle.std.specs.Prelude.{◌≡◌, ◌<◌, ◌≤◌, ◌++◌, ℕ, All, List, [], length, Option, Some, IfSome}
+use Rattle.std.specs.Prelude.{◌≡◌, ◌<◌, ◌≤◌, ◌++◌, ℕ, All, List, length, Option, Some, IfSome}
 use Rattle.er_batch.specs.Analysts.{HasCounted}
 use Rattle.er_batch.specs.Runs.{recorded}
 use Rattle.er_batch.specs.Touching.{touch_on}

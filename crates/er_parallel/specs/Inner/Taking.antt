@@ -1,5 +1,5 @@
 -- How far a worker has come in a batch.
-use Rattle.std.specs.Prelude.{IsTrue, ◌≡◌, ◌⊎◌, ◌<◌, ◌≤◌, ◌+◌, ◌%◌, ◌++◌, ◌∷◌, [], ℕ, List, length, slice_get, Some, Result, Ok, MatchOption}
+use Rattle.std.specs.Prelude.{IsTrue, Bool, false, ◌≡◌, ◌⊎◌, ◌<◌, ◌≤◌, ◌+◌, ◌%◌, ◌++◌, ◌∷◌, [], ℕ, List, length, slice_get, Some, Result, Ok, MatchOption}
 use Rattle.er_event.specs.declared.steps.Event.{Event}
 use Rattle.er_event.specs.declared.steps.Step.{Step}
 use Rattle.er_event.specs.declared.refusals.Refusal.{Refusal}
@@ -16,6 +16,8 @@ use Rattle.er_parallel.specs.declared.worker.Share.{Share}
 use Rattle.er_parallel.specs.declared.worker.Unusual.{Unusual}
 use Rattle.er_parallel.specs.declared.worker.Worker.{Worker}
 use Rattle.er_replay.specs.Standing.{Replayed, holding, states}
+use Rattle.er_replay.specs.declared.machine.Brief.{Brief}
+use Rattle.er_replay.specs.declared.machine.Brief.TheVariants as brief
 use Rattle.er_replay.specs.Wants.{is_access}
 
 -- the worker that has the share answers the event
@@ -49,6 +51,10 @@ pub record IsFoundSoFar (n : ℕ) (past : List Step) (batch : List Step) (share 
       (answer (past ++ batch) (length past + k) ≡ usual step.event) ⊎ IsAmong items k
   pub noted : (k : ℕ) (step : Step) → k < n → slice_get batch k ≡ Some step → IsOwn share step.event → IsTrue share.noting →
       LeavesWord (past ++ batch) (length past + k) step.event ⊎ IsAmong items k
+
+-- the brief answer is the usual one, and if changes are noted it isn't that of an access that may have changed a word
+abbrev pub IsPassed : Result Brief Refusal → Bool → Bool → Type 0
+IsPassed answer noting changed = (answer ≡ Ok brief.Done) ⊎ (((answer ≡ Ok brief.Quiet) ⊎ (answer ≡ Ok brief.First)) × (IsTrue noting → changed ≡ false))
 
 -- the answer is kept behind the other items, with these locks if it is a race
 pub record IsKept (at : ℕ) (given : Result Reply Refusal) (held : List ℕ) (old new : List Unusual) : Type 0 where

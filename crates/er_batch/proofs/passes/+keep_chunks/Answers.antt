@@ -1,9 +1,9 @@
 -- What is kept of the first chunk, and then of the others.
-use Rattle.std.proofs.Common.{◌≡◌, ◌++◌, ◌∷◌, ◌∙◌, ℕ, List, Some, append_assoc, length, filter, sym, ap, subst}
-use Rattle.er_batch.proofs.PassLemmas.{chunks-long, chunks-sited, counted-more, kept-chunk, kept-first, kept-none-lines, kept-none-sites}
+use Rattle.std.proofs.Common.{◌≡◌, ◌++◌, ◌∷◌, List, Some, append_assoc, sym, subst}
+use Rattle.er_batch.proofs.PassLemmas.{counted-more, kept-chunk, kept-first, kept-none-lines, kept-none-sites}
 use Rattle.er_batch.specs.Analysts.{HasCounted}
 use Rattle.er_event.specs.declared.steps.Step.{Step}
-use Rattle.er_parts.specs.Parts.{kept_beside, takes}
+use Rattle.er_parts.specs.Parts.{kept_beside}
 use Rattle.er_reading.specs.Chunks.{AreFormed, chunk_lines, chunk_sites, chunk_steps}
 use Rattle.er_reading.specs.declared.chunks.Chunk.{Chunk}
 use Rattle.er_batch.proofs.passes.+keep_chunks.Goals as goal

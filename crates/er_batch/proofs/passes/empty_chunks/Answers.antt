@@ -1,8 +1,7 @@
 -- One more of them.
-use Rattle.std.proofs.Common.{rules, ◌≡◌, ◌++◌, ◌∷◌, [], List, sym, subst}
+use Rattle.std.proofs.Common.{rules, ◌++◌, ◌∷◌, []}
 use Rattle.er_batch.proofs.PassLemmas.{last-empty}
 use Rattle.er_reading.specs.Chunks.{AreEmpty}
-use Rattle.er_reading.specs.declared.chunks.Chunk.{Chunk}
 use Rattle.er_batch.proofs.passes.empty_chunks.Goals as goal
 
 pub loop-preserved : goal.loop-preserved

@@ -1,5 +1,5 @@
 -- The first piece, whose steps go into a chunk if there is one, and then the others.
-use Rattle.std.proofs.Common.{◌≡◌, ◌+◌, ◌++◌, ◌∷◌, ◌∙◌, ℕ, List, length, OnOk, ap, subst, rules, arith}
+use Rattle.std.proofs.Common.{◌≡◌, ◌+◌, ◌++◌, ◌∷◌, ◌∙◌, ℕ, List, length, OnOk, ap, subst, rules}
 use Rattle.er_event.specs.declared.steps.Step.{Step}
 use Rattle.er_text.specs.Batches.{HasRead}
 use Rattle.er_text.specs.Pieces.{ReadPiece}

@@ -1,5 +1,5 @@
 -- What stands for the steps so far goes on with the last batch.
-use Rattle.std.proofs.Common.{ℕ, List, [], IfSome}
+use Rattle.std.proofs.Common.{List, [], IfSome}
 use Rattle.er_batch.proofs.PassLemmas.{chunks-long, chunks-sited, on-kept}
 use Rattle.er_batch.specs.Inner.Passes.{TellsBetween, batch_of}
 use Rattle.er_batch.specs.Runs.{recorded}

@@ -1,5 +1,5 @@
 -- What the analyst stands for before any step, the pass has come to.
-use Rattle.std.proofs.Common.{rules, []}
+use Rattle.std.proofs.Common.{[]}
 use Rattle.er_batch.proofs.PassLemmas.{begun, stands-first}
 use Rattle.er_batch.specs.Inner.Passes.{StandsFor}
 use Rattle.er_reading.proofs.ChunkLemmas.{none_formed}

@@ -28,5 +28,5 @@ loop-watcher-preserved g c = record {
   tells = λ all tells. c.in_ok-turn.ensures.touches all (c.loop-watcher.invariant.tells all tells);
   come = λ asked told tells come.
       c.in_ok-turn.ensures.come asked told (tells-on asked.touches _ _ _ _ _ _ c.loop-watcher.invariant.tells tells) (c.loop-watcher.invariant.come asked told tells come) c.if-branch.true;
-  formed = c.in_ok-turn.ensures.formed c.if-branch.true;
+  formed = c.in_ok-turn.ensures.formed;
 }

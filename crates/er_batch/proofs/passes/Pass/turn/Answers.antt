@@ -8,7 +8,7 @@ use Rattle.er_device.specs.Device.{inner_of}
 use Rattle.er_event.specs.declared.steps.Step.{Step}
 use Rattle.er_lines.specs.Touches.{HasHanded, StaysKnown}
 use Rattle.er_parallel.proofs.CrewLemmas.{whole-back}
-use Rattle.er_reading.proofs.NamedLemmas.{keeps_same, still_formed}
+use Rattle.er_reading.proofs.NamedLemmas.{still_formed}
 use Rattle.er_reading.specs.Chunks.{AreFormed, chunk_lines, chunk_sites, chunk_steps}
 use Rattle.er_reading.specs.declared.chunks.Chunk.{Chunk}
 use Rattle.er_text.specs.Batches.{GivesBatch, HasRead}

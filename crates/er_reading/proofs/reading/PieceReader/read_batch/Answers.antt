@@ -1,5 +1,5 @@
 -- Without pieces no chunk has steps, and names that are added behind the pieces leave those of their steps.
-use Rattle.std.proofs.Common.{◌++◌, ℕ, List, subst, sym}
+use Rattle.std.proofs.Common.{ℕ, List, subst, sym}
 use Rattle.er_device.specs.Device.{inner_of}
 use Rattle.er_event.specs.declared.steps.Step.{Step}
 use Rattle.er_reading.proofs.ChunkLemmas.{if_none, with_none}
